@@ -1,0 +1,11 @@
+use Rattle.std.proofs.Common.{◌≡◌, length}
+use Rattle.timetable.specs.Steps.{Lowers}
+use Rattle.rounds.proofs.Walking.{OfferedBelow}
+use Rattle.rounds.proofs.steps.walk.Given as goal
+
+abbrev pub invariant-loop-stop : goal.invariant-loop-stop
+invariant-loop-stop l =
+    record {
+      same : length l.ready ≡ length l.ride;
+      lowered : Lowers (OfferedBelow l.feet l.ride l.stop) l.initial.ready l.ready;
+    }

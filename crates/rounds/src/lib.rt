@@ -1,0 +1,17 @@
+//! Rounds: the least durations of journeys through a network, for one departure.
+//! Each round adds a ride to the journeys so far, on any trip, and then a walk.
+//! (RAPTOR: Delling, Pajor, Werneck, Round-Based Public Transit Routing, ALENEX 2012.)
+//!
+//! - `minutes`: [`one_minute`], which alternates rides and walks.
+//! - `steps`: what trips, and walks, do to the labels of stops.
+//!
+//! What a journey and a least duration are stands in `timetable`'s `specs/` (`Journeys`, `Least`), and what trips and
+//! footpaths offer to a stop in a round (`Steps`).
+#![tactic(auto)]
+
+mod minutes;
+mod steps;
+#[cfg(test)]
+mod tests;
+
+pub use minutes::one_minute;

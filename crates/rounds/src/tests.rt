@@ -1,0 +1,254 @@
+//! Worked examples of least durations.
+
+use crate::one_minute;
+use std::alloc::{AllocError, Global};
+use std::test::Fail;
+use timetable::{END_OF_AXIS, Event, Events, Feet, NEVER, Network, StopNo, Trip};
+
+/// An event where everybody may board and alight.
+fn at(stop: u32, arrive: u32, depart: u32) -> Event {
+    Event {
+        stop: StopNo(stop),
+        arrive,
+        depart,
+        board: true,
+        alight: true,
+    }
+}
+
+/// A footpath: from a stop, to a stop, in seconds.
+type Footpath = (usize, u32, u32);
+
+/// The network of these trips and footpaths, if it is one.
+fn network_of(
+    alloc: Global,
+    stops: u32,
+    footpaths: &[Footpath],
+    trips: &[&[Event]],
+) -> Result<Option<Network>, AllocError> {
+    let mut lists = Vec::with_capacity(alloc, stops as usize)?;
+    for _ in 0..stops {
+        lists.push(Vec::new(alloc))?;
+    }
+    for (from, to, seconds) in footpaths {
+        if let Some(list) = lists.get_mut(*from) {
+            list.push((StopNo(*to), *seconds))?;
+        }
+    }
+    let mut all = Vec::with_capacity(alloc, trips.len())?;
+    for events in trips {
+        all.push(trip_of(alloc, events)?)?;
+    }
+    let Some(feet) = Feet::new(alloc, stops, lists).ok() else {
+        return Ok(None);
+    };
+    Ok(Network::new(alloc, stops, all, &feet).ok())
+}
+
+fn trip_of(alloc: Global, events: &[Event]) -> Result<Trip, AllocError> {
+    let mut list = Vec::with_capacity(alloc, events.len())?;
+    for event in events {
+        list.push(*event)?;
+    }
+    Ok(Trip {
+        route: 0,
+        name: 0,
+        events: Events::new(list),
+    })
+}
+
+/// The least durations, where origin and departure are in range.
+fn durations(
+    alloc: Global,
+    network: &Option<Network>,
+    origin: u32,
+    depart: u32,
+    rides: u32,
+) -> Result<Option<Vec<u32>>, AllocError> {
+    if let Some(network) = network
+        && origin < network.stops()
+        && depart < END_OF_AXIS
+    {
+        return Ok(Some(one_minute(alloc, network, StopNo(origin), depart, rides)?));
+    }
+    Ok(None)
+}
+
+/// Whether these are the durations.
+fn are(found: &Option<Vec<u32>>, expected: &[u32]) -> bool {
+    match found {
+        Some(found) => found.as_slice() == expected,
+        None => false,
+    }
+}
+
+/// Two trips: from stop 0 at 08:00:00 to 1 at 08:10:00, and from 1 at `leave` to 2 at 08:30:00.
+fn two_trips(alloc: Global, leave: u32, board: bool) -> Result<Option<Network>, AllocError> {
+    let first = [at(0, 28_800, 28_800), at(1, 29_400, 29_400)];
+    let on = Event {
+        board,
+        ..at(1, leave, leave)
+    };
+    network_of(alloc, 3, &[], &[&first, &[on, at(2, 30_600, 30_600)]])
+}
+
+#[test]
+fn two_trips_with_a_change(rt: HostRuntime) -> Result<(), Fail> {
+    let alloc = rt.alloc();
+    for (leave, board, origin, rides, expected) in [
+        (29_700, true, 0, 2, [0, 600, 1_800]),
+        (29_700, true, 0, 8, [0, 600, 1_800]),
+        (29_700, true, 0, 1, [0, 600, NEVER]),
+        (29_700, true, 1, 1, [NEVER, 0, 1_800]),
+        (29_700, false, 0, 2, [0, 600, NEVER]),
+        (29_400, true, 0, 2, [0, 600, 1_800]),
+        (29_399, true, 0, 2, [0, 600, NEVER]),
+    ] {
+        let network = two_trips(alloc, leave, board)?;
+        let found = durations(alloc, &network, origin, 28_800, rides)?;
+        assert!(rt;
+            are(&found, expected.as_slice()),
+            "leave {leave}, origin {origin}, rides {rides}"
+        );
+    }
+    Ok(())
+}
+
+#[test]
+fn no_two_walks_follow_one_another(rt: HostRuntime) -> Result<(), Fail> {
+    let alloc = rt.alloc();
+    let closed = [(0, 1, 60), (0, 2, 120), (1, 2, 60)];
+    let bare = [(0, 1, 60), (1, 2, 60)];
+    for (footpaths, expected) in [
+        (closed.as_slice(), [0, 60, 120]),
+        (bare.as_slice(), [0, 60, NEVER]),
+    ] {
+        let network = network_of(alloc, 3, footpaths, &[])?;
+        let found = durations(alloc, &network, 0, 32_400, 1)?;
+        assert!(rt; are(&found, expected.as_slice()));
+    }
+    Ok(())
+}
+
+#[test]
+fn walks_come_first_and_last(rt: HostRuntime) -> Result<(), Fail> {
+    let alloc = rt.alloc();
+    let first = [at(0, 28_800, 28_800), at(1, 29_400, 29_400)];
+    let second = [at(1, 29_700, 29_700), at(2, 30_600, 30_600)];
+    let network = network_of(alloc, 5, &[(2, 4, 90), (3, 0, 120)], &[&first, &second])?;
+    for (depart, expected) in [
+        (28_680, [120, 720, 1_920, 0, 2_010]),
+        (28_740, [120, NEVER, NEVER, 0, NEVER]),
+    ] {
+        let found = durations(alloc, &network, 3, depart, 2)?;
+        assert!(rt; are(&found, expected.as_slice()), "at {depart}");
+    }
+    Ok(())
+}
+
+#[test]
+fn odd_trips(rt: HostRuntime) -> Result<(), Fail> {
+    let alloc = rt.alloc();
+
+    // a trip that visits a stop twice; one whose hops, and a footpath, take no time
+    let twice = [
+        at(0, 100, 100),
+        at(1, 200, 200),
+        at(0, 300, 300),
+        at(2, 400, 400),
+    ];
+    let no_time = [at(1, 900, 900), at(2, 900, 900), at(3, 900, 900)];
+
+    // a trip that waits at stop 5, for who walks there meanwhile
+    let waits = [at(5, 6_000, 6_100), at(6, 6_200, 6_200)];
+
+    let trips = [twice.as_slice(), no_time.as_slice(), waits.as_slice()];
+    let network = network_of(alloc, 8, &[(3, 7, 0), (4, 5, 50)], &trips)?;
+    for (origin, depart, rides, expected) in [
+        (0, 100, 1, [0, 100, 300, NEVER, NEVER, NEVER, NEVER, NEVER]),
+        (
+            0,
+            101,
+            1,
+            [0, NEVER, 299, NEVER, NEVER, NEVER, NEVER, NEVER],
+        ),
+        (1, 150, 1, [150, 0, 250, 750, NEVER, NEVER, NEVER, 750]),
+        (1, 900, 1, [NEVER, 0, 0, 0, NEVER, NEVER, NEVER, 0]),
+        (4, 6_040, 1, [NEVER, NEVER, NEVER, NEVER, 0, 50, 160, NEVER]),
+    ] {
+        let found = durations(alloc, &network, origin, depart, rides)?;
+        assert!(rt;
+            are(&found, expected.as_slice()),
+            "from {origin} at {depart}"
+        );
+    }
+    Ok(())
+}
+
+#[test]
+fn the_faster_of_two_trips(rt: HostRuntime) -> Result<(), Fail> {
+    let alloc = rt.alloc();
+    let slow = [at(0, 1_000, 1_000), at(1, 5_000, 5_000)];
+    let fast = [at(0, 2_000, 2_000), at(1, 3_000, 3_000)];
+    let last = [at(1, 3_000, 3_000), at(2, 3_100, 3_100)];
+    let network = network_of(alloc, 3, &[], &[&slow, &last, &fast])?;
+    for (depart, expected) in [
+        (1_000, [0, 2_000, 2_100]),
+        (2_000, [0, 1_000, 1_100]),
+        (2_001, [0, NEVER, NEVER]),
+    ] {
+        let found = durations(alloc, &network, 0, depart, 2)?;
+        assert!(rt; are(&found, expected.as_slice()), "at {depart}");
+    }
+    Ok(())
+}
+
+/// 400 trips, one a minute from 05:00, along 20 stops that lie two minutes apart.
+fn a_line(alloc: Global) -> Result<Option<Network>, AllocError> {
+    let mut trips = Vec::with_capacity(alloc, 400)?;
+    for trip in 0..400u32 {
+        let mut events = Vec::with_capacity(alloc, 20)?;
+        for stop in 0..20u32 {
+            let time = 18_000 + 60 * trip + 120 * stop;
+            events.push(at(stop, time, time))?;
+        }
+        trips.push(Trip {
+            route: 0,
+            name: trip,
+            events: Events::new(events),
+        })?;
+    }
+    let mut lists = Vec::with_capacity(alloc, 20)?;
+    for _ in 0..20 {
+        lists.push(Vec::new(alloc))?;
+    }
+    let Some(feet) = Feet::new(alloc, 20, lists).ok() else {
+        return Ok(None);
+    };
+    Ok(Network::new(alloc, 20, trips, &feet).ok())
+}
+
+#[test]
+fn a_trip_every_minute(rt: HostRuntime) -> Result<(), Fail> {
+    let alloc = rt.alloc();
+    let network = a_line(alloc)?;
+    let mut rides = [0; 20];
+    let mut waits = [NEVER; 20];
+    for stop in 0..20u32 {
+        rides[stop as usize] = 120 * stop;
+    }
+    waits[0] = 0;
+
+    // 06:00, 06:13, 06:59, the last trip, and a second later
+    for (depart, expected) in [
+        (21_600, rides),
+        (22_380, rides),
+        (25_140, rides),
+        (41_940, rides),
+        (41_941, waits),
+    ] {
+        let found = durations(alloc, &network, 0, depart, 1)?;
+        assert!(rt; are(&found, expected.as_slice()), "at {depart}");
+    }
+    Ok(())
+}

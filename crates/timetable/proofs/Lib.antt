@@ -1,0 +1,5 @@
+pub mod Known
+pub mod Lowering
+pub mod Rows
+pub mod Searching
+pub mod Unique

@@ -1,0 +1,31 @@
+//! Timetables: stops, trips with their events, footpaths between stops, and networks of all three.
+//! A network that was accepted has its stops in range, times that never fall along a trip, and a size within the limits.
+//!
+//! - `trips`: [`StopNo`], [`Event`], [`Events`] and [`Trip`].
+//! - `footpaths`: [`Feet`], at most one footpath from each stop to each other.
+//! - `networks`: [`Network`], what journeys are made in.
+//! - `faults`: [`NetFault`], why footpaths or a network were refused.
+//! - `limits`: how large all of these may be.
+//! - `least`: [`NEVER`], the label of a stop that isn't reached, and the law that least durations are unique.
+//!
+//! `specs/` has the words of every layer above: what a ride, a journey and a least duration are
+//! (`Journeys`, `Least`), and what one trip and the footpaths offer in a round (`Steps`).
+#![tactic(auto)]
+
+mod faults;
+mod footpaths;
+mod least;
+mod limits;
+mod networks;
+#[cfg(test)]
+mod tests;
+mod trips;
+
+pub use faults::NetFault;
+pub use footpaths::Feet;
+pub use least::{NEVER, least_durations_are_unique};
+pub use limits::{
+    END_OF_AXIS, MOST_EVENTS, MOST_FOOT_SECONDS, MOST_FOOTPATHS, MOST_STOPS, MOST_TRIPS,
+};
+pub use networks::Network;
+pub use trips::{Event, Events, StopNo, Trip};

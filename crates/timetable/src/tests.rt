@@ -1,0 +1,214 @@
+//! Worked examples of footpaths and networks, their refusals and their limits.
+
+use crate::{Event, Events, Feet, NetFault, Network, StopNo, Trip};
+use std::alloc::{AllocError, Global};
+use std::test::Fail;
+
+/// A footpath: from a stop, to a stop, in seconds.
+type Footpath = (usize, u32, u32);
+
+fn lists_of(
+    alloc: Global,
+    lists: usize,
+    footpaths: &[Footpath],
+) -> Result<Vec<Vec<(StopNo, u32)>>, AllocError> {
+    let mut all = Vec::with_capacity(alloc, lists)?;
+    for _ in 0..lists {
+        all.push(Vec::new(alloc))?;
+    }
+    for (from, to, seconds) in footpaths {
+        if let Some(list) = all.get_mut(*from) {
+            list.push((StopNo(*to), *seconds))?;
+        }
+    }
+    Ok(all)
+}
+
+/// Why footpaths are refused, if they are, with how many lists were handed back.
+fn feet_fault(
+    alloc: Global,
+    stops: u32,
+    lists: usize,
+    footpaths: &[Footpath],
+) -> Result<Option<(NetFault, usize)>, AllocError> {
+    match Feet::new(alloc, stops, lists_of(alloc, lists, footpaths)?) {
+        Ok(_) => Ok(None),
+        Err((fault, back)) => Ok(Some((fault, back.len()))),
+    }
+}
+
+/// An event where everybody may board and alight.
+fn at(stop: u32, arrive: u32, depart: u32) -> Event {
+    Event {
+        stop: StopNo(stop),
+        arrive,
+        depart,
+        board: true,
+        alight: true,
+    }
+}
+
+/// Two trips, of which the first has two events and the second one.
+fn trips_of(alloc: Global, [first, second, third]: [Event; 3]) -> Result<Vec<Trip>, AllocError> {
+    let long = Trip {
+        route: 0,
+        name: 0,
+        events: Events::new(vec![in alloc; first, second]?),
+    };
+    let short = Trip {
+        route: 1,
+        name: 1,
+        events: Events::new(vec![in alloc; third]?),
+    };
+    Ok(vec![in alloc; long, short]?)
+}
+
+/// Why a network is refused, if it is, with how many trips were handed back.
+fn net_fault(
+    alloc: Global,
+    stops: u32,
+    events: [Event; 3],
+    feet: &Feet,
+) -> Result<Option<(NetFault, usize)>, AllocError> {
+    match Network::new(alloc, stops, trips_of(alloc, events)?, feet) {
+        Ok(_) => Ok(None),
+        Err((fault, back)) => Ok(Some((fault, back.len()))),
+    }
+}
+
+#[test]
+fn footpaths_lead_one_way(rt: HostRuntime) -> Result<(), Fail> {
+    let alloc = rt.alloc();
+    let footpaths = [(0, 1, 60), (3, 0, 10), (3, 2, 0), (3, 4, 30), (3, 6, 7_200)];
+    let Some(feet) = Feet::new(alloc, 8, lists_of(alloc, 8, &footpaths)?).ok() else {
+        assert!(rt; false);
+        return Ok(());
+    };
+    for (from, to, seconds) in [
+        (0, 1, Some(60)),
+        (1, 0, None),
+        (3, 0, Some(10)),
+        (3, 1, None),
+        (3, 2, Some(0)),
+        (3, 3, None),
+        (3, 4, Some(30)),
+        (3, 5, None),
+        (3, 6, Some(7_200)),
+        (3, 7, None),
+    ] {
+        if from < feet.stops() {
+            assert_eq!(rt;
+                feet.seconds(StopNo(from), StopNo(to)),
+                seconds,
+                "from {from} to {to}"
+            );
+        }
+    }
+    Ok(())
+}
+
+#[test]
+fn footpaths_are_refused(rt: HostRuntime) -> Result<(), Fail> {
+    let alloc = rt.alloc();
+    for (stops, lists, footpaths, fault) in [
+        (0, 0, [].as_slice(), None),
+        (2, 2, [(0, 1, 60)].as_slice(), None),
+        (2, 2, [(0, 1, 7_200)].as_slice(), None),
+        (65_535, 65_535, [].as_slice(), None),
+
+        // a target that there isn't, its own source, repeated and descending targets, a list less, a list more
+        (2, 2, [(0, 2, 60)].as_slice(), Some(NetFault::StopRange)),
+        (2, 2, [(0, 0, 60)].as_slice(), Some(NetFault::StopRange)),
+        (
+            3,
+            3,
+            [(0, 1, 60), (0, 1, 70)].as_slice(),
+            Some(NetFault::StopRange),
+        ),
+        (
+            3,
+            3,
+            [(0, 2, 60), (0, 1, 70)].as_slice(),
+            Some(NetFault::StopRange),
+        ),
+        (3, 2, [(0, 1, 60)].as_slice(), Some(NetFault::StopRange)),
+        (1, 2, [].as_slice(), Some(NetFault::StopRange)),
+
+        // past the limits; two faults at once
+        (2, 2, [(0, 1, 7_201)].as_slice(), Some(NetFault::TooLarge)),
+        (65_536, 65_536, [].as_slice(), Some(NetFault::TooLarge)),
+        (2, 2, [(0, 2, 7_201)].as_slice(), Some(NetFault::StopRange)),
+    ] {
+        let expected = fault.map(|fault| (fault, lists));
+        assert_eq!(rt; feet_fault(alloc, stops, lists, footpaths)?, expected);
+    }
+    Ok(())
+}
+
+#[test]
+fn networks_are_refused(rt: HostRuntime) -> Result<(), Fail> {
+    let alloc = rt.alloc();
+    let Some(feet) = Feet::new(alloc, 2, lists_of(alloc, 2, &[(1, 0, 90)])?).ok() else {
+        assert!(rt; false);
+        return Ok(());
+    };
+    let early = at(0, 100, 110);
+    let late = at(1, 110, 200);
+    for (stops, events, fault) in [
+        (2, [early, late, early], None),
+        (2, [early, late, at(0, 0, 16_777_215)], None),
+
+        // an event at stop 2 of two stops; footpaths for another number of stops
+        (
+            2,
+            [early, at(2, 110, 200), early],
+            Some(NetFault::StopRange),
+        ),
+        (3, [early, late, early], Some(NetFault::StopRange)),
+
+        // an arrival before the departure of the event before; a departure before its arrival
+        (
+            2,
+            [early, at(1, 100, 120), early],
+            Some(NetFault::TimesGoBack),
+        ),
+        (
+            2,
+            [early, late, at(0, 100, 99)],
+            Some(NetFault::TimesGoBack),
+        ),
+
+        // past the axis of times; two faults at once
+        (
+            2,
+            [early, late, at(0, 0, 16_777_216)],
+            Some(NetFault::TooLarge),
+        ),
+        (
+            2,
+            [early, at(1, 100, 120), at(2, 110, 200)],
+            Some(NetFault::StopRange),
+        ),
+        (
+            2,
+            [early, at(1, 100, 120), at(0, 0, 16_777_216)],
+            Some(NetFault::TimesGoBack),
+        ),
+    ] {
+        let expected = fault.map(|fault| (fault, 2));
+        assert_eq!(rt; net_fault(alloc, stops, events, &feet)?, expected);
+    }
+    Ok(())
+}
+
+#[test]
+fn an_empty_network(rt: HostRuntime) -> Result<(), Fail> {
+    let alloc = rt.alloc();
+    let Some(feet) = Feet::new(alloc, 0, Vec::new(alloc)).ok() else {
+        assert!(rt; false);
+        return Ok(());
+    };
+    let network = Network::new(alloc, 0, Vec::new(alloc), &feet).ok();
+    assert_eq!(rt; network.map(|network| network.trips().len()), Some(0));
+    Ok(())
+}
