@@ -1,0 +1,21 @@
+//! The places of a study's rows, and the matrix that they make.
+//! A place keeps the first row that is handed over for it; a row that has no place here is a stranger and comes back.
+//!
+//! - `Row` is what one scenario and one origin give; `Collector` has a place for each, and `finish` makes the `Matrix`.
+//! - `CoreStep` and `CoreAnswer` are steps of a book of work and rows handed over, as data; `run_core` makes a list of them.
+//! - `runs_are_right` is what holds of every list of such steps.
+//!
+//! What an offer and a finish do stands in `specs/Places.antt`; the laws stand in `specs/Laws.antt`.
+#![tactic(auto)]
+
+mod laws;
+mod places;
+mod row;
+mod run;
+#[cfg(test)]
+mod tests;
+
+pub use laws::runs_are_right;
+pub use places::{Collector, Matrix, Offer, Unfinished};
+pub use row::Row;
+pub use run::{CoreAnswer, CoreStep, run_core};

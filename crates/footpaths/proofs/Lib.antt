@@ -1,0 +1,9 @@
+mod Touched
+mod Steps
+mod Spreading
+mod Ways
+mod Ascending
+mod Unique
+mod Closing
+mod Places
+mod Fits

@@ -1,0 +1,66 @@
+//! Closed footpaths: the least sums over chains of direct footpaths, within a limit.
+ghost use Rattle.std.specs.Prelude.{◌≡◌, ◌≤◌, ◌↔◌, ℕ, IsTrue, IfOk, IfErr};
+ghost use Rattle.timetable.specs.declared.limits.TheConstants.{MOST_FOOT_SECONDS};
+ghost use Rattle.timetable.specs.Footpaths.{rows_of};
+ghost use Rattle.footpaths.specs.Closure.{IsClosure, IsFootFault};
+
+use crate::adjacency::Adjacency;
+use crate::direct::Direct;
+use crate::faults::FootFault;
+use crate::settling::Settling;
+use std::alloc::Global;
+use timetable::{Feet, MOST_FOOT_SECONDS, MOST_FOOTPATHS, StopNo};
+
+/// Whether footpaths may be closed as far as a limit, in seconds: it is at most 7,200.
+pub fn limit_fits(limit: u32) -> bool
+    ensures { IsTrue result ↔ (limit ≤ MOST_FOOT_SECONDS) }
+{
+    limit <= MOST_FOOT_SECONDS
+}
+
+/// Closes direct footpaths: from each stop to each other the least sum over chains, where it is at most `limit` seconds.
+/// (Closed as the RAPTOR paper asks for: Delling, Pajor, Werneck, ALENEX 2012.)
+///
+/// `TooMany` where more than 4,000,000 pairs of stops have such a sum, before they are all made; `Memory` where a
+/// growth was refused. A limit is at most 7,200 seconds ([`limit_fits`]).
+pub fn close(alloc: Global, direct: &Direct, limit: u32) -> Result<Feet, FootFault>
+    requires { limit ≤ MOST_FOOT_SECONDS }
+    ensures ok { IfOk result (IsClosure direct.now limit) }
+    ensures fault { IfErr result (λ fault. IsFootFault fault direct.now limit) }
+{
+    direct.known();
+    let lists = closed_lists(alloc, direct, limit)?;
+    match Feet::new(alloc, direct.stops(), lists) {
+        Ok(feet) => Ok(feet),
+        Err(_) => unreachable!(),
+    }
+}
+
+/// The footpaths from each stop in turn, unless there are too many.
+fn closed_lists(
+    alloc: Global,
+    direct: &Direct,
+    limit: u32,
+) -> Result<Vec<Vec<(StopNo, u32)>>, FootFault>
+    requires { limit ≤ MOST_FOOT_SECONDS }
+    ensures ok { IfOk result (λ lists. IsClosure direct.now limit (rows_of lists.items)) }
+    ensures fault { IfErr result (λ fault. IsFootFault fault direct.now limit) }
+{
+    direct.known();
+    let footpaths = Adjacency::new(alloc, direct, limit)?;
+    let mut settling = Settling::new(alloc, direct.stops())?;
+    let mut lists = Vec::with_capacity(alloc, direct.stops() as usize)?;
+    let mut pairs = 0;
+    for source in 0..direct.stops() {
+        settling.settle(&footpaths, StopNo(source), limit)?;
+        if settling.reached() > MOST_FOOTPATHS - pairs {
+            return Err(FootFault::TooMany);
+        }
+        pairs += settling.reached();
+        if lists.push(settling.row(alloc)?).is_err() {
+            return Err(FootFault::Memory);
+        }
+        settling.clear(StopNo(source));
+    }
+    Ok(lists)
+}

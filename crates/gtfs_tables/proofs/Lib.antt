@@ -1,0 +1,2 @@
+pub mod FeedFacts
+pub mod StopIds

@@ -1,0 +1,89 @@
+//! The trips of a feed.
+
+ghost use Rattle.std.specs.Prelude.{◌≡◌};
+
+use std::marker::Model;
+use timetable::Events;
+
+/// The identifier of a trip, `trip_id`. Contracts see its bytes.
+#[derive(Debug, Drop)]
+pub struct TripId {
+    bytes: Vec<u8>,
+}
+
+impl Model for TripId {
+    ghost use Rattle.std.specs.Prelude.{ℕ, List};
+
+    ghost Value = { List ℕ };
+
+    ghost view = { λ id. id.bytes.items };
+}
+
+impl TripId {
+    /// The identifier that the bytes spell.
+    pub fn new(bytes: Vec<u8>) -> Self
+        ensures { result ≡ bytes.items }
+    {
+        TripId { bytes }
+    }
+
+    /// The bytes, to read.
+    pub fn as_slice(&self) -> &[u8]
+        ensures { result.now ≡ self.now }
+    {
+        self.bytes.as_slice()
+    }
+}
+
+/// A row of `frequencies.txt`: departures every `headway` seconds from `start` until before `end`, in seconds of the service day.
+#[derive(Clone, Copy, Debug, PartialEq, Eq)]
+pub struct Departures {
+    pub start: u32,
+    pub end: u32,
+    pub headway: u32,
+}
+
+/// The rows of `frequencies.txt` for a trip, in file order. Contracts see the list.
+#[derive(Debug, Drop)]
+pub struct DepartureList {
+    items: Vec<Departures>,
+}
+
+impl Model for DepartureList {
+    ghost use Rattle.std.specs.Prelude.{List};
+    ghost use Rattle.gtfs_tables.specs.declared.trip.Departures.{Departures};
+
+    ghost Value = { List Departures };
+
+    ghost view = { λ d. d.items.items };
+}
+
+impl DepartureList {
+    /// The rows of the vector.
+    pub fn new(items: Vec<Departures>) -> Self
+        ensures { result ≡ items.items }
+    {
+        DepartureList { items }
+    }
+
+    /// The rows, to read.
+    pub fn as_slice(&self) -> &[Departures]
+        ensures { result.now ≡ self.now }
+    {
+        self.items.as_slice()
+    }
+}
+
+/// A trip of a feed.
+#[derive(Debug, Drop)]
+pub struct FeedTrip {
+    /// The number of its route. Routes are not read yet, so it is 0.
+    pub route: u32,
+    /// The number of its service. Services are not read yet, so it is 0.
+    pub service: u32,
+    pub id: TripId,
+    /// Its events, in ascending order of `stop_sequence`, in seconds of the service day.
+    pub events: Events,
+    /// Its rows of `frequencies.txt`. They are not read yet, so there are none.
+    pub departures: DepartureList,
+}

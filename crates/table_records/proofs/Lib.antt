@@ -1,0 +1,6 @@
+pub mod RecordsLeft
+pub mod Mapped
+pub mod Trims
+pub mod Dates
+pub mod FieldFacts
+pub mod FaultFacts

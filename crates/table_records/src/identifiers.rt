@@ -1,0 +1,82 @@
+//! Identifiers, numbered from 0 in the order in which they first came.
+
+ghost use Rattle.std.specs.Prelude.{◌≡◌, ◌<◌, ◌^◌, ◌∷◌, ◌++◌, ◌↔◌, [], not, length, position, slice_get, option_map, IfOk, IsTrue, OnErr, if◌then◌else◌};
+ghost use Rattle.std.specs.List.{list_any};
+ghost use Rattle.std.specs.Str.{bytes_eq};
+
+use indexmap::IndexSet;
+use std::alloc::{AllocError, Global};
+use std::marker::Model;
+
+/// Identifiers in the order in which they came, each once. An identifier is a string of bytes,
+/// compared exactly; its number is its place in the order.
+#[derive(Drop)]
+pub struct Identifiers {
+    set: IndexSet<Vec<u8>>,
+}
+
+impl Model for Identifiers {
+    ghost use Rattle.std.specs.Prelude.{ℕ, List, map};
+
+    ghost Value = { List (List ℕ) };
+
+    ghost view = { λ a. map (λ v. v.items) a.set.keys };
+}
+
+impl Identifiers {
+    /// No identifiers.
+    pub fn new(alloc: Global) -> Identifiers
+        ensures { result ≡ [] }
+    {
+        Identifiers {
+            set: IndexSet::new(alloc),
+        }
+    }
+
+    /// How many there are.
+    pub fn len(&self) -> usize
+        ensures len { result ≡ length self.now }
+        ensures small { result < 2 ^ 63 }
+    {
+        self.set.len()
+    }
+
+    /// Whether there are none.
+    pub fn is_empty(&self) -> bool
+        ensures { IsTrue result ↔ (self.now ≡ []) }
+    {
+        self.len() == 0
+    }
+
+    /// The number of an identifier, if it is here.
+    pub fn number(&self, id: &[u8]) -> Option<usize>
+        ensures { result ≡ position (bytes_eq id.now) self.now }
+    {
+        self.set.get_index_of(id)
+    }
+
+    /// The identifier that has this number, if there are so many.
+    pub fn id(&self, number: usize) -> Option<&[u8]>
+        ensures { option_map (λ s. s.now) result ≡ slice_get self.now number }
+    {
+        match self.set.get_index(number) {
+            None => None,
+            Some(id) => Some(id.as_slice()),
+        }
+    }
+
+    /// Puts an identifier last unless it is here already, and says whether it was new.
+    ///
+    /// Only a new identifier takes memory.
+    pub fn push(&mut self, alloc: Global, id: &[u8]) -> Result<bool, AllocError>
+        ensures added { IfOk result (λ added. added ≡ not (list_any (bytes_eq id.now) self.old)) }
+        ensures ids { IfOk result (λ added. self.new ≡ (if added then self.old ++ id.now ∷ [] else self.old)) }
+        ensures err { OnErr result (self.new ≡ self.old) }
+    {
+        if self.set.contains(id) {
+            return Ok(false);
+        }
+        let id = Vec::from_slice(alloc, id)?;
+        Ok(self.set.insert(id)?)
+    }
+}

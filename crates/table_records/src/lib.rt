@@ -1,0 +1,28 @@
+//! What every table of a feed is read with: records of bytes, columns by name, the values of
+//! fields, identifiers with their numbers, and the first fault with its file and record.
+//! It knows no column and no file's rules; those are with the files' own readers.
+//!
+//! - `rows`: [`Rows`] gives the records of a file one at a time, the header first.
+//! - `columns`: [`column`] finds a column in the header, [`field`] its text in a record.
+//! - `fields`: [`trim`], [`number`], [`read_time`] and [`read_date`] give texts their values.
+//! - `identifiers`: [`Identifiers`] numbers stops, routes, trips and services.
+//! - `fault`: [`FeedFault`] says what is wrong ([`What`]), in which file and record.
+//!
+//! The rules are those of the GTFS Schedule reference ("File requirements" and "Field types"),
+//! with the grammars of times and numbers narrowed to what the engine counts with. Their
+//! definitions are in `specs/`, one file per module; `specs/Faults.antt` has the order of faults.
+#![tactic(auto)]
+
+mod columns;
+mod fault;
+mod fields;
+mod identifiers;
+mod rows;
+#[cfg(test)]
+mod tests;
+
+pub use columns::{column, field};
+pub use fault::{FeedFault, FileName, What};
+pub use fields::{number, read_date, read_time, trim};
+pub use identifiers::Identifiers;
+pub use rows::Rows;

@@ -1,0 +1,2 @@
+pub mod MinuteLine
+pub mod MinuteFaults

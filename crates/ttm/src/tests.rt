@@ -1,0 +1,154 @@
+//! The line of the small feed, of feeds with one thing changed, and bytes put out by poor writers.
+
+use crate::example::example_feed;
+use crate::fault::StudyFault;
+use crate::minute::minute_line;
+use crate::output::put_all;
+use gtfs_tables::{FeedBytes, FeedFault, FileName, What};
+use std::io::Write;
+
+/// T2 leaves B when T1 arrives there.
+const JUST_IN_TIME: &[u8] = b"trip_id,arrival_time,departure_time,stop_id,stop_sequence
+T1,08:00:00,08:00:00,A,1
+T1,08:10:00,08:10:00,B,2
+T2,08:10:00,08:10:00,B,1
+T2,08:30:00,08:30:00,C,2
+";
+
+/// T2 leaves B one second before T1 arrives there.
+const JUST_MISSED: &[u8] = b"trip_id,arrival_time,departure_time,stop_id,stop_sequence
+T1,08:00:00,08:00:00,A,1
+T1,08:10:00,08:10:00,B,2
+T2,08:09:59,08:09:59,B,1
+T2,08:30:00,08:30:00,C,2
+";
+
+const MARKED_STOPS: &[u8] = b"\xef\xbb\xbfstop_id,stop_name\r\nA,Alpha\r\nB,Beta\r\nC,Gamma\r\n";
+
+const MARKED_TRIPS: &[u8] =
+    b"\xef\xbb\xbfroute_id,service_id,trip_id\r\nR1,MON,T1\r\nR2,MON,T2\r\n";
+
+const MARKED_STOP_TIMES: &[u8] =
+    b"\xef\xbb\xbftrip_id,arrival_time,departure_time,stop_id,stop_sequence\r
+T1,08:00:00,08:00:00,A,1\r
+T1,08:10:00,08:10:00,B,2\r
+T2,08:15:00,08:15:00,B,1\r
+T2,08:30:00,08:30:00,C,2\r
+";
+
+/// The small feed with other stop times.
+fn with_stop_times(stop_times: &'static [u8]) -> FeedBytes<'static> {
+    let mut files = example_feed();
+    files.stop_times = Some(stop_times);
+    files
+}
+
+#[test]
+fn tells_the_least_durations(rt: HostRuntime) {
+    let files = example_feed();
+    let just_in_time = with_stop_times(JUST_IN_TIME);
+    let just_missed = with_stop_times(JUST_MISSED);
+    let cases: [(&FeedBytes<'_>, &[u8], u32, &[u8]); 6] = [
+        (&files, b"A", 1, b"0,600,\n"),
+        (&files, b"A", 2, b"0,600,1800\n"),
+        (&files, b"A", 8, b"0,600,1800\n"),
+        (&files, b"B", 1, b",0,1800\n"),
+        (&just_in_time, b"A", 2, b"0,600,1800\n"),
+        (&just_missed, b"A", 2, b"0,600,\n"),
+    ];
+    for (files, origin, rides, want) in &cases {
+        match minute_line(rt.alloc(), files, origin, 480, *rides) {
+            Ok(line) => assert_eq!(rt; line.as_slice(), *want),
+            Err(_) => panic!(rt; "refused"),
+        }
+    }
+}
+
+#[test]
+fn a_minute_later_the_trip_is_gone(rt: HostRuntime) {
+    match minute_line(rt.alloc(), &example_feed(), b"A", 481, 1) {
+        Ok(line) => assert_eq!(rt; line.as_slice(), b"0,,\n".as_slice()),
+        Err(_) => panic!(rt; "refused"),
+    }
+}
+
+#[test]
+fn reads_marks_and_windows_line_ends(rt: HostRuntime) {
+    let mut files = example_feed();
+    files.stops = Some(MARKED_STOPS);
+    files.trips = Some(MARKED_TRIPS);
+    files.stop_times = Some(MARKED_STOP_TIMES);
+    match minute_line(rt.alloc(), &files, b"A", 480, 1) {
+        Ok(line) => assert_eq!(rt; line.as_slice(), b"0,600,\n".as_slice()),
+        Err(_) => panic!(rt; "refused"),
+    }
+}
+
+/// The fault of the line from an origin.
+fn fault_of(rt: &HostRuntime, files: &FeedBytes<'_>, origin: &[u8]) -> Option<StudyFault> {
+    minute_line(rt.alloc(), files, origin, 480, 1).err()
+}
+
+#[test]
+fn refuses_the_tables_before_the_origin(rt: HostRuntime) {
+    let files = example_feed();
+    let no_stop_times = FeedFault {
+        file: FileName::StopTimes,
+        at: 0,
+        what: What::MissingFile,
+    };
+    let unknown_origin = FeedFault {
+        file: FileName::Origins,
+        at: 0,
+        what: What::UnknownStop,
+    };
+    let mut cut = example_feed();
+    cut.stop_times = None;
+    assert!(rt; fault_of(&rt, &files, b"Z") == Some(StudyFault::Feed(unknown_origin)));
+    assert!(rt; fault_of(&rt, &files, b"a") == Some(StudyFault::Feed(unknown_origin)));
+    assert!(rt; fault_of(&rt, &files, b"") == Some(StudyFault::Feed(unknown_origin)));
+    assert!(rt; fault_of(&rt, &cut, b"Z") == Some(StudyFault::Feed(no_stop_times)));
+}
+
+/// Takes at most so many bytes at a call, and so many calls.
+#[derive(Drop)]
+struct Slow {
+    taken: Vec<u8>,
+    at_once: usize,
+    calls: usize,
+}
+
+impl Write for Slow {
+    fn write(&mut self, bytes: &[u8]) -> std::io::Result<usize> {
+        if self.calls == 0 {
+            return Err(std::io::Error::from(std::io::ErrorKind::BrokenPipe));
+        }
+        self.calls -= 1;
+        let count = bytes.len().min(self.at_once);
+        self.taken.extend_from_slice(&bytes[..count])?;
+        Ok(count)
+    }
+
+    fn flush(&mut self) -> std::io::Result<()> {
+        Ok(())
+    }
+}
+
+#[test]
+fn puts_out_all_bytes_or_a_prefix(rt: HostRuntime) {
+    let cases: [(usize, usize, bool, &[u8]); 4] = [
+        (3, 9, true, b"0,600,1800\n"),
+        (3, 2, false, b"0,600,"),
+        (0, 9, false, b""),
+        (99, 1, true, b"0,600,1800\n"),
+    ];
+    for (at_once, calls, whole, want) in &cases {
+        let mut writer = Slow {
+            taken: Vec::new(rt.alloc()),
+            at_once: *at_once,
+            calls: *calls,
+        };
+        assert_eq!(rt; put_all(b"0,600,1800\n", &mut writer).is_ok(), *whole);
+        assert_eq!(rt; writer.taken.as_slice(), *want);
+    }
+}

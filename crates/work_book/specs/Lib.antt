@@ -1,0 +1,5 @@
+pub mod Seat
+pub mod Book
+pub mod Steps
+pub mod TakenBack
+pub mod Laws
