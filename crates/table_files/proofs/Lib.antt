@@ -5,3 +5,9 @@ pub mod SortedFacts
 pub mod StampFacts
 pub mod StopFacts
 pub mod TimeFacts
+pub mod ReadingFacts
+pub mod ServiceFacts
+pub mod CalendarFacts
+pub mod CalendarDateFacts
+pub mod FrequencyFacts
+pub mod FeedTripFacts

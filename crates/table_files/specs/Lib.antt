@@ -5,3 +5,11 @@ pub mod Stops
 pub mod StopTimes
 pub mod Trips
 pub mod WholeTrips
+pub mod Reading
+pub mod Routes
+pub mod Services
+pub mod Days
+pub mod Calendar
+pub mod CalendarDates
+pub mod Frequencies
+pub mod FeedTrips

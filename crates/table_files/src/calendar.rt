@@ -1,0 +1,241 @@
+//! The weekdays on which services run: `calendar.txt`.
+
+ghost use Rattle.std.specs.Prelude.{◌≡◌, ◌≤◌, [], length, IfOk, IfErr};
+ghost use Rattle.csv.specs.Records.{fields_of};
+ghost use Rattle.table_records.specs.Faults.{Tells};
+ghost use Rattle.table_files.specs.Calendar.{IsCalendar, calendar_faults, columns_of, days_of, row_at, service_rows};
+
+use crate::days::read_flag;
+use crate::reading::{RecordReader, fault_at, open_table, read_records};
+use csv::ByteRecord;
+use jiff::civil::Date;
+use std::alloc::Global;
+use table_records::{FeedFault, FileName, Identifiers, What, column, field, read_date};
+
+/// A row of `calendar.txt`: a service runs on some weekdays, from its first date to its last, both included.
+#[derive(Clone, Copy, PartialEq, Eq)]
+pub struct CalendarRow {
+    /// The service's number: services are numbered from 0 as they are first named.
+    pub service: u32,
+    /// The weekdays, Monday first.
+    pub days: [bool; 7],
+    pub first: Date,
+    pub last: Date,
+}
+
+/// What `calendar.txt` says: its rows, and the services that they name.
+#[derive(Drop)]
+pub struct Calendar {
+    pub services: Identifiers,
+    pub rows: Vec<CalendarRow>,
+}
+
+/// The columns of `calendar.txt` that are read.
+#[derive(Clone, Copy, Debug, PartialEq, Eq)]
+pub struct CalendarColumns {
+    pub service: Option<usize>,
+    pub monday: Option<usize>,
+    pub tuesday: Option<usize>,
+    pub wednesday: Option<usize>,
+    pub thursday: Option<usize>,
+    pub friday: Option<usize>,
+    pub saturday: Option<usize>,
+    pub sunday: Option<usize>,
+    pub first: Option<usize>,
+    pub last: Option<usize>,
+}
+
+impl CalendarColumns {
+    // The weekdays of a record, where each is a flag.
+    fn days(&self, row: &ByteRecord) -> Option<[bool; 7]>
+        ensures { result ≡ days_of (row_at self.now (fields_of row.now)).days }
+    {
+        let monday = read_flag(field(row, self.monday))?;
+        let tuesday = read_flag(field(row, self.tuesday))?;
+        let wednesday = read_flag(field(row, self.wednesday))?;
+        let thursday = read_flag(field(row, self.thursday))?;
+        let friday = read_flag(field(row, self.friday))?;
+        let saturday = read_flag(field(row, self.saturday))?;
+        let sunday = read_flag(field(row, self.sunday))?;
+        Some([
+            monday, tuesday, wednesday, thursday, friday, saturday, sunday,
+        ])
+    }
+}
+
+impl RecordReader for CalendarColumns {
+    ghost use Rattle.std.specs.Prelude.{◌≡◌, ◌≤◌, ◌+◌, length};
+    ghost use Rattle.table_records.specs.declared.fault.FileName.TheVariants as file_name;
+    ghost use Rattle.table_files.specs.Calendar.{ServiceRow, row_at, checks, IsCalendar};
+
+    type Table = Calendar;
+
+    ghost Row = { ServiceRow };
+
+    ghost file = { file_name.Calendar };
+
+    ghost row_of = { row_at };
+
+    ghost checks = { λ _. checks };
+
+    ghost After = { λ _ _ rows now. IsCalendar now rows };
+
+    ghost HasRoom = { λ _ table at. length table.services + 2 ≤ at };
+
+    fn add(
+        &self,
+        alloc: Global,
+        table: &mut Calendar,
+        at: u32,
+        row: &ByteRecord,
+    ) -> Result<(), FeedFault> {
+        let id = field(row, self.service);
+        if id.is_empty() {
+            return Err(fault_at(FileName::Calendar, at, What::EmptyId));
+        }
+        let service = table.services.len() as u32;
+        if !table.services.push(alloc, id)? {
+            return Err(fault_at(FileName::Calendar, at, What::DuplicateId));
+        }
+        let Some(days) = self.days(row) else {
+            return Err(fault_at(FileName::Calendar, at, What::BadNumber));
+        };
+        let Some(first) = read_date(field(row, self.first)) else {
+            return Err(fault_at(FileName::Calendar, at, What::BadDate));
+        };
+        let Some(last) = read_date(field(row, self.last)) else {
+            return Err(fault_at(FileName::Calendar, at, What::BadDate));
+        };
+        table.rows.push(CalendarRow {
+            service,
+            days,
+            first,
+            last,
+        })?;
+        Ok(())
+    }
+}
+
+fn columns_in(header: &ByteRecord) -> CalendarColumns
+    ensures { result ≡ columns_of (fields_of header.now) }
+{
+    CalendarColumns {
+        service: column(header, b"service_id"),
+        monday: column(header, b"monday"),
+        tuesday: column(header, b"tuesday"),
+        wednesday: column(header, b"wednesday"),
+        thursday: column(header, b"thursday"),
+        friday: column(header, b"friday"),
+        saturday: column(header, b"saturday"),
+        sunday: column(header, b"sunday"),
+        first: column(header, b"start_date"),
+        last: column(header, b"end_date"),
+    }
+}
+
+/// The rows of `calendar.txt`, in file order, and the services that they name.
+///
+/// The bytes are at most 2^30, the limit of an input file.
+pub fn read_calendar(alloc: Global, bytes: &[u8]) -> Result<Calendar, FeedFault>
+    requires { length bytes.now ≤ 1073741824 }
+    ensures good { IfOk result (λ c. (calendar_faults bytes.now ≡ []) × IsCalendar c (service_rows bytes.now)) }
+    ensures few { IfOk result (λ c. length c.services ≤ 1073741824) }
+    ensures fault { IfErr result (λ e. Tells e (calendar_faults bytes.now)) }
+{
+    let mut file = open_table(
+        alloc,
+        bytes,
+        FileName::Calendar,
+        &[
+            b"service_id",
+            b"monday",
+            b"tuesday",
+            b"wednesday",
+            b"thursday",
+            b"friday",
+            b"saturday",
+            b"sunday",
+            b"start_date",
+            b"end_date",
+        ],
+    )?;
+    let mut calendar = Calendar {
+        services: Identifiers::new(alloc),
+        rows: Vec::new(alloc),
+    };
+    read_records(
+        alloc,
+        &columns_in(&file.header),
+        &mut calendar,
+        &mut file.rows,
+    )?;
+    Ok(calendar)
+}
+
+#[cfg(test)]
+mod tests {
+    use super::*;
+    use std::test::Fail;
+
+    fn first_fault(alloc: Global, row: &[u8]) -> Result<Option<FeedFault>, Fail> {
+        let mut bytes = Vec::from_slice(
+            alloc,
+            b"service_id,monday,tuesday,wednesday,thursday,friday,saturday,sunday,start_date,end_date\n",
+        )?;
+        bytes.extend_from_slice(row)?;
+        if bytes.len() > 1_000 {
+            return Ok(None);
+        }
+        Ok(read_calendar(alloc, bytes.as_slice()).err())
+    }
+
+    #[test]
+    fn a_week_from_monday_on(rt: HostRuntime) -> Result<(), Fail> {
+        let calendar = read_calendar(
+            rt.alloc(),
+            b"service_id,monday,tuesday,wednesday,thursday,friday,saturday,sunday,start_date,end_date
+MON,1,0,0,0,0,0,0,20260504,20260531
+SUN, 0,0,0,0,0,0,01,20260503,20260531
+",
+        )?;
+        assert_eq!(rt; calendar.services.number(b"MON"), Some(0));
+        assert_eq!(rt; calendar.services.number(b"SUN"), Some(1));
+        assert_eq!(rt; calendar.rows.len(), 2);
+        let monday = calendar.rows[0];
+        assert_eq!(rt; monday.service, 0);
+        assert_eq!(rt;
+            monday.days,
+            [true, false, false, false, false, false, false]
+        );
+        assert!(rt; monday.first == Date::new(2026, 5, 4)?);
+        assert!(rt; monday.last == Date::new(2026, 5, 31)?);
+        let sunday = calendar.rows[1];
+        assert_eq!(rt; sunday.service, 1);
+        assert_eq!(rt;
+            sunday.days,
+            [false, false, false, false, false, false, true]
+        );
+        Ok(())
+    }
+
+    #[test]
+    fn refusals(rt: HostRuntime) -> Result<(), Fail> {
+        let alloc = rt.alloc();
+        let file = FileName::Calendar;
+        let empty = first_fault(alloc, b",1,0,0,0,0,0,2,x,y\n")?;
+        assert_eq!(rt; empty, Some(fault_at(file, 2, What::EmptyId)));
+        let twice = first_fault(alloc, b"A,1,0,0,0,0,0,1,20260504,20260531\nA,2\n")?;
+        assert_eq!(rt; twice, Some(fault_at(file, 3, What::DuplicateId)));
+        let two = first_fault(alloc, b"A,1,0,0,0,0,0,2,20260504,20260531\n")?;
+        assert_eq!(rt; two, Some(fault_at(file, 2, What::BadNumber)));
+        let none = first_fault(alloc, b"A,,0,0,0,0,0,1,20260504,20260531\n")?;
+        assert_eq!(rt; none, Some(fault_at(file, 2, What::BadNumber)));
+        let first = first_fault(alloc, b"A,1,0,0,0,0,0,1,20260230,20260531\n")?;
+        assert_eq!(rt; first, Some(fault_at(file, 2, What::BadDate)));
+        let last = first_fault(alloc, b"A,1,0,0,0,0,0,1,20260504,\n")?;
+        assert_eq!(rt; last, Some(fault_at(file, 2, What::BadDate)));
+        let column = read_calendar(alloc, b"service_id,monday\nA,1\n").err();
+        assert_eq!(rt; column, Some(fault_at(file, 1, What::MissingColumn)));
+        Ok(())
+    }
+}

@@ -1,0 +1,179 @@
+//! The dates that are added to services or removed from them: `calendar_dates.txt`.
+
+ghost use Rattle.std.specs.Prelude.{◌≡◌, ◌≤◌, ◌+◌, [], length, IfOk, IfErr};
+ghost use Rattle.csv.specs.Records.{fields_of};
+ghost use Rattle.table_records.specs.Faults.{Tells};
+ghost use Rattle.table_files.specs.CalendarDates.{AreExceptions, columns_of, date_rows, exception_faults};
+
+use crate::days::read_adds;
+use crate::reading::{RecordReader, fault_at, open_table, read_records};
+use crate::services::number_service;
+use csv::ByteRecord;
+use jiff::civil::Date;
+use std::alloc::Global;
+use table_records::{FeedFault, FileName, Identifiers, What, column, field, read_date};
+
+/// A row of `calendar_dates.txt`: a date is added to a service, or removed from it.
+#[derive(Clone, Copy, PartialEq, Eq)]
+pub struct ExceptionRow {
+    /// The service's number: services are numbered from 0 as they are first named.
+    pub service: u32,
+    pub date: Date,
+    /// Whether the date is added; it is removed otherwise.
+    pub adds: bool,
+}
+
+/// What `calendar_dates.txt` says: its rows, and the services that are known after them.
+#[derive(Drop)]
+pub struct CalendarDates {
+    pub services: Identifiers,
+    pub rows: Vec<ExceptionRow>,
+}
+
+/// The columns of `calendar_dates.txt`.
+#[derive(Clone, Copy, Debug, PartialEq, Eq)]
+pub struct ExceptionColumns {
+    pub service: Option<usize>,
+    pub date: Option<usize>,
+    pub kind: Option<usize>,
+}
+
+impl RecordReader for ExceptionColumns {
+    ghost use Rattle.std.specs.Prelude.{◌≡◌, ◌≤◌, ◌+◌, ◌^◌, length};
+    ghost use Rattle.table_records.specs.declared.fault.FileName.TheVariants as file_name;
+    ghost use Rattle.table_files.specs.CalendarDates.{DateRow, row_at, checks, AreExceptions};
+
+    type Table = CalendarDates;
+
+    ghost Row = { DateRow };
+
+    ghost file = { file_name.CalendarDates };
+
+    ghost row_of = { row_at };
+
+    ghost checks = { λ _. checks };
+
+    ghost After = { λ _ start rows now. AreExceptions start.services now rows };
+
+    ghost HasRoom = { λ _ table at. length table.services ≤ 1073741824 + at };
+
+    fn add(
+        &self,
+        alloc: Global,
+        table: &mut CalendarDates,
+        at: u32,
+        row: &ByteRecord,
+    ) -> Result<(), FeedFault> {
+        let id = field(row, self.service);
+        if id.is_empty() {
+            return Err(fault_at(FileName::CalendarDates, at, What::EmptyId));
+        }
+        let Some(date) = read_date(field(row, self.date)) else {
+            return Err(fault_at(FileName::CalendarDates, at, What::BadDate));
+        };
+        let Some(adds) = read_adds(field(row, self.kind)) else {
+            return Err(fault_at(FileName::CalendarDates, at, What::BadNumber));
+        };
+        let service = number_service(alloc, &mut table.services, id)?;
+        table.rows.push(ExceptionRow {
+            service,
+            date,
+            adds,
+        })?;
+        Ok(())
+    }
+}
+
+fn columns_in(header: &ByteRecord) -> ExceptionColumns
+    ensures { result ≡ columns_of (fields_of header.now) }
+{
+    ExceptionColumns {
+        service: column(header, b"service_id"),
+        date: column(header, b"date"),
+        kind: column(header, b"exception_type"),
+    }
+}
+
+/// The rows of `calendar_dates.txt`, in file order. Services that are first named here get the next numbers.
+///
+/// The bytes are at most 2^30, the limit of an input file.
+pub fn read_calendar_dates(
+    alloc: Global,
+    bytes: &[u8],
+    services: Identifiers,
+) -> Result<CalendarDates, FeedFault>
+    requires size { length bytes.now ≤ 1073741824 }
+    requires known { length services ≤ 1073741824 }
+    ensures good { IfOk result (λ d. (exception_faults bytes.now ≡ []) × AreExceptions services d (date_rows bytes.now)) }
+    ensures few { IfOk result (λ d. length d.services ≤ 2147483650) }
+    ensures fault { IfErr result (λ e. Tells e (exception_faults bytes.now)) }
+{
+    let mut file = open_table(
+        alloc,
+        bytes,
+        FileName::CalendarDates,
+        &[b"service_id", b"date", b"exception_type"],
+    )?;
+    let mut dates = CalendarDates {
+        services,
+        rows: Vec::new(alloc),
+    };
+    read_records(alloc, &columns_in(&file.header), &mut dates, &mut file.rows)?;
+    Ok(dates)
+}
+
+#[cfg(test)]
+mod tests {
+    use super::*;
+    use std::test::Fail;
+
+    fn first_fault(alloc: Global, bytes: &[u8]) -> Option<FeedFault>
+        requires { length bytes.now ≤ 1073741824 }
+    {
+        read_calendar_dates(alloc, bytes, Identifiers::new(alloc)).err()
+    }
+
+    #[test]
+    fn services_are_numbered_on(rt: HostRuntime) -> Result<(), Fail> {
+        let mut services = Identifiers::new(rt.alloc());
+        services.push(rt.alloc(), b"MON")?;
+        if services.len() > 1 {
+            return Ok(());
+        }
+        let dates = read_calendar_dates(
+            rt.alloc(),
+            b"service_id,date,exception_type\nXMAS,20261225,1\nMON,20260504,2\nXMAS,20261226,01\nMON,20260504,1\n",
+            services,
+        )?;
+        assert_eq!(rt; dates.services.len(), 2);
+        assert_eq!(rt; dates.services.number(b"XMAS"), Some(1));
+        assert_eq!(rt; dates.rows.len(), 4);
+        let christmas = dates.rows[0];
+        assert_eq!(rt; christmas.service, 1);
+        assert!(rt; christmas.date == Date::new(2026, 12, 25)?);
+        assert!(rt; christmas.adds);
+        let monday = dates.rows[1];
+        assert_eq!(rt; monday.service, 0);
+        assert!(rt; !monday.adds);
+        assert_eq!(rt; dates.rows[2].service, 1);
+        assert!(rt; dates.rows[3].adds);
+        Ok(())
+    }
+
+    #[test]
+    fn refusals(rt: HostRuntime) {
+        let alloc = rt.alloc();
+        let file = FileName::CalendarDates;
+        let empty = first_fault(alloc, b"service_id,date,exception_type\n,x,3\n");
+        assert_eq!(rt; empty, Some(fault_at(file, 2, What::EmptyId)));
+        let date = first_fault(alloc, b"service_id,date,exception_type\nA,20260431,3\n");
+        assert_eq!(rt; date, Some(fault_at(file, 2, What::BadDate)));
+        let kind = first_fault(
+            alloc,
+            b"service_id,date,exception_type\nA,20260430,1\nA,20260430,3\n",
+        );
+        assert_eq!(rt; kind, Some(fault_at(file, 3, What::BadNumber)));
+        let column = first_fault(alloc, b"service_id,date\nA,20260430\n");
+        assert_eq!(rt; column, Some(fault_at(file, 1, What::MissingColumn)));
+    }
+}

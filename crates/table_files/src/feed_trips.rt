@@ -1,0 +1,240 @@
+//! The trips of a feed, with their routes and services: `trips.txt`.
+
+ghost use Rattle.std.specs.Prelude.{◌≡◌, ◌≤◌, [], length, IfOk, IfErr};
+ghost use Rattle.csv.specs.Records.{fields_of};
+ghost use Rattle.table_records.specs.Faults.{Tells};
+ghost use Rattle.table_files.specs.FeedTrips.{AreTrips, columns_of, trip_faults, trip_rows};
+
+use crate::reading::{RecordReader, fault_at, open_table, read_records};
+use crate::services::number_service;
+use csv::ByteRecord;
+use std::alloc::Global;
+use table_records::{FeedFault, FileName, Identifiers, What, column, field};
+
+/// The most trips of a feed.
+pub const MOST_TRIPS: u32 = 1_000_000;
+
+/// The numbers of a trip's route and service.
+#[derive(Clone, Copy, Debug, PartialEq, Eq)]
+pub struct TripNumbers {
+    /// The route's place in `routes.txt`.
+    pub route: u32,
+    /// The service's number: services are numbered from 0 as they are first named.
+    pub service: u32,
+}
+
+/// What `trips.txt` says: the trips' identifiers and numbers, in file order, and the services that are known after them.
+#[derive(Drop)]
+pub struct FeedTrips {
+    pub ids: Identifiers,
+    pub services: Identifiers,
+    pub numbers: Vec<TripNumbers>,
+}
+
+/// The columns of `trips.txt` that are read.
+#[derive(Clone, Copy, Debug, PartialEq, Eq)]
+pub struct TripColumns {
+    pub route: Option<usize>,
+    pub service: Option<usize>,
+    pub id: Option<usize>,
+}
+
+/// A reader of `trips.txt`, whose records name the feed's routes.
+#[derive(Drop)]
+pub struct TripReader<'a> {
+    pub columns: TripColumns,
+    pub routes: &'a Identifiers,
+}
+
+impl<'a> RecordReader for TripReader<'a> {
+    ghost use Rattle.std.specs.Prelude.{◌≤◌, ◌+◌, length};
+    ghost use Rattle.table_records.specs.declared.fault.FileName.TheVariants as file_name;
+    ghost use Rattle.table_files.specs.FeedTrips.{AreTrips, TripRow, row_at, checks};
+
+    type Table = FeedTrips;
+
+    ghost Row = { TripRow };
+
+    ghost file = { file_name.Trips };
+
+    ghost row_of = { λ s. row_at s.columns };
+
+    ghost checks = { λ s. checks s.routes.now };
+
+    ghost After = { λ s start rows now. AreTrips s.routes.now start.services now rows };
+
+    ghost HasRoom = { λ s table at. (length s.routes.now ≤ 1073741824) × (length table.services ≤ 2147483650 + at) };
+
+    fn add(
+        &self,
+        alloc: Global,
+        table: &mut FeedTrips,
+        at: u32,
+        row: &ByteRecord,
+    ) -> Result<(), FeedFault> {
+        if at > MOST_TRIPS + 1 {
+            return Err(fault_at(FileName::Trips, at, What::TooMany));
+        }
+        let route = field(row, self.columns.route);
+        if route.is_empty() {
+            return Err(fault_at(FileName::Trips, at, What::EmptyId));
+        }
+        let Some(route) = self.routes.number(route) else {
+            return Err(fault_at(FileName::Trips, at, What::UnknownRoute));
+        };
+        let service = field(row, self.columns.service);
+        if service.is_empty() {
+            return Err(fault_at(FileName::Trips, at, What::EmptyId));
+        }
+        let id = field(row, self.columns.id);
+        if id.is_empty() {
+            return Err(fault_at(FileName::Trips, at, What::EmptyId));
+        }
+        if !table.ids.push(alloc, id)? {
+            return Err(fault_at(FileName::Trips, at, What::DuplicateId));
+        }
+        let service = number_service(alloc, &mut table.services, service)?;
+        table.numbers.push(TripNumbers {
+            route: route as u32,
+            service,
+        })?;
+        Ok(())
+    }
+}
+
+fn columns_in(header: &ByteRecord) -> TripColumns
+    ensures { result ≡ columns_of (fields_of header.now) }
+{
+    TripColumns {
+        route: column(header, b"route_id"),
+        service: column(header, b"service_id"),
+        id: column(header, b"trip_id"),
+    }
+}
+
+/// The trips of `trips.txt`, in file order. Services that are first named here get the next numbers.
+///
+/// The bytes are at most 2^30, the limit of an input file.
+pub fn read_feed_trips(
+    alloc: Global,
+    bytes: &[u8],
+    routes: &Identifiers,
+    services: Identifiers,
+) -> Result<FeedTrips, FeedFault>
+    requires size { length bytes.now ≤ 1073741824 }
+    requires routes { length routes.now ≤ 1073741824 }
+    requires known { length services ≤ 2147483650 }
+    ensures good { IfOk result (λ t. (trip_faults routes.now bytes.now ≡ []) × AreTrips routes.now services t (trip_rows bytes.now)) }
+    ensures fault { IfErr result (λ e. Tells e (trip_faults routes.now bytes.now)) }
+{
+    let mut file = open_table(
+        alloc,
+        bytes,
+        FileName::Trips,
+        &[b"route_id", b"service_id", b"trip_id"],
+    )?;
+    let mut trips = FeedTrips {
+        ids: Identifiers::new(alloc),
+        services,
+        numbers: Vec::new(alloc),
+    };
+    let reader = TripReader {
+        columns: columns_in(&file.header),
+        routes,
+    };
+    read_records(alloc, &reader, &mut trips, &mut file.rows)?;
+    Ok(trips)
+}
+
+#[cfg(test)]
+mod tests {
+    use super::*;
+    use std::test::Fail;
+
+    #[test]
+    fn trips_have_routes_and_services(rt: HostRuntime) -> Result<(), Fail> {
+        let alloc = rt.alloc();
+        let mut routes = Identifiers::new(alloc);
+        routes.push(alloc, b"R1")?;
+        routes.push(alloc, b"R2")?;
+        let mut services = Identifiers::new(alloc);
+        services.push(alloc, b"MON")?;
+        if routes.len() > 2 || services.len() > 1 {
+            return Ok(());
+        }
+        let trips = read_feed_trips(
+            alloc,
+            b"route_id,service_id,trip_id\nR1,MON,T1\nR2,NEW,T2\nR1,NEW,T3\n",
+            &routes,
+            services,
+        )?;
+        assert_eq!(rt; trips.ids.number(b"T3"), Some(2));
+        assert_eq!(rt; trips.services.number(b"NEW"), Some(1));
+        let first = TripNumbers {
+            route: 0,
+            service: 0,
+        };
+        let second = TripNumbers {
+            route: 1,
+            service: 1,
+        };
+        let third = TripNumbers {
+            route: 0,
+            service: 1,
+        };
+        assert_eq!(rt; trips.numbers.as_slice(), [first, second, third].as_slice());
+        Ok(())
+    }
+
+    #[test]
+    fn refusals(rt: HostRuntime) -> Result<(), Fail> {
+        let alloc = rt.alloc();
+        let mut routes = Identifiers::new(alloc);
+        routes.push(alloc, b"R1")?;
+        if routes.len() > 1 {
+            return Ok(());
+        }
+        let file = FileName::Trips;
+        let route = read_feed_trips(
+            alloc,
+            b"route_id,service_id,trip_id\nR1,MON,T1\nR3,,\n",
+            &routes,
+            Identifiers::new(alloc),
+        )
+        .err();
+        assert_eq!(rt; route, Some(fault_at(file, 3, What::UnknownRoute)));
+        let twice = read_feed_trips(
+            alloc,
+            b"route_id,service_id,trip_id\nR1,MON,T1\nR1,MON,T1\n",
+            &routes,
+            Identifiers::new(alloc),
+        )
+        .err();
+        assert_eq!(rt; twice, Some(fault_at(file, 3, What::DuplicateId)));
+        let service = read_feed_trips(
+            alloc,
+            b"route_id,service_id,trip_id\nR1,,T1\n",
+            &routes,
+            Identifiers::new(alloc),
+        )
+        .err();
+        assert_eq!(rt; service, Some(fault_at(file, 2, What::EmptyId)));
+        let trip = read_feed_trips(
+            alloc,
+            b"route_id,service_id,trip_id\nR1,MON,\n",
+            &routes,
+            Identifiers::new(alloc),
+        )
+        .err();
+        assert_eq!(rt; trip, Some(fault_at(file, 2, What::EmptyId)));
+        let column = read_feed_trips(
+            alloc,
+            b"route_id,trip_id\nR1,T1\n",
+            &routes,
+            Identifiers::new(alloc),
+        )
+        .err();
+        assert_eq!(rt; column, Some(fault_at(file, 1, What::MissingColumn)));
+        Ok(())
+    }
+}

@@ -1,0 +1,261 @@
+//! The trips that run at a headway: `frequencies.txt`.
+
+ghost use Rattle.std.specs.Prelude.{◌≡◌, ◌≤◌, ◌<◌, ◌∷◌, ◌++◌, ℕ, [], length, map, slice_index_or, slice_set, IfOk, IfErr};
+ghost use Rattle.std.specs.declared.vec.Vec.{Vec};
+ghost use Rattle.std.specs.declared.alloc.Global.{Global};
+ghost use Rattle.csv.specs.Records.{fields_of};
+ghost use Rattle.table_records.specs.Faults.{Tells};
+ghost use Rattle.table_records.specs.Fields.{trimmed};
+ghost use Rattle.table_files.specs.declared.frequencies.Departures.{Departures};
+ghost use Rattle.table_files.specs.Frequencies.{columns_of, departures_by_trip, frequency_faults, frequency_rows, headway_of};
+
+use crate::reading::{RecordReader, fault_at, open_table, read_records};
+use csv::ByteRecord;
+use std::alloc::{AllocError, Global};
+use table_records::{
+    FeedFault, FileName, Identifiers, What, column, field, number, read_time, trim,
+};
+
+/// A row of `frequencies.txt`: a trip departs at its start and every headway after it, as long as that is before its end.
+///
+/// All three are seconds. An end that isn't after the start gives no departure.
+#[derive(Clone, Copy, Debug, PartialEq, Eq)]
+pub struct Departures {
+    pub start: u32,
+    pub end: u32,
+    pub headway: u32,
+}
+
+/// The columns of `frequencies.txt` that are read.
+#[derive(Clone, Copy, Debug, PartialEq, Eq)]
+pub struct FrequencyColumns {
+    pub trip: Option<usize>,
+    pub start: Option<usize>,
+    pub end: Option<usize>,
+    pub headway: Option<usize>,
+}
+
+/// A reader of `frequencies.txt`, whose records name the feed's trips.
+#[derive(Drop)]
+pub struct FrequencyReader<'a> {
+    pub columns: FrequencyColumns,
+    pub trips: &'a Identifiers,
+}
+
+// A headway is a number of seconds, at least 1.
+fn read_headway(text: &[u8]) -> Option<u32>
+    ensures { result ≡ headway_of (trimmed text.now) }
+{
+    let headway = number(trim(text))?;
+    if headway < 1 {
+        return None;
+    }
+    Some(headway)
+}
+
+// Puts a row after those of its trip.
+fn add_row(table: &mut Vec<Vec<Departures>>, trip: usize, row: Departures) -> Result<(), AllocError>
+    requires { trip < length table.old.items }
+    ensures added { IfOk result (λ _. (v : Vec Departures Global) × (v ≡ slice_index_or table.old.items trip v)
+        × ((w : Vec Departures Global) × (w.items ≡ v.items ++ row ∷ []) × (table.new.items ≡ slice_set table.old.items trip w))) }
+{
+    let departures = &mut table[trip];
+    departures.push(row)?;
+    Ok(())
+}
+
+impl<'a> RecordReader for FrequencyReader<'a> {
+    ghost use Rattle.std.specs.Prelude.{◌≡◌, ◌<◌, ℕ, length, slice_index_or};
+    ghost use Rattle.std.specs.declared.vec.Vec.{Vec};
+    ghost use Rattle.std.specs.declared.alloc.Global.{Global};
+    ghost use Rattle.table_records.specs.declared.fault.FileName.TheVariants as file_name;
+    ghost use Rattle.table_files.specs.Frequencies.{AreDepartures, FrequencyRow, row_at, checks};
+
+    type Table = Vec<Vec<Departures>>;
+
+    ghost Row = { FrequencyRow };
+
+    ghost file = { file_name.Frequencies };
+
+    ghost row_of = { λ s. row_at s.columns };
+
+    ghost checks = { λ s. checks s.trips.now };
+
+    ghost After = { λ s _ rows now. AreDepartures s.trips.now now.items rows };
+
+    ghost HasRoom = { λ s table _. length table.items ≡ length s.trips.now };
+
+    fn add(
+        &self,
+        _alloc: Global,
+        table: &mut Vec<Vec<Departures>>,
+        at: u32,
+        row: &ByteRecord,
+    ) -> Result<(), FeedFault> {
+        let trip = field(row, self.columns.trip);
+        if trip.is_empty() {
+            return Err(fault_at(FileName::Frequencies, at, What::EmptyId));
+        }
+        let Some(trip) = self.trips.number(trip) else {
+            return Err(fault_at(FileName::Frequencies, at, What::UnknownTrip));
+        };
+        let Some(start) = read_time(field(row, self.columns.start)) else {
+            return Err(fault_at(FileName::Frequencies, at, What::BadTime));
+        };
+        let Some(end) = read_time(field(row, self.columns.end)) else {
+            return Err(fault_at(FileName::Frequencies, at, What::BadTime));
+        };
+        let Some(headway) = read_headway(field(row, self.columns.headway)) else {
+            return Err(fault_at(FileName::Frequencies, at, What::BadNumber));
+        };
+        add_row(
+            table,
+            trip,
+            Departures {
+                start,
+                end,
+                headway,
+            },
+        )?;
+        Ok(())
+    }
+}
+
+fn columns_in(header: &ByteRecord) -> FrequencyColumns
+    ensures { result ≡ columns_of (fields_of header.now) }
+{
+    FrequencyColumns {
+        trip: column(header, b"trip_id"),
+        start: column(header, b"start_time"),
+        end: column(header, b"end_time"),
+        headway: column(header, b"headway_secs"),
+    }
+}
+
+/// No departures yet, for each of the trips.
+pub fn no_departures(alloc: Global, count: usize) -> Result<Vec<Vec<Departures>>, AllocError>
+    ensures size { IfOk result (λ v. length v.items ≡ count) }
+    ensures empty { IfOk result (λ v. (t : ℕ) (d : Vec Departures Global) → t < count → (slice_index_or v.items t d).items ≡ []) }
+{
+    let mut trips = Vec::new(alloc);
+    for _ in 0..count {
+        trips.push(Vec::new(alloc))?;
+    }
+    Ok(trips)
+}
+
+/// The rows of `frequencies.txt` for each trip of the feed, in file order.
+///
+/// The bytes are at most 2^30, the limit of an input file.
+pub fn read_frequencies(
+    alloc: Global,
+    bytes: &[u8],
+    trips: &Identifiers,
+) -> Result<Vec<Vec<Departures>>, FeedFault>
+    requires { length bytes.now ≤ 1073741824 }
+    ensures good { IfOk result (λ v. (frequency_faults trips.now bytes.now ≡ [])
+        × (map (λ rows. rows.items) v.items ≡ departures_by_trip trips.now (frequency_rows bytes.now))) }
+    ensures fault { IfErr result (λ e. Tells e (frequency_faults trips.now bytes.now)) }
+{
+    let mut file = open_table(
+        alloc,
+        bytes,
+        FileName::Frequencies,
+        &[b"trip_id", b"start_time", b"end_time", b"headway_secs"],
+    )?;
+    let mut departures = no_departures(alloc, trips.len())?;
+    let reader = FrequencyReader {
+        columns: columns_in(&file.header),
+        trips,
+    };
+    read_records(alloc, &reader, &mut departures, &mut file.rows)?;
+    Ok(departures)
+}
+
+#[cfg(test)]
+mod tests {
+    use super::*;
+    use std::test::Fail;
+
+    fn two_trips(alloc: Global) -> Result<Identifiers, AllocError> {
+        let mut trips = Identifiers::new(alloc);
+        trips.push(alloc, b"T1")?;
+        trips.push(alloc, b"T2")?;
+        Ok(trips)
+    }
+
+    #[test]
+    fn rows_of_each_trip(rt: HostRuntime) -> Result<(), Fail> {
+        let trips = two_trips(rt.alloc())?;
+        let rows = read_frequencies(
+            rt.alloc(),
+            b"trip_id,start_time,end_time,headway_secs\nT2,08:00:00,08:20:00,600\nT2,10:00:00,09:00:00,1\n",
+            &trips,
+        )?;
+        assert_eq!(rt; rows.len(), 2);
+        assert_eq!(rt; rows[0].len(), 0);
+        assert_eq!(rt; rows[1].len(), 2);
+        let early = Departures {
+            start: 28_800,
+            end: 30_000,
+            headway: 600,
+        };
+        let none = Departures {
+            start: 36_000,
+            end: 32_400,
+            headway: 1,
+        };
+        assert_eq!(rt; rows[1].as_slice(), [early, none].as_slice());
+        Ok(())
+    }
+
+    #[test]
+    fn refusals(rt: HostRuntime) -> Result<(), Fail> {
+        let alloc = rt.alloc();
+        let trips = two_trips(alloc)?;
+        let file = FileName::Frequencies;
+        let headway = read_frequencies(
+            alloc,
+            b"trip_id,start_time,end_time,headway_secs\nT1,08:00:00,08:20:00,0\n",
+            &trips,
+        )
+        .err();
+        assert_eq!(rt; headway, Some(fault_at(file, 2, What::BadNumber)));
+        let trip = read_frequencies(
+            alloc,
+            b"trip_id,start_time,end_time,headway_secs\nT9,,,\n",
+            &trips,
+        )
+        .err();
+        assert_eq!(rt; trip, Some(fault_at(file, 2, What::UnknownTrip)));
+        let empty = read_frequencies(
+            alloc,
+            b"trip_id,start_time,end_time,headway_secs\nT1,08:00:00,08:20:00,1\n,,,\n",
+            &trips,
+        )
+        .err();
+        assert_eq!(rt; empty, Some(fault_at(file, 3, What::EmptyId)));
+        let start = read_frequencies(
+            alloc,
+            b"trip_id,start_time,end_time,headway_secs\nT1,,08:20:00,1\n",
+            &trips,
+        )
+        .err();
+        assert_eq!(rt; start, Some(fault_at(file, 2, What::BadTime)));
+        let end = read_frequencies(
+            alloc,
+            b"trip_id,start_time,end_time,headway_secs\nT1,08:00:00,168:00:00,1\n",
+            &trips,
+        )
+        .err();
+        assert_eq!(rt; end, Some(fault_at(file, 2, What::BadTime)));
+        let column = read_frequencies(
+            alloc,
+            b"trip_id,start_time,end_time\nT1,08:00:00,08:20:00\n",
+            &trips,
+        )
+        .err();
+        assert_eq!(rt; column, Some(fault_at(file, 1, What::MissingColumn)));
+        Ok(())
+    }
+}
