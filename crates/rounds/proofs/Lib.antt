@@ -1,3 +1,4 @@
 pub mod Carrying
 pub mod Walking
 pub mod Reaching
+pub mod Filling

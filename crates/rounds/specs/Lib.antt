@@ -1,1 +1,3 @@
 pub mod Minutes
+pub mod Table
+pub mod Window

@@ -1,8 +1,10 @@
-//! Rounds: the least durations of journeys through a network, for one departure.
+//! Rounds: the least durations of journeys through a network, for one departure and for the minutes of a window.
 //! Each round adds a ride to the journeys so far, on any trip, and then a walk.
 //! (RAPTOR: Delling, Pajor, Werneck, Round-Based Public Transit Routing, ALENEX 2012.)
 //!
 //! - `minutes`: [`one_minute`], which alternates rides and walks.
+//! - `window`: [`Window`], and [`durations`] for each of its minutes.
+//! - `table`: [`Durations`], as a window gives them.
 //! - `steps`: what trips, and walks, do to the labels of stops.
 //!
 //! What a journey and a least duration are stands in `timetable`'s `specs/` (`Journeys`, `Least`), and what trips and
@@ -11,7 +13,11 @@
 
 mod minutes;
 mod steps;
+mod table;
 #[cfg(test)]
 mod tests;
+mod window;
 
 pub use minutes::one_minute;
+pub use table::Durations;
+pub use window::{MOST_MINUTES, Window, durations};

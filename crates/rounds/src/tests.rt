@@ -1,6 +1,6 @@
 //! Worked examples of least durations.
 
-use crate::one_minute;
+use crate::{Durations, Window, one_minute};
 use std::alloc::{AllocError, Global};
 use std::test::Fail;
 use timetable::{END_OF_AXIS, Event, Events, Feet, NEVER, Network, StopNo, Trip};
@@ -249,6 +249,108 @@ fn a_trip_every_minute(rt: HostRuntime) -> Result<(), Fail> {
     ] {
         let found = durations(alloc, &network, 0, depart, 1)?;
         assert!(rt; are(&found, expected.as_slice()), "at {depart}");
+    }
+    Ok(())
+}
+
+/// The durations of a window, where origin and window are in range.
+fn of_window(
+    alloc: Global,
+    network: &Option<Network>,
+    origin: u32,
+    window: Window,
+    rides: u32,
+) -> Result<Option<Durations>, AllocError> {
+    if let Some(network) = network
+        && origin < network.stops()
+        && window.fits()
+    {
+        return Ok(Some(crate::durations(alloc, network, StopNo(origin), window, rides)?));
+    }
+    Ok(None)
+}
+
+/// Whether this is the duration to a stop for a minute.
+fn is_at(found: &Option<Durations>, stop: u32, minute: u32, expected: Option<u32>) -> bool {
+    match found {
+        Some(found) if stop < found.stops() && minute < found.minutes() => {
+            found.at(StopNo(stop), minute) == expected
+        }
+        _ => false,
+    }
+}
+
+#[test]
+fn windows_that_fit(rt: HostRuntime) -> Result<(), Fail> {
+    for (first, minutes, expected) in [
+        (0, 0, false),
+        (0, 1, true),
+        (0, 1_440, true),
+        (0, 1_441, false),
+        (0, u32::MAX, false),
+        (END_OF_AXIS - 1, 1, true),
+        (END_OF_AXIS, 1, false),
+        (END_OF_AXIS - 61, 2, true),
+        (END_OF_AXIS - 60, 2, false),
+        (END_OF_AXIS - 86_341, 1_440, true),
+        (END_OF_AXIS - 86_340, 1_440, false),
+        (u32::MAX, 1, false),
+    ] {
+        let window = Window { first, minutes };
+        assert!(rt; window.fits() == expected, "{minutes} minutes from {first}");
+    }
+    Ok(())
+}
+
+#[test]
+fn each_minute_of_a_window(rt: HostRuntime) -> Result<(), Fail> {
+    let alloc = rt.alloc();
+    let network = two_trips(alloc, 29_700, true)?;
+
+    // 07:58 to 08:01, where the last minute misses the trip
+    let window = Window {
+        first: 28_680,
+        minutes: 4,
+    };
+    let found = of_window(alloc, &network, 0, window, 2)?;
+    for (stop, minute, expected) in [
+        (0, 0, Some(0)),
+        (0, 3, Some(0)),
+        (1, 0, Some(720)),
+        (1, 1, Some(660)),
+        (1, 2, Some(600)),
+        (1, 3, None),
+        (2, 0, Some(1_920)),
+        (2, 1, Some(1_860)),
+        (2, 2, Some(1_800)),
+        (2, 3, None),
+    ] {
+        assert!(rt;
+            is_at(&found, stop, minute, expected),
+            "stop {stop}, minute {minute}"
+        );
+    }
+    Ok(())
+}
+
+#[test]
+fn an_hour_of_a_trip_every_minute(rt: HostRuntime) -> Result<(), Fail> {
+    let alloc = rt.alloc();
+    let network = a_line(alloc)?;
+    for minutes in [1, 15, 16, 17, 60] {
+        let window = Window {
+            first: 21_600,
+            minutes,
+        };
+        let found = of_window(alloc, &network, 0, window, 1)?;
+        for minute in 0..minutes {
+            for stop in 0..20u32 {
+                assert!(rt;
+                    is_at(&found, stop, minute, Some(120 * stop)),
+                    "{minutes} minutes: stop {stop}, minute {minute}"
+                );
+            }
+        }
     }
     Ok(())
 }

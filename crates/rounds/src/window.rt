@@ -1,0 +1,75 @@
+//! A window of departures, one a minute, and the least durations of each of them.
+ghost use Rattle.std.specs.Prelude.{◌≡◌, ◌≢◌, ℕ, ◌+◌, ◌*◌, ◌<◌, ◌≤◌, ◌↔◌, IsTrue, length, slice_index, IfOk};
+ghost use Rattle.rounds.specs.Window.{Fits, AreDurations};
+
+use crate::minutes::one_minute;
+use crate::table::Durations;
+use std::alloc::{AllocError, Global};
+use timetable::{END_OF_AXIS, NEVER, Network, StopNo};
+
+/// The most minutes of a window: a day.
+pub const MOST_MINUTES: u32 = 1_440;
+
+/// Departures one minute apart.
+#[derive(Clone, Copy, Debug, PartialEq, Eq)]
+pub struct Window {
+    /// The second of the first departure, on the axis of the network's times.
+    pub first: u32,
+    /// How many departures there are.
+    pub minutes: u32,
+}
+
+impl Window {
+    /// Whether there are 1 to 1,440 departures, all of them on the axis.
+    pub fn fits(&self) -> bool
+        ensures { IsTrue result ↔ Fits self.now }
+    {
+        1 <= self.minutes
+            && self.minutes <= MOST_MINUTES
+            && self.first < END_OF_AXIS
+            && self.first + 60 * (self.minutes - 1) < END_OF_AXIS
+    }
+}
+
+/// The least durations from `origin` to every stop, for each departure of the window and journeys of at most `rides`
+/// rides, in seconds, waiting included.
+///
+/// Want of memory is the only refusal.
+pub fn durations(
+    alloc: Global,
+    network: &Network,
+    origin: StopNo,
+    window: Window,
+    rides: u32,
+) -> Result<Durations, AllocError>
+    requires origin { origin.0 < network.now.stops }
+    requires fits { Fits window }
+    ensures { IfOk result (λ durations. AreDurations network.now origin.0 window rides durations) }
+{
+    network.known();
+    let stops = network.stops() as usize;
+    let minutes = window.minutes as usize;
+    let mut labels = vec![in alloc; NEVER; stops * minutes]?;
+    for minute in 0..window.minutes {
+        let depart = window.first + 60 * minute;
+        let of_minute = one_minute(alloc, network, origin, depart, rides)?;
+        write_minute(&mut labels, of_minute.as_slice(), minute as usize, minutes);
+    }
+    Ok(Durations::new(network.stops(), window.minutes, labels))
+}
+
+/// Writes the labels of a minute, one per stop, among those of all minutes, where the minutes of a stop stand side by
+/// side.
+fn write_minute(labels: &mut [u32], of_minute: &[u32], minute: usize, minutes: usize)
+    requires room { length labels.old ≡ length of_minute.now * minutes }
+    requires minute { minute < minutes }
+    ensures same { length labels.new ≡ length labels.old }
+    ensures written { (p : ℕ) → p < length of_minute.now →
+        slice_index labels.new (p * minutes + minute) ≡ slice_index of_minute.now p }
+    ensures kept { (p m : ℕ) → m < minutes → m ≢ minute →
+        slice_index labels.new (p * minutes + m) ≡ slice_index labels.old (p * minutes + m) }
+{
+    for stop in 0..of_minute.len() {
+        labels[stop * minutes + minute] = of_minute[stop];
+    }
+}

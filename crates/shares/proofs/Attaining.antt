@@ -1,0 +1,88 @@
+-- How the minutes within a limit grow with it, and what labels tell of them.
+use Rattle.std.proofs.Math.ListN.{get_or-append}
+use Rattle.std.proofs.Math.Seq.{get_or-append_seam}
+use Rattle.std.proofs.lemmas.Bool.{cases_lt, cases_eq}
+use Rattle.rounds.specs.Table.{Times}
+use Rattle.std.proofs.Common.{List, [], ◌∷◌, ◌++◌, get_or, length, sym, subst, inl, inr, ◌≡◌, ◌≤◌, ◌<◌, ◌+◌, ℕ, zero, suc, Bool, false, Option, Some, None, nat_le, arith, refl, if◌then◌else◌, ◌==◌, unwrap_or, ap}
+use Rattle.timetable.specs.declared.least.TheConstants.{NEVER}
+use Rattle.rounds.specs.Table.{known_of, IsLeastOrNone}
+use Rattle.std.proofs.lemmas.Bool.Decides.{nat_tests}
+use Rattle.shares.specs.Percentiles.{is_within, minutes_within, Attains, IsCell}
+
+differs : (x : ℕ) → (x ≡ NEVER → ⊥) → (x == NEVER) ≡ false
+differs x d = grind (arith, d)
+
+-- a label is within a duration just where the duration that it tells is
+within_label : (x d : ℕ) → d < NEVER → is_within d (known_of x) ≡ nat_le x d
+within_label x d l = elim (cases_eq x NEVER) [
+  | inl e ↦ rw e (grind (arith, nat_tests, l))
+  | inr n ↦ rw (differs x n) refl
+]
+
+within_more : (x : Option ℕ) (d e : ℕ) → d ≤ e → (if is_within d x then 1 else 0) ≤ (if is_within e x then 1 else 0)
+within_more None d e h = omega arith
+within_more (Some x) d e h = grind (arith, nat_tests)
+
+pub count_more : (ds : ℕ → Option ℕ) (n d e : ℕ) → d ≤ e → minutes_within ds d n ≤ minutes_within ds e n
+count_more ds zero d e h = omega arith
+count_more ds (suc n) d e h =
+    let rest = count_more ds n d e h in
+    let head = within_more (ds n) d e h in
+    omega (arith, rest, head)
+
+pub attains_more : (ds : ℕ → Option ℕ) (n share d e : ℕ) → d ≤ e → Attains ds n share d → Attains ds n share e
+attains_more ds n share d e h a = let m = count_more ds n d e h in omega (arith, m, a)
+
+-- beyond all durations a longer limit adds nothing
+within_top : (x : Option ℕ) (d e : ℕ) → ((s : ℕ) → x ≡ Some s → s ≤ d) → (if is_within e x then 1 else 0) ≤ (if is_within d x then 1 else 0)
+within_top None d e h = omega arith
+within_top (Some x) d e h = let low = h x refl in grind (arith, nat_tests)
+
+pub count_top : (ds : ℕ → Option ℕ) (n d e : ℕ) → ((m s : ℕ) → m < n → ds m ≡ Some s → s ≤ d) → minutes_within ds e n ≤ minutes_within ds d n
+count_top ds zero d e h = omega arith
+count_top ds (suc n) d e h =
+    let rest = count_top ds n d e (λ m s l. h m s (omega (arith, l))) in
+    let head = within_top (ds n) d e (λ s. h n s (omega arith)) in
+    omega (arith, rest, head)
+
+pub attains_top : (ds : ℕ → Option ℕ) (n share d e : ℕ) → ((m s : ℕ) → m < n → ds m ≡ Some s → s ≤ d) → Attains ds n share e → Attains ds n share d
+attains_top ds n share d e h a = let m = count_top ds n d e h in omega (arith, m, a)
+
+pub cells_more : (t : Times) (share : ℕ) (cs : List (Option ℕ)) (c : Option ℕ) (n : ℕ) → length cs ≡ n → ((p : ℕ) → p < n → IsCell t share p (get_or cs p None)) → IsCell t share n c → (p : ℕ) → p < n + 1 → IsCell t share p (get_or (cs ++ c ∷ []) p None)
+cells_more t share cs c n same before last p h = elim (cases_lt p n) [
+  | inl l ↦ subst (λ (o : Option ℕ). IsCell t share p o) (sym (get_or-append cs (c ∷ []) None p (let k : p < length cs = omega (arith, l, same) in k))) (before p l)
+  | inr g ↦
+      let here : length cs ≡ p = omega (arith, h, g, same) in
+      let there : n ≡ p = omega (arith, h, g) in
+      let row : c ≡ get_or (cs ++ c ∷ []) p None = subst (λ (k : ℕ). c ≡ get_or (cs ++ c ∷ []) k None) here (sym (get_or-append_seam cs c [] None)) in
+      subst (λ (o : Option ℕ). IsCell t share p o) row (subst (λ (k : ℕ). IsCell t share k c) there last)
+]
+
+-- one more minute, whose label is looked at
+pub count_next : (ds : ℕ → Option ℕ) (d n x : ℕ) → d < NEVER → ds n ≡ known_of x → minutes_within ds d (n + 1) ≡ minutes_within ds d n + (if nat_le x d then 1 else 0)
+count_next ds d n x l e =
+    let one : n + 1 ≡ suc n = omega arith in
+    rw (one, e, within_label x d l) refl
+
+-- minutes that are alike count alike
+pub count_alike : (some others : ℕ → Option ℕ) (d n : ℕ) → ((m : ℕ) → m < n → some m ≡ others m) → minutes_within some d n ≡ minutes_within others d n
+count_alike some others d zero h = refl
+count_alike some others d (suc n) h = rw (h n (omega arith), count_alike some others d n (λ m l. h m (omega (arith, l)))) refl
+
+pub cell_alike : (some others : ℕ → Option ℕ) (n share : ℕ) (c : Option ℕ) → ((m : ℕ) → m < n → some m ≡ others m) → IsLeastOrNone (Attains some n share) c → IsLeastOrNone (Attains others n share) c
+cell_alike some others n share None h is = λ d a. is d (rw (count_alike some others d n h) a)
+cell_alike some others n share (Some c) h is =
+    record {
+      holds = rw (← count_alike some others c n h) is.holds;
+      least = λ d a. is.least d (rw (count_alike some others d n h) a);
+    }
+
+-- a duration that is known lies below NEVER
+pub known_below : (x s : ℕ) → x ≤ NEVER → known_of x ≡ Some s → s ≤ 4294967294
+known_below x s h is = elim (cases_eq x NEVER) [
+  | inl e ↦ let none : None ≡ Some s = subst (λ (y : ℕ). known_of y ≡ Some s) e is in absurd (grind (arith, none))
+  | inr d ↦
+      let some : Some x ≡ Some s = subst (λ (b : Bool). (if b then None else Some x) ≡ Some s) (differs x d) is in
+      let same : x ≡ s = ap (λ (o : Option ℕ). unwrap_or o 0) some in
+      grind (arith, same, d, h)
+]

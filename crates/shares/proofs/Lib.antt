@@ -1,0 +1,2 @@
+mod Attaining
+mod Summing

@@ -1,0 +1,39 @@
+use Rattle.std.proofs.Common.{◌≡◌, ◌≤◌, ◌+◌, ◌-◌, ◌/◌, ℕ, arith, inl, inr, length, slice_index, subst, IsTrue, false, ◌↔◌}
+use Rattle.std.proofs.lemmas.Bool.{cases_lt}
+use Rattle.shares.specs.Percentiles.{Attains}
+use Rattle.rounds.specs.Table.{known_of}
+use Rattle.shares.proofs.Attaining.{attains_more, attains_top, known_below}
+use Rattle.shares.proofs.percentiles.least_attained.Goals as goal
+
+pub loop-low-preserved : goal.loop-low-preserved
+loop-low-preserved c = record {
+  order = omega (arith, c.loop-low-test.true);
+  top = c.loop-low.invariant.top;
+  below = λ d h a.
+      let middle = c.loop-low.low + (c.loop-low.high - c.loop-low.low) / 2 in
+      let low : d ≤ middle = omega (arith, h) in
+      let more = attains_more (λ m. known_of (slice_index c.args.labels.now m)) (length c.args.labels.now) c.args.share d middle low a in
+      let is : IsTrue false ↔ Attains (λ m. known_of (slice_index c.args.labels.now m)) (length c.args.labels.now) c.args.share middle = c.if-attains.ensures in
+      let wrong : IsTrue false = is.1 more in
+      absurd (grind (arith, wrong));
+  above = c.loop-low.invariant.above;
+}
+
+pub returns-then-low-lt-NEVER : goal.returns-then-low-lt-NEVER
+returns-then-low-lt-NEVER c =
+    let same : c.loop-low.high ≡ c.loop-low.low = omega (arith, c.loop-low-test.false, c.loop-low.invariant.order) in
+    record {
+      holds = subst (λ (k : ℕ). Attains (λ m. known_of (slice_index c.args.labels.now m)) (length c.args.labels.now) c.args.share k) same (c.loop-low.invariant.above (omega (arith, same, c.if-low-lt-NEVER.true)));
+      least = λ e a. elim (cases_lt e c.loop-low.low) [
+        | inl l ↦ absurd (c.loop-low.invariant.below e l a)
+        | inr g ↦ g
+      ];
+    }
+
+pub returns-else-low-lt-NEVER : goal.returns-else-low-lt-NEVER
+returns-else-low-lt-NEVER c = λ e a. elim (cases_lt e c.loop-low.low) [
+  | inl l ↦ c.loop-low.invariant.below e l a
+  | inr g ↦
+      let top = attains_top (λ m. known_of (slice_index c.args.labels.now m)) (length c.args.labels.now) c.args.share 4294967294 e (λ m s l is. known_below _ s (c.in_range.ensures m) is) a in
+      c.loop-low.invariant.below 4294967294 (omega (arith, c.if-low-lt-NEVER.false)) top
+]

@@ -1,0 +1,27 @@
+-- A cell: the least duration that a share of a window's minutes attains (the nearest-rank percentile of their durations,
+-- where a minute without a journey has none, and so lies beyond all).
+use Rattle.std.specs.Prelude.{◌≡◌, ◌<◌, ◌≤◌, ◌+◌, ◌*◌, ℕ, zero, suc, Bool, false, List, Option, Some, None, length, slice_index_or, nat_le, if◌then◌else◌}
+use Rattle.rounds.specs.Table.{Times, at, IsLeastOrNone}
+
+-- a minute without a duration has none that is at most d
+abbrev pub is_within : ℕ → Option ℕ → Bool
+is_within d None = false
+is_within d (Some x) = nat_le x d
+
+-- in how many of the first n minutes the duration is at most d
+abbrev pub minutes_within : (ℕ → Option ℕ) → ℕ → ℕ → ℕ
+minutes_within of_minute d zero = 0
+minutes_within of_minute d (suc n) = minutes_within of_minute d n + (if is_within d (of_minute n) then 1 else 0)
+
+-- so many of a hundred of the n minutes have a duration at most d
+abbrev pub Attains : (ℕ → Option ℕ) → ℕ → ℕ → ℕ → Type 0
+Attains of_minute n share d = share * n ≤ 100 * minutes_within of_minute d n
+
+-- the cell is the least duration that attains the share, or none where none does
+abbrev pub IsCell : Times → ℕ → ℕ → Option ℕ → Type 0
+IsCell t share p cell = IsLeastOrNone (Attains (λ m. at t p m) t.minutes share) cell
+
+-- one cell per stop
+pub record AreCells (t : Times) (share : ℕ) (cells : List (Option ℕ)) : Type 0 where
+  pub stops : length cells ≡ t.stops
+  pub each : (p : ℕ) → p < t.stops → IsCell t share p (slice_index_or cells p None)

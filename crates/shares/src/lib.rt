@@ -1,0 +1,17 @@
+//! Shares: what a window's durations come to, as one cell per stop and as one sum of opportunities.
+//! A cell is the least duration that a share of the minutes attains; access is the sum of the opportunities
+//! at the stops whose cell is within a limit.
+//!
+//! - `percentiles`: [`cell`] and [`cells`].
+//! - `opportunities`: [`access`], over the cells of all stops.
+//!
+//! What a share attains, and what counts as access, stands in `specs/` (`Percentiles`, `Opportunities`).
+#![tactic(auto)]
+
+mod opportunities;
+mod percentiles;
+#[cfg(test)]
+mod tests;
+
+pub use opportunities::access;
+pub use percentiles::{cell, cells};

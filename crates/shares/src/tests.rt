@@ -1,0 +1,135 @@
+//! Worked examples of cells and access.
+
+use crate::{access, cell, cells};
+use rounds::{Durations, Window, durations};
+use std::alloc::{AllocError, Global};
+use std::test::Fail;
+use timetable::{Event, Events, Feet, Network, StopNo, Trip};
+
+/// An event where everybody may board and alight.
+fn at(stop: u32, time: u32) -> Event {
+    Event {
+        stop: StopNo(stop),
+        arrive: time,
+        depart: time,
+        board: true,
+        alight: true,
+    }
+}
+
+/// A trip from a stop at a time to another stop at another time.
+fn trip(alloc: Global, from: Event, to: Event) -> Result<Trip, AllocError> {
+    let mut events = Vec::with_capacity(alloc, 2)?;
+    events.push(from)?;
+    events.push(to)?;
+    Ok(Trip {
+        route: 0,
+        name: 0,
+        events: Events::new(events),
+    })
+}
+
+/// Two trips: from stop 0 at 08:00:00 to 1 at 08:10:00, and from 1 at 08:15:00 to 2 at 08:30:00.
+fn two_trips(alloc: Global) -> Result<Option<Network>, AllocError> {
+    let mut trips = Vec::with_capacity(alloc, 2)?;
+    trips.push(trip(alloc, at(0, 28_800), at(1, 29_400))?)?;
+    trips.push(trip(alloc, at(1, 29_700), at(2, 30_600))?)?;
+    let mut lists = Vec::with_capacity(alloc, 3)?;
+    for _ in 0..3 {
+        lists.push(Vec::new(alloc))?;
+    }
+    let Some(feet) = Feet::new(alloc, 3, lists).ok() else {
+        return Ok(None);
+    };
+    Ok(Network::new(alloc, 3, trips, &feet).ok())
+}
+
+/// The durations from stop 0 with two rides, where the window fits.
+fn from_the_first_stop(
+    alloc: Global,
+    network: &Option<Network>,
+    window: Window,
+) -> Result<Option<Durations>, AllocError> {
+    if let Some(network) = network
+        && 0 < network.stops()
+        && window.fits()
+    {
+        return Ok(Some(durations(alloc, network, StopNo(0), window, 2)?));
+    }
+    Ok(None)
+}
+
+/// Whether these are the cells of a share, also one by one.
+fn are(
+    alloc: Global,
+    found: &Option<Durations>,
+    share: u32,
+    expected: &[Option<u32>],
+) -> Result<bool, AllocError> {
+    let Some(found) = found else {
+        return Ok(false);
+    };
+    if share > 100 {
+        return Ok(false);
+    }
+    for stop in 0..found.stops() {
+        if expected.get(stop as usize).copied() != Some(cell(found, StopNo(stop), share)) {
+            return Ok(false);
+        }
+    }
+    Ok(cells(alloc, found, share)?.as_slice() == expected)
+}
+
+#[test]
+fn cells_of_shares(rt: HostRuntime) -> Result<(), Fail> {
+    let alloc = rt.alloc();
+    let network = two_trips(alloc)?;
+    let early = [Some(0), Some(600), Some(1_800)];
+    let late = [Some(0), Some(1_560), Some(2_760)];
+    for (first, minutes, share, expected) in [
+        // 07:58 to 08:01, where the last minute misses the trip
+        (28_680, 4, 1, early),
+        (28_680, 4, 25, early),
+        (28_680, 4, 26, [Some(0), Some(660), Some(1_860)]),
+        (28_680, 4, 50, [Some(0), Some(660), Some(1_860)]),
+        (28_680, 4, 75, [Some(0), Some(720), Some(1_920)]),
+        (28_680, 4, 76, [Some(0), None, None]),
+        (28_680, 4, 100, [Some(0), None, None]),
+        // 07:44 to 08:00
+        (27_840, 17, 100, late),
+        (27_840, 17, 1, early),
+        // 07:28 to 08:00: the half of 33 minutes is 17 of them
+        (26_880, 33, 50, late),
+        // 08:00 alone, and 08:01 alone
+        (28_800, 1, 1, early),
+        (28_800, 1, 100, early),
+        (28_860, 1, 1, [Some(0), None, None]),
+    ] {
+        let found = from_the_first_stop(alloc, &network, Window { first, minutes })?;
+        assert!(rt;
+            are(alloc, &found, share, expected.as_slice())?,
+            "share {share} of {minutes} minutes from {first}"
+        );
+    }
+    Ok(())
+}
+
+#[test]
+fn opportunities_within_reach(rt: HostRuntime) -> Result<(), Fail> {
+    let all = [Some(0), Some(600), Some(1_800)];
+    let most = u32::MAX;
+    for (cells, opportunities, within, expected) in [
+        (all, [0, 10, 5], 1_800, 15),
+        (all, [0, 10, 5], 1_799, 10),
+        (all, [0, 10, 5], 600, 10),
+        (all, [0, 10, 5], 599, 0),
+        (all, [1, 1, 1], 0, 1),
+        ([Some(0), Some(660), Some(1_860)], [1, 1, 1], 1_800, 2),
+        ([Some(0), None, None], [1, 1, 1], most, 1),
+        (all, [most, most, most], 1_800, 12_884_901_885),
+    ] {
+        let found = access(cells.as_slice(), opportunities.as_slice(), within);
+        assert!(rt; found == expected, "within {within}: {found}");
+    }
+    Ok(())
+}
