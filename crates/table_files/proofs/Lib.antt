@@ -5,7 +5,6 @@ pub mod SortedFacts
 pub mod StampFacts
 pub mod StopFacts
 pub mod TimeFacts
-pub mod ReadingFacts
 pub mod ServiceFacts
 pub mod CalendarFacts
 pub mod CalendarDateFacts

@@ -13,7 +13,7 @@ use Rattle.table_files.specs.declared.calendar_dates.CalendarDates.{CalendarDate
 use Rattle.table_files.specs.declared.calendar_dates.ExceptionColumns.{ExceptionColumns}
 use Rattle.table_files.specs.declared.calendar_dates.ExceptionRow.{ExceptionRow}
 use Rattle.table_files.specs.Days.{adds_of, date_of, day_number}
-use Rattle.table_files.specs.Reading.{table_faults, table_rows}
+use Rattle.table_records.specs.Reading.{table_faults, table_rows}
 use Rattle.table_files.specs.Services.{named, number_in}
 
 -- what counts of a record

@@ -14,7 +14,7 @@ use Rattle.table_records.specs.declared.fault.What.TheVariants as what
 use Rattle.table_files.specs.declared.feed_trips.FeedTrips.{FeedTrips}
 use Rattle.table_files.specs.declared.feed_trips.TripColumns.{TripColumns}
 use Rattle.table_files.specs.declared.feed_trips.TripNumbers.{TripNumbers}
-use Rattle.table_files.specs.Reading.{table_faults, table_rows}
+use Rattle.table_records.specs.Reading.{table_faults, table_rows}
 use Rattle.table_files.specs.Services.{named, number_in}
 
 -- what counts of a record

@@ -5,7 +5,6 @@ pub mod Stops
 pub mod StopTimes
 pub mod Trips
 pub mod WholeTrips
-pub mod Reading
 pub mod Routes
 pub mod Services
 pub mod Days

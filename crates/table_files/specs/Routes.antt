@@ -12,7 +12,7 @@ use Rattle.table_records.specs.declared.fault.FileName.TheVariants as file
 use Rattle.table_records.specs.declared.fault.What.{What}
 use Rattle.table_records.specs.declared.fault.What.TheVariants as what
 use Rattle.table_files.specs.declared.routes.RouteColumns.{RouteColumns}
-use Rattle.table_files.specs.Reading.{table_faults, table_rows}
+use Rattle.table_records.specs.Reading.{table_faults, table_rows}
 
 -- what counts of a record
 pub record RouteRow : Type 0 where

@@ -6,11 +6,13 @@ ghost use Rattle.table_records.specs.Faults.{Tells};
 ghost use Rattle.table_files.specs.Calendar.{IsCalendar, calendar_faults, columns_of, days_of, row_at, service_rows};
 
 use crate::days::read_flag;
-use crate::reading::{RecordReader, fault_at, open_table, read_records};
 use csv::ByteRecord;
 use jiff::civil::Date;
 use std::alloc::Global;
-use table_records::{FeedFault, FileName, Identifiers, What, column, field, read_date};
+use table_records::{
+    FeedFault, FileName, Identifiers, RecordReader, What, column, field, open_table, read_date,
+    read_records,
+};
 
 /// A row of `calendar.txt`: a service runs on some weekdays, from its first date to its last, both included.
 #[derive(Clone, Copy, PartialEq, Eq)]
@@ -86,25 +88,25 @@ impl RecordReader for CalendarColumns {
         &self,
         alloc: Global,
         table: &mut Calendar,
-        at: u32,
+        at: u64,
         row: &ByteRecord,
     ) -> Result<(), FeedFault> {
         let id = field(row, self.service);
         if id.is_empty() {
-            return Err(fault_at(FileName::Calendar, at, What::EmptyId));
+            return Err(FeedFault::at(FileName::Calendar, at, What::EmptyId));
         }
         let service = table.services.len() as u32;
         if !table.services.push(alloc, id)? {
-            return Err(fault_at(FileName::Calendar, at, What::DuplicateId));
+            return Err(FeedFault::at(FileName::Calendar, at, What::DuplicateId));
         }
         let Some(days) = self.days(row) else {
-            return Err(fault_at(FileName::Calendar, at, What::BadNumber));
+            return Err(FeedFault::at(FileName::Calendar, at, What::BadNumber));
         };
         let Some(first) = read_date(field(row, self.first)) else {
-            return Err(fault_at(FileName::Calendar, at, What::BadDate));
+            return Err(FeedFault::at(FileName::Calendar, at, What::BadDate));
         };
         let Some(last) = read_date(field(row, self.last)) else {
-            return Err(fault_at(FileName::Calendar, at, What::BadDate));
+            return Err(FeedFault::at(FileName::Calendar, at, What::BadDate));
         };
         table.rows.push(CalendarRow {
             service,
@@ -223,19 +225,19 @@ SUN, 0,0,0,0,0,0,01,20260503,20260531
         let alloc = rt.alloc();
         let file = FileName::Calendar;
         let empty = first_fault(alloc, b",1,0,0,0,0,0,2,x,y\n")?;
-        assert_eq!(rt; empty, Some(fault_at(file, 2, What::EmptyId)));
+        assert_eq!(rt; empty, Some(FeedFault::at(file, 2, What::EmptyId)));
         let twice = first_fault(alloc, b"A,1,0,0,0,0,0,1,20260504,20260531\nA,2\n")?;
-        assert_eq!(rt; twice, Some(fault_at(file, 3, What::DuplicateId)));
+        assert_eq!(rt; twice, Some(FeedFault::at(file, 3, What::DuplicateId)));
         let two = first_fault(alloc, b"A,1,0,0,0,0,0,2,20260504,20260531\n")?;
-        assert_eq!(rt; two, Some(fault_at(file, 2, What::BadNumber)));
+        assert_eq!(rt; two, Some(FeedFault::at(file, 2, What::BadNumber)));
         let none = first_fault(alloc, b"A,,0,0,0,0,0,1,20260504,20260531\n")?;
-        assert_eq!(rt; none, Some(fault_at(file, 2, What::BadNumber)));
+        assert_eq!(rt; none, Some(FeedFault::at(file, 2, What::BadNumber)));
         let first = first_fault(alloc, b"A,1,0,0,0,0,0,1,20260230,20260531\n")?;
-        assert_eq!(rt; first, Some(fault_at(file, 2, What::BadDate)));
+        assert_eq!(rt; first, Some(FeedFault::at(file, 2, What::BadDate)));
         let last = first_fault(alloc, b"A,1,0,0,0,0,0,1,20260504,\n")?;
-        assert_eq!(rt; last, Some(fault_at(file, 2, What::BadDate)));
+        assert_eq!(rt; last, Some(FeedFault::at(file, 2, What::BadDate)));
         let column = read_calendar(alloc, b"service_id,monday\nA,1\n").err();
-        assert_eq!(rt; column, Some(fault_at(file, 1, What::MissingColumn)));
+        assert_eq!(rt; column, Some(FeedFault::at(file, 1, What::MissingColumn)));
         Ok(())
     }
 }

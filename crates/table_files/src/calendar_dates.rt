@@ -6,12 +6,14 @@ ghost use Rattle.table_records.specs.Faults.{Tells};
 ghost use Rattle.table_files.specs.CalendarDates.{AreExceptions, columns_of, date_rows, exception_faults};
 
 use crate::days::read_adds;
-use crate::reading::{RecordReader, fault_at, open_table, read_records};
 use crate::services::number_service;
 use csv::ByteRecord;
 use jiff::civil::Date;
 use std::alloc::Global;
-use table_records::{FeedFault, FileName, Identifiers, What, column, field, read_date};
+use table_records::{
+    FeedFault, FileName, Identifiers, RecordReader, What, column, field, open_table, read_date,
+    read_records,
+};
 
 /// A row of `calendar_dates.txt`: a date is added to a service, or removed from it.
 #[derive(Clone, Copy, PartialEq, Eq)]
@@ -61,18 +63,18 @@ impl RecordReader for ExceptionColumns {
         &self,
         alloc: Global,
         table: &mut CalendarDates,
-        at: u32,
+        at: u64,
         row: &ByteRecord,
     ) -> Result<(), FeedFault> {
         let id = field(row, self.service);
         if id.is_empty() {
-            return Err(fault_at(FileName::CalendarDates, at, What::EmptyId));
+            return Err(FeedFault::at(FileName::CalendarDates, at, What::EmptyId));
         }
         let Some(date) = read_date(field(row, self.date)) else {
-            return Err(fault_at(FileName::CalendarDates, at, What::BadDate));
+            return Err(FeedFault::at(FileName::CalendarDates, at, What::BadDate));
         };
         let Some(adds) = read_adds(field(row, self.kind)) else {
-            return Err(fault_at(FileName::CalendarDates, at, What::BadNumber));
+            return Err(FeedFault::at(FileName::CalendarDates, at, What::BadNumber));
         };
         let service = number_service(alloc, &mut table.services, id)?;
         table.rows.push(ExceptionRow {
@@ -165,15 +167,15 @@ mod tests {
         let alloc = rt.alloc();
         let file = FileName::CalendarDates;
         let empty = first_fault(alloc, b"service_id,date,exception_type\n,x,3\n");
-        assert_eq!(rt; empty, Some(fault_at(file, 2, What::EmptyId)));
+        assert_eq!(rt; empty, Some(FeedFault::at(file, 2, What::EmptyId)));
         let date = first_fault(alloc, b"service_id,date,exception_type\nA,20260431,3\n");
-        assert_eq!(rt; date, Some(fault_at(file, 2, What::BadDate)));
+        assert_eq!(rt; date, Some(FeedFault::at(file, 2, What::BadDate)));
         let kind = first_fault(
             alloc,
             b"service_id,date,exception_type\nA,20260430,1\nA,20260430,3\n",
         );
-        assert_eq!(rt; kind, Some(fault_at(file, 3, What::BadNumber)));
+        assert_eq!(rt; kind, Some(FeedFault::at(file, 3, What::BadNumber)));
         let column = first_fault(alloc, b"service_id,date\nA,20260430\n");
-        assert_eq!(rt; column, Some(fault_at(file, 1, What::MissingColumn)));
+        assert_eq!(rt; column, Some(FeedFault::at(file, 1, What::MissingColumn)));
     }
 }

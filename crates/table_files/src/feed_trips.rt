@@ -5,14 +5,15 @@ ghost use Rattle.csv.specs.Records.{fields_of};
 ghost use Rattle.table_records.specs.Faults.{Tells};
 ghost use Rattle.table_files.specs.FeedTrips.{AreTrips, columns_of, trip_faults, trip_rows};
 
-use crate::reading::{RecordReader, fault_at, open_table, read_records};
 use crate::services::number_service;
 use csv::ByteRecord;
 use std::alloc::Global;
-use table_records::{FeedFault, FileName, Identifiers, What, column, field};
+use table_records::{
+    FeedFault, FileName, Identifiers, RecordReader, What, column, field, open_table, read_records,
+};
 
 /// The most trips of a feed.
-pub const MOST_TRIPS: u32 = 1_000_000;
+pub const MOST_TRIPS: u64 = 1_000_000;
 
 /// The numbers of a trip's route and service.
 #[derive(Clone, Copy, Debug, PartialEq, Eq)]
@@ -69,29 +70,29 @@ impl<'a> RecordReader for TripReader<'a> {
         &self,
         alloc: Global,
         table: &mut FeedTrips,
-        at: u32,
+        at: u64,
         row: &ByteRecord,
     ) -> Result<(), FeedFault> {
         if at > MOST_TRIPS + 1 {
-            return Err(fault_at(FileName::Trips, at, What::TooMany));
+            return Err(FeedFault::at(FileName::Trips, at, What::TooMany));
         }
         let route = field(row, self.columns.route);
         if route.is_empty() {
-            return Err(fault_at(FileName::Trips, at, What::EmptyId));
+            return Err(FeedFault::at(FileName::Trips, at, What::EmptyId));
         }
         let Some(route) = self.routes.number(route) else {
-            return Err(fault_at(FileName::Trips, at, What::UnknownRoute));
+            return Err(FeedFault::at(FileName::Trips, at, What::UnknownRoute));
         };
         let service = field(row, self.columns.service);
         if service.is_empty() {
-            return Err(fault_at(FileName::Trips, at, What::EmptyId));
+            return Err(FeedFault::at(FileName::Trips, at, What::EmptyId));
         }
         let id = field(row, self.columns.id);
         if id.is_empty() {
-            return Err(fault_at(FileName::Trips, at, What::EmptyId));
+            return Err(FeedFault::at(FileName::Trips, at, What::EmptyId));
         }
         if !table.ids.push(alloc, id)? {
-            return Err(fault_at(FileName::Trips, at, What::DuplicateId));
+            return Err(FeedFault::at(FileName::Trips, at, What::DuplicateId));
         }
         let service = number_service(alloc, &mut table.services, service)?;
         table.numbers.push(TripNumbers {
@@ -202,7 +203,7 @@ mod tests {
             Identifiers::new(alloc),
         )
         .err();
-        assert_eq!(rt; route, Some(fault_at(file, 3, What::UnknownRoute)));
+        assert_eq!(rt; route, Some(FeedFault::at(file, 3, What::UnknownRoute)));
         let twice = read_feed_trips(
             alloc,
             b"route_id,service_id,trip_id\nR1,MON,T1\nR1,MON,T1\n",
@@ -210,7 +211,7 @@ mod tests {
             Identifiers::new(alloc),
         )
         .err();
-        assert_eq!(rt; twice, Some(fault_at(file, 3, What::DuplicateId)));
+        assert_eq!(rt; twice, Some(FeedFault::at(file, 3, What::DuplicateId)));
         let service = read_feed_trips(
             alloc,
             b"route_id,service_id,trip_id\nR1,,T1\n",
@@ -218,7 +219,7 @@ mod tests {
             Identifiers::new(alloc),
         )
         .err();
-        assert_eq!(rt; service, Some(fault_at(file, 2, What::EmptyId)));
+        assert_eq!(rt; service, Some(FeedFault::at(file, 2, What::EmptyId)));
         let trip = read_feed_trips(
             alloc,
             b"route_id,service_id,trip_id\nR1,MON,\n",
@@ -226,7 +227,7 @@ mod tests {
             Identifiers::new(alloc),
         )
         .err();
-        assert_eq!(rt; trip, Some(fault_at(file, 2, What::EmptyId)));
+        assert_eq!(rt; trip, Some(FeedFault::at(file, 2, What::EmptyId)));
         let column = read_feed_trips(
             alloc,
             b"route_id,trip_id\nR1,T1\n",
@@ -234,7 +235,7 @@ mod tests {
             Identifiers::new(alloc),
         )
         .err();
-        assert_eq!(rt; column, Some(fault_at(file, 1, What::MissingColumn)));
+        assert_eq!(rt; column, Some(FeedFault::at(file, 1, What::MissingColumn)));
         Ok(())
     }
 }

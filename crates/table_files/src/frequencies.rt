@@ -9,11 +9,11 @@ ghost use Rattle.table_records.specs.Fields.{trimmed};
 ghost use Rattle.table_files.specs.declared.frequencies.Departures.{Departures};
 ghost use Rattle.table_files.specs.Frequencies.{columns_of, departures_by_trip, frequency_faults, frequency_rows, headway_of};
 
-use crate::reading::{RecordReader, fault_at, open_table, read_records};
 use csv::ByteRecord;
 use std::alloc::{AllocError, Global};
 use table_records::{
-    FeedFault, FileName, Identifiers, What, column, field, number, read_time, trim,
+    FeedFault, FileName, Identifiers, RecordReader, What, column, field, number, open_table,
+    read_records, read_time, trim,
 };
 
 /// A row of `frequencies.txt`: a trip departs at its start and every headway after it, as long as that is before its end.
@@ -89,24 +89,24 @@ impl<'a> RecordReader for FrequencyReader<'a> {
         &self,
         _alloc: Global,
         table: &mut Vec<Vec<Departures>>,
-        at: u32,
+        at: u64,
         row: &ByteRecord,
     ) -> Result<(), FeedFault> {
         let trip = field(row, self.columns.trip);
         if trip.is_empty() {
-            return Err(fault_at(FileName::Frequencies, at, What::EmptyId));
+            return Err(FeedFault::at(FileName::Frequencies, at, What::EmptyId));
         }
         let Some(trip) = self.trips.number(trip) else {
-            return Err(fault_at(FileName::Frequencies, at, What::UnknownTrip));
+            return Err(FeedFault::at(FileName::Frequencies, at, What::UnknownTrip));
         };
         let Some(start) = read_time(field(row, self.columns.start)) else {
-            return Err(fault_at(FileName::Frequencies, at, What::BadTime));
+            return Err(FeedFault::at(FileName::Frequencies, at, What::BadTime));
         };
         let Some(end) = read_time(field(row, self.columns.end)) else {
-            return Err(fault_at(FileName::Frequencies, at, What::BadTime));
+            return Err(FeedFault::at(FileName::Frequencies, at, What::BadTime));
         };
         let Some(headway) = read_headway(field(row, self.columns.headway)) else {
-            return Err(fault_at(FileName::Frequencies, at, What::BadNumber));
+            return Err(FeedFault::at(FileName::Frequencies, at, What::BadNumber));
         };
         add_row(
             table,
@@ -220,42 +220,42 @@ mod tests {
             &trips,
         )
         .err();
-        assert_eq!(rt; headway, Some(fault_at(file, 2, What::BadNumber)));
+        assert_eq!(rt; headway, Some(FeedFault::at(file, 2, What::BadNumber)));
         let trip = read_frequencies(
             alloc,
             b"trip_id,start_time,end_time,headway_secs\nT9,,,\n",
             &trips,
         )
         .err();
-        assert_eq!(rt; trip, Some(fault_at(file, 2, What::UnknownTrip)));
+        assert_eq!(rt; trip, Some(FeedFault::at(file, 2, What::UnknownTrip)));
         let empty = read_frequencies(
             alloc,
             b"trip_id,start_time,end_time,headway_secs\nT1,08:00:00,08:20:00,1\n,,,\n",
             &trips,
         )
         .err();
-        assert_eq!(rt; empty, Some(fault_at(file, 3, What::EmptyId)));
+        assert_eq!(rt; empty, Some(FeedFault::at(file, 3, What::EmptyId)));
         let start = read_frequencies(
             alloc,
             b"trip_id,start_time,end_time,headway_secs\nT1,,08:20:00,1\n",
             &trips,
         )
         .err();
-        assert_eq!(rt; start, Some(fault_at(file, 2, What::BadTime)));
+        assert_eq!(rt; start, Some(FeedFault::at(file, 2, What::BadTime)));
         let end = read_frequencies(
             alloc,
             b"trip_id,start_time,end_time,headway_secs\nT1,08:00:00,168:00:00,1\n",
             &trips,
         )
         .err();
-        assert_eq!(rt; end, Some(fault_at(file, 2, What::BadTime)));
+        assert_eq!(rt; end, Some(FeedFault::at(file, 2, What::BadTime)));
         let column = read_frequencies(
             alloc,
             b"trip_id,start_time,end_time\nT1,08:00:00,08:20:00\n",
             &trips,
         )
         .err();
-        assert_eq!(rt; column, Some(fault_at(file, 1, What::MissingColumn)));
+        assert_eq!(rt; column, Some(FeedFault::at(file, 1, What::MissingColumn)));
         Ok(())
     }
 }

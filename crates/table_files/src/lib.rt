@@ -7,7 +7,7 @@
 //! - [`read_routes`], [`read_calendar`], [`read_calendar_dates`] and [`read_frequencies`] give the rows of those files, and
 //!   [`read_feed_trips`] the trips with their routes and services. The feed doesn't use them yet.
 //!
-//! `reading` is what the latter share: a header with its required columns, and then record by record.
+//! The latter read with `table_records`' `RecordReader`: a header with its required columns, and then record by record.
 //! Beside the readers stand `columns` (where the fields of a record stand), `stamps` (the records of one
 //! trip, in order) and `whole_trips` (what is checked once all records of a trip are known).
 //! `specs/` has one module per file, with its checks in their order.
@@ -20,7 +20,6 @@ mod days;
 mod feed_trips;
 mod frequencies;
 mod order;
-mod reading;
 mod routes;
 mod services;
 mod stamps;

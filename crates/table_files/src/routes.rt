@@ -5,10 +5,11 @@ ghost use Rattle.csv.specs.Records.{fields_of};
 ghost use Rattle.table_records.specs.Faults.{Tells};
 ghost use Rattle.table_files.specs.Routes.{columns_of, route_faults, route_ids};
 
-use crate::reading::{RecordReader, fault_at, open_table, read_records};
 use csv::ByteRecord;
 use std::alloc::Global;
-use table_records::{FeedFault, FileName, Identifiers, What, column, field};
+use table_records::{
+    FeedFault, FileName, Identifiers, RecordReader, What, column, field, open_table, read_records,
+};
 
 /// The columns of `routes.txt` that are read.
 #[derive(Clone, Copy, Debug, PartialEq, Eq)]
@@ -39,15 +40,15 @@ impl RecordReader for RouteColumns {
         &self,
         alloc: Global,
         table: &mut Identifiers,
-        at: u32,
+        at: u64,
         row: &ByteRecord,
     ) -> Result<(), FeedFault> {
         let id = field(row, self.id);
         if id.is_empty() {
-            return Err(fault_at(FileName::Routes, at, What::EmptyId));
+            return Err(FeedFault::at(FileName::Routes, at, What::EmptyId));
         }
         if !table.push(alloc, id)? {
-            return Err(fault_at(FileName::Routes, at, What::DuplicateId));
+            return Err(FeedFault::at(FileName::Routes, at, What::DuplicateId));
         }
         Ok(())
     }
@@ -103,19 +104,22 @@ mod tests {
         let twice = read_routes(rt.alloc(), b"route_id\nR1\nR1\n").err();
         assert_eq!(rt;
             twice,
-            Some(fault_at(FileName::Routes, 3, What::DuplicateId))
+            Some(FeedFault::at(FileName::Routes, 3, What::DuplicateId))
         );
         let empty = read_routes(rt.alloc(), b"route_id,route_type\nR1,3\n,3\n").err();
-        assert_eq!(rt; empty, Some(fault_at(FileName::Routes, 3, What::EmptyId)));
+        assert_eq!(rt;
+            empty,
+            Some(FeedFault::at(FileName::Routes, 3, What::EmptyId))
+        );
         let column = read_routes(rt.alloc(), b"route\nR1\n").err();
         assert_eq!(rt;
             column,
-            Some(fault_at(FileName::Routes, 1, What::MissingColumn))
+            Some(FeedFault::at(FileName::Routes, 1, What::MissingColumn))
         );
         let nothing = read_routes(rt.alloc(), b"").err();
         assert_eq!(rt;
             nothing,
-            Some(fault_at(FileName::Routes, 1, What::MissingColumn))
+            Some(FeedFault::at(FileName::Routes, 1, What::MissingColumn))
         );
     }
 }

@@ -4,3 +4,4 @@ pub mod Trims
 pub mod Dates
 pub mod FieldFacts
 pub mod FaultFacts
+pub mod ReadingFacts

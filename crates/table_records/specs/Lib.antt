@@ -3,3 +3,4 @@ pub mod Left
 pub mod Fields
 pub mod Columns
 pub mod Faults
+pub mod Reading

@@ -6,6 +6,8 @@
 //! - `columns`: [`column`] finds a column in the header, [`field`] its text in a record.
 //! - `fields`: [`trim`], [`number`], [`read_time`] and [`read_date`] give texts their values.
 //! - `identifiers`: [`Identifiers`] numbers stops, routes, trips and services.
+//! - `reading`: [`open_table`] reads a header with its required columns, and [`read_records`] record after record by a
+//!   [`RecordReader`], up to the first fault.
 //! - `fault`: [`FeedFault`] says what is wrong ([`What`]), in which file and record.
 //!
 //! The rules are those of the GTFS Schedule reference ("File requirements" and "Field types"),
@@ -17,6 +19,7 @@ mod columns;
 mod fault;
 mod fields;
 mod identifiers;
+mod reading;
 mod rows;
 #[cfg(test)]
 mod tests;
@@ -25,4 +28,5 @@ pub use columns::{column, field};
 pub use fault::{FeedFault, FileName, What};
 pub use fields::{number, read_date, read_time, trim};
 pub use identifiers::Identifiers;
+pub use reading::{OpenTable, RecordReader, open_table, read_records};
 pub use rows::Rows;

@@ -4,7 +4,7 @@ use Rattle.table_records.specs.Table.{records_of}
 use Rattle.table_records.specs.declared.fault.FileName.TheVariants as file
 use Rattle.table_files.specs.Frequencies.{checks, required, row_of}
 use Rattle.table_files.proofs.FrequencyFacts.{all_listed}
-use Rattle.table_files.proofs.ReadingFacts.{headed}
+use Rattle.table_records.proofs.ReadingFacts.{headed}
 use Rattle.table_files.proofs.frequencies.read_frequencies.Goals as goal
 
 pub returns-clause-good : goal.returns-clause-good

@@ -9,11 +9,13 @@ ghost use Rattle.table_records.specs.Table.{records_of};
 ghost use Rattle.table_records.specs.declared.fault.FileName.{FileName};
 ghost use Rattle.table_records.specs.declared.fault.What.{What};
 ghost use Rattle.table_records.specs.declared.fault.What.TheVariants.{Memory};
-ghost use Rattle.table_files.specs.Reading.{lacks_column, missing_column};
+ghost use Rattle.table_records.specs.Reading.{lacks_column, missing_column};
 
+use crate::columns::column;
+use crate::fault::{FeedFault, FileName, What};
+use crate::rows::Rows;
 use csv::ByteRecord;
 use std::alloc::Global;
-use table_records::{FeedFault, FileName, Rows, What, column};
 
 /// A reader of one file's records: the columns of its header, and what its records are checked against.
 pub trait RecordReader {
@@ -42,7 +44,7 @@ pub trait RecordReader {
         &self,
         alloc: Global,
         table: &mut Self::Table,
-        at: u32,
+        at: u64,
         row: &ByteRecord,
     ) -> Result<(), FeedFault>
         requires few { at < 2 ^ 31 }
@@ -53,17 +55,6 @@ pub trait RecordReader {
         ensures room { IfOk result (λ _. HasRoom self.now table.new (at + 1)) }
         ensures fault { IfErr result (λ e. (start : Self.Table) (before : List Row) → at ≡ length before + 2 → After self.now start before table.old
             → Tells e (faults_at file (checks self.now) before (row_of self.now (fields_of row.now)))) };
-}
-
-/// A fault of the record with this number.
-pub fn fault_at(file: FileName, at: u32, what: What) -> FeedFault
-    ensures { result ≡ record { file = file; at = at; what = what } }
-{
-    FeedFault {
-        file,
-        at: at as u64,
-        what,
-    }
 }
 
 /// Reads all records that are left, in order, up to the first fault.
@@ -82,7 +73,7 @@ pub fn read_records<R: RecordReader>(
     ensures fault { IfErr result (λ e. Tells e (faults_after R.file (R.checks reader.now) [] (map (R.row_of reader.now) rows.old))) }
 {
     let mut row = ByteRecord::new(alloc);
-    let mut at: u32 = 2;
+    let mut at: u64 = 2;
     while rows.next(&mut row)? {
         reader.add(alloc, table, at, &row)?;
         at += 1;
@@ -121,10 +112,10 @@ pub fn open_table<'a>(
     let mut rows = Rows::new(alloc, bytes);
     let mut header = ByteRecord::new(alloc);
     if !rows.next(&mut header)? {
-        return Err(fault_at(file, 1, What::MissingColumn));
+        return Err(FeedFault::at(file, 1, What::MissingColumn));
     }
     if lacks_one(&header, required) {
-        return Err(fault_at(file, 1, What::MissingColumn));
+        return Err(FeedFault::at(file, 1, What::MissingColumn));
     }
     Ok(OpenTable { header, rows })
 }

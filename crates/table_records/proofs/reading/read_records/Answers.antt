@@ -2,8 +2,8 @@ use Rattle.std.proofs.Common.{map, arith, refl}
 use Rattle.std.proofs.lemmas.Result.{err_from_is_err_and}
 use Rattle.csv.specs.Records.{fields_of}
 use Rattle.table_records.proofs.FaultFacts.{faults_told, given_row}
-use Rattle.table_files.proofs.ReadingFacts.{one_left}
-use Rattle.table_files.proofs.reading.read_records.Goals as goal
+use Rattle.table_records.proofs.ReadingFacts.{one_left}
+use Rattle.table_records.proofs.reading.read_records.Goals as goal
 
 pub add-requires-clause-few : goal.add-requires-clause-few
 add-requires-clause-few g c =

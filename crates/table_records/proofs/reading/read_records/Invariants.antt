@@ -1,6 +1,6 @@
 use Rattle.std.proofs.Common.{◌≡◌, ◌+◌, ◌++◌, [], List, length, map}
 use Rattle.table_records.specs.Faults.{faults_after}
-use Rattle.table_files.proofs.reading.read_records.Given as goal
+use Rattle.table_records.proofs.reading.read_records.Given as goal
 
 abbrev pub invariant-loop-row : goal.invariant-loop-row
 invariant-loop-row g l =

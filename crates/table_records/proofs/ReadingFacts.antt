@@ -15,7 +15,7 @@ use Rattle.table_records.specs.declared.fault.FeedFault.{FeedFault}
 use Rattle.table_records.specs.declared.fault.FileName.{FileName}
 use Rattle.table_records.specs.declared.fault.What.{What}
 use Rattle.table_records.specs.declared.fault.What.TheVariants as what
-use Rattle.table_files.specs.Reading.{lacks_column, missing_column, table_faults, table_rows}
+use Rattle.table_records.specs.Reading.{lacks_column, missing_column, table_faults, table_rows}
 
 -- a record that was given was among those left
 pub one_left : (rows rest : List (List (List ℕ))) (found : Bool) (fields : List (List ℕ)) → found ≡ true → Gives rows found fields rest
