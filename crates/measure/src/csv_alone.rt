@@ -6,7 +6,7 @@ use std::alloc::{AllocError, Global};
 
 /// Goes over the records of all files and gives the number of `stop_times.txt`'s, its header not
 /// counted.
-pub fn count_feed(alloc: Global, feed: &FeedBytes<'_>) -> Result<u64, AllocError> {
+pub(crate) fn count_feed(alloc: Global, feed: &FeedBytes<'_>) -> Result<u64, AllocError> {
     let others = [
         feed.stops,
         feed.routes,

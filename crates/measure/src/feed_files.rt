@@ -19,7 +19,7 @@ pub struct FeedFiles {
 
 impl FeedFiles {
     /// Reads the files of an unpacked feed.
-    pub fn read(rt: &HostRuntime, folder: &str) -> io::Result<FeedFiles> {
+    pub(crate) fn read(rt: &HostRuntime, folder: &str) -> io::Result<FeedFiles> {
         Ok(FeedFiles {
             stops: read_file(rt, folder, "stops.txt")?,
             routes: read_file(rt, folder, "routes.txt")?,
@@ -33,7 +33,7 @@ impl FeedFiles {
     }
 
     /// The files as `read_feed` takes them.
-    pub fn bytes(&self) -> FeedBytes<'_> {
+    pub(crate) fn bytes(&self) -> FeedBytes<'_> {
         FeedBytes {
             stops: self.stops.as_deref(),
             routes: self.routes.as_deref(),

@@ -337,7 +337,7 @@ fn each_minute_of_a_window(rt: HostRuntime) -> Result<(), Fail> {
 fn an_hour_of_a_trip_every_minute(rt: HostRuntime) -> Result<(), Fail> {
     let alloc = rt.alloc();
     let network = a_line(alloc)?;
-    for minutes in [1, 15, 16, 17, 60] {
+    for minutes in [1, 15, 16, 17, 32, 60] {
         let window = Window {
             first: 21_600,
             minutes,
@@ -350,6 +350,32 @@ fn an_hour_of_a_trip_every_minute(rt: HostRuntime) -> Result<(), Fail> {
                     "{minutes} minutes: stop {stop}, minute {minute}"
                 );
             }
+        }
+    }
+    Ok(())
+}
+
+#[test]
+fn a_whole_day(rt: HostRuntime) -> Result<(), Fail> {
+    let alloc = rt.alloc();
+    let network = a_line(alloc)?;
+    // From 05:00, when the first trip leaves; the last one leaves 399 minutes later.
+    let window = Window {
+        first: 18_000,
+        minutes: 1_440,
+    };
+    let found = of_window(alloc, &network, 0, window, 1)?;
+    for minute in 0..1_440u32 {
+        for stop in [0, 1, 19] {
+            let ride = if stop == 0 || minute < 400 {
+                Some(120 * stop)
+            } else {
+                None
+            };
+            assert!(rt;
+                is_at(&found, stop, minute, ride),
+                "stop {stop}, minute {minute}"
+            );
         }
     }
     Ok(())

@@ -4,7 +4,7 @@ use crate::{access, cell, cells};
 use rounds::{Durations, Window, durations};
 use std::alloc::{AllocError, Global};
 use std::test::Fail;
-use timetable::{Event, Events, Feet, Network, StopNo, Trip};
+use timetable::{Event, Events, Feet, MOST_STOPS, Network, StopNo, Trip};
 
 /// An event where everybody may board and alight.
 fn at(stop: u32, time: u32) -> Event {
@@ -131,5 +131,79 @@ fn opportunities_within_reach(rt: HostRuntime) -> Result<(), Fail> {
         let found = access(cells.as_slice(), opportunities.as_slice(), within);
         assert!(rt; found == expected, "within {within}: {found}");
     }
+    Ok(())
+}
+
+/// 400 trips, one a minute from 05:00, along 20 stops that lie two minutes apart.
+fn a_line(alloc: Global) -> Result<Option<Network>, AllocError> {
+    let mut trips = Vec::with_capacity(alloc, 400)?;
+    for name in 0..400u32 {
+        let mut events = Vec::with_capacity(alloc, 20)?;
+        for stop in 0..20u32 {
+            events.push(at(stop, 18_000 + 60 * name + 120 * stop))?;
+        }
+        trips.push(Trip {
+            route: 0,
+            name,
+            events: Events::new(events),
+        })?;
+    }
+    let mut lists = Vec::with_capacity(alloc, 20)?;
+    for _ in 0..20 {
+        lists.push(Vec::new(alloc))?;
+    }
+    let Some(feet) = Feet::new(alloc, 20, lists).ok() else {
+        return Ok(None);
+    };
+    Ok(Network::new(alloc, 20, trips, &feet).ok())
+}
+
+/// The access, where there are as many opportunities as cells.
+fn sum_within(cells: &[Option<u32>], opportunities: &[u32], within: u32) -> Option<u64> {
+    if cells.len() == opportunities.len() && cells.len() <= MOST_STOPS {
+        return Some(access(cells, opportunities, within));
+    }
+    None
+}
+
+#[test]
+fn an_hour_of_a_trip_every_minute(rt: HostRuntime) -> Result<(), Fail> {
+    let alloc = rt.alloc();
+    let network = a_line(alloc)?;
+    let window = Window {
+        first: 21_600,
+        minutes: 60,
+    };
+    let found = from_the_first_stop(alloc, &network, window)?;
+    let mut rides = [None; 20];
+    for stop in 0..20u32 {
+        rides[stop as usize] = Some(120 * stop);
+    }
+    for share in [1, 50, 99, 100] {
+        assert!(rt;
+            are(alloc, &found, share, rides.as_slice())?,
+            "share {share}"
+        );
+    }
+    let ones = [1; 20];
+    assert_eq!(rt; sum_within(&rides, &ones, 1_200), Some(11));
+    assert_eq!(rt; sum_within(&rides, &ones, 1_199), Some(10));
+    Ok(())
+}
+
+#[test]
+fn the_greatest_opportunities_at_the_most_stops(rt: HostRuntime) -> Result<(), Fail> {
+    let alloc = rt.alloc();
+    let mut cells = Vec::with_capacity(alloc, 65_535)?;
+    let mut opportunities = Vec::with_capacity(alloc, 65_535)?;
+    for _ in 0..65_535 {
+        cells.push(Some(7_200))?;
+        opportunities.push(u32::MAX)?;
+    }
+    assert_eq!(rt;
+        sum_within(&cells, &opportunities, 7_200),
+        Some(281_470_681_677_825)
+    );
+    assert_eq!(rt; sum_within(&cells, &opportunities, 7_199), Some(0));
     Ok(())
 }

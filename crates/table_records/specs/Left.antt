@@ -1,7 +1,7 @@
 -- What a reader of a table has left to give.
-use Rattle.std.specs.Prelude.{◌≡◌, ◌⊎◌, ◌+◌, ℕ, false, List, [], length, Option, Some, None, if◌then◌else◌}
+use Rattle.std.specs.Prelude.{◌≡◌, ◌⊎◌, ◌+◌, ℕ, true, false, List, [], length, Option, Some, None, if◌then◌else◌}
 use Rattle.std.proofs.Common.{Bor}
-use Rattle.csv.specs.Reading.{Ready, default_config, has_failed, reader_config, reader_state, reader_trim, records_from, source_of}
+use Rattle.csv.specs.Reading.{Ready, default_config, has_failed, is_flexible, reader_config, reader_state, reader_trim, records_from, source_of}
 use Rattle.csv.specs.declared.parser.State.{State}
 use Rattle.csv.specs.declared.parser.State.TheVariants as st
 use Rattle.csv.specs.declared.reader.Reader.{Reader}
@@ -21,10 +21,11 @@ bytes_left r = source_of (λ s. Some s.now) r
 abbrev pub IsBetween : State → Type 0
 IsBetween s = (s ≡ st.StartRecord) ⊎ (s ≡ st.AfterCr)
 
--- a reader with the default quoting that takes each record as it is, the header too
+-- a reader with the default quoting that takes each record as it is, whatever its length, the header too
 pub record IsPlain (r : Reader (Bor (List ℕ))) : Type 0 where
   pub goes : has_failed r ≡ false
   pub trims : reader_trim r ≡ trim.None
+  pub flexible : is_flexible r ≡ true
   pub config : reader_config r ≡ default_config
   pub ready : Ready r
   pub between : IsBetween (reader_state r)

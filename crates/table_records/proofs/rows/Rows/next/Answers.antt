@@ -16,6 +16,7 @@ invariant_of-self-2 c more =
     record {
       goes = c.in-Ok.ensures.goes ∙ plain.goes;
       trims = read.3 ∙ plain.trims;
+      flexible = c.in-Ok.ensures.flexible ∙ plain.flexible;
       config = read.2 ∙ plain.config;
       ready = inl (c.in-Ok.ensures.ready plain.trims);
       between = (read_step c.self.inside.reader c.read_byte_record.new.self c.in-Ok.found (fields_of c.read_byte_record.new.row) plain read).1 found;
