@@ -1,3 +1,4 @@
 pub mod Minutes
 pub mod Table
 pub mod Window
+pub mod Laws

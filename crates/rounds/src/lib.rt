@@ -6,11 +6,13 @@
 //! - `window`: [`Window`], and [`durations`] for each of its minutes.
 //! - `table`: [`Durations`], as a window gives them.
 //! - `steps`: what trips, and walks, do to the labels of stops.
+//! - `laws`: [`durations_are_unique`], that a window has one table of durations.
 //!
 //! What a journey and a least duration are stands in `timetable`'s `specs/` (`Journeys`, `Least`), and what trips and
 //! footpaths offer to a stop in a round (`Steps`).
 #![tactic(auto)]
 
+mod laws;
 mod minutes;
 mod steps;
 mod table;
@@ -18,6 +20,7 @@ mod table;
 mod tests;
 mod window;
 
+pub use laws::durations_are_unique;
 pub use minutes::one_minute;
 pub use table::Durations;
 pub use window::{MOST_MINUTES, Window, durations};

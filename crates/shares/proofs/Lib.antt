@@ -1,2 +1,3 @@
 mod Attaining
 mod Summing
+pub mod Unique

@@ -4,14 +4,17 @@
 //!
 //! - `percentiles`: [`cell`] and [`cells`].
 //! - `opportunities`: [`access`], over the cells of all stops.
+//! - `laws`: [`cells_are_unique`], that a share of durations has one list of cells.
 //!
 //! What a share attains, and what counts as access, stands in `specs/` (`Percentiles`, `Opportunities`).
 #![tactic(auto)]
 
+mod laws;
 mod opportunities;
 mod percentiles;
 #[cfg(test)]
 mod tests;
 
+pub use laws::cells_are_unique;
 pub use opportunities::access;
 pub use percentiles::{cell, cells};

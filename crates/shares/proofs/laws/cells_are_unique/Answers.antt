@@ -1,0 +1,8 @@
+use Rattle.shares.proofs.Unique.{cell_unique, cells_unique}
+use Rattle.shares.proofs.laws.cells_are_unique.Goals as goal
+
+pub returns-clause-cell : goal.returns-clause-cell
+returns-clause-cell c = cell_unique
+
+pub returns-clause-cells : goal.returns-clause-cells
+returns-clause-cells c = cells_unique

@@ -1,0 +1,12 @@
+-- What follows for cells.
+use Rattle.std.specs.Prelude.{◌≡◌, ℕ, List, Option}
+use Rattle.rounds.specs.Table.{Times}
+use Rattle.shares.specs.Percentiles.{IsCell, AreCells}
+
+-- a law: a stop has one cell
+abbrev pub CellIsUnique : Type 0
+CellIsUnique = (t : Times) (share p : ℕ) (some other : Option ℕ) → IsCell t share p some → IsCell t share p other → some ≡ other
+
+-- a law: so all stops have one list of cells
+abbrev pub CellsAreUnique : Type 0
+CellsAreUnique = (t : Times) (share : ℕ) (some others : List (Option ℕ)) → AreCells t share some → AreCells t share others → some ≡ others

@@ -1,0 +1,5 @@
+pub mod Wide
+pub mod Seat
+pub mod NextJob
+pub mod Filled
+pub mod Unique

@@ -1,0 +1,5 @@
+pub mod Study
+pub mod Rows
+pub mod Matrices
+pub mod Jobs
+pub mod Laws

@@ -1,0 +1,115 @@
+//! Jobs, one per scenario and origin: drawn, computed, settled and handed over, one after another.
+ghost use Rattle.std.specs.Prelude.{◌≡◌, ◌+◌, ◌<◌, ◌≤◌, ◌*◌, true, false, length, IfOk, IfErr, OnOk, OnErr};
+ghost use Rattle.workers.specs.Study.{study_of, StudyFits};
+ghost use Rattle.workers.specs.Matrices.{IsMatrix, HasShape, width_of};
+ghost use Rattle.workers.specs.Jobs.{jobs_of, IsRowOfJob, DoesJob, HasNoJob, IsUnderWay, AreFilled};
+
+use crate::faults::RunFault;
+use crate::rows::row_of;
+use crate::study::Study;
+use collector::{Collector, Matrix, Row};
+use std::alloc::{AllocError, Global};
+use timetable::Network;
+use work_book::{Answer, Book};
+
+/// The matrix of a study that fits, computed by the calling thread alone.
+///
+/// `Memory` is the only refusal that comes.
+pub fn one_thread(alloc: Global, study: &Study) -> Result<Matrix, RunFault>
+    requires { StudyFits (study_of study.now) }
+    ensures matrix { IfOk result (λ matrix. IsMatrix (study_of study.now) matrix) }
+    ensures shape { IfOk result (λ matrix. HasShape (study_of study.now) matrix) }
+    ensures memory { IfErr result (λ fault. fault ≡ RunFault.Memory) }
+{
+    match filled(alloc, study) {
+        Ok(collector) => Ok(finished(study, collector)),
+        Err(_) => Err(RunFault::Memory),
+    }
+}
+
+/// The matrix of places that all have their rows.
+fn finished(study: &Study, collector: Collector) -> Matrix
+    requires fits { StudyFits (study_of study.now) }
+    requires filled { AreFilled (study_of study.now) collector }
+    ensures matrix { IsMatrix (study_of study.now) result }
+    ensures shape { HasShape (study_of study.now) result }
+{
+    match collector.finish() {
+        Ok(matrix) => matrix,
+        Err(_) => unreachable!(),
+    }
+}
+
+/// The places of a study, each with its row.
+fn filled(alloc: Global, study: &Study) -> Result<Collector, AllocError>
+    requires { StudyFits (study_of study.now) }
+    ensures { IfOk result (λ collector. AreFilled (study_of study.now) collector) }
+{
+    let scenarios = study.networks.len() as u32;
+    let origins = study.origins.len() as u32;
+    let width = width_of(study.networks);
+    let mut book = Book::new(alloc, scenarios * origins, 1, 1)?;
+    let mut collector = Collector::new(alloc, study.number, scenarios, origins, width)?;
+    do_all_jobs(alloc, study, &mut book, &mut collector)?;
+    Ok(collector)
+}
+
+/// How many stops the networks have.
+fn width_of(networks: &[Network]) -> u32
+    ensures { result ≡ width_of networks.now }
+{
+    match networks.first() {
+        Some(network) => network.stops(),
+        None => 0,
+    }
+}
+
+/// Does the jobs that are left.
+fn do_all_jobs(
+    alloc: Global,
+    study: &Study,
+    book: &mut Book,
+    collector: &mut Collector,
+) -> Result<(), AllocError>
+    requires fits { StudyFits (study_of study.now) }
+    requires way { IsUnderWay (study_of study.now) book.old collector.old }
+    ensures { OnOk result (AreFilled (study_of study.now) collector.new) }
+{
+    while do_next_job(alloc, study, book, collector)? {}
+    Ok(())
+}
+
+/// Draws the next job, computes its row, settles it, and offers the row where the book keeps it. False where no job
+/// is left.
+fn do_next_job(
+    alloc: Global,
+    study: &Study,
+    book: &mut Book,
+    collector: &mut Collector,
+) -> Result<bool, AllocError>
+    requires fits { StudyFits (study_of study.now) }
+    requires jobs { book.old.jobs ≡ jobs_of (study_of study.now) }
+    ensures done { IfOk result (λ more. more ≡ true →
+        DoesJob (study_of study.now) book.old book.new collector.old collector.new) }
+    ensures none { IfOk result (λ more. more ≡ false → HasNoJob book.old book.new collector.old collector.new) }
+    ensures err { OnErr result (collector.new ≡ collector.old) }
+{
+    let Answer::Lease(lease) = book.draw(0)? else {
+        return Ok(false);
+    };
+    let row = row_of_job(alloc, study, lease.job)?;
+    if let Answer::Kept = book.settle(0, lease.number)? {
+        collector.offer(row);
+    }
+    Ok(true)
+}
+
+/// The row of a job.
+fn row_of_job(alloc: Global, study: &Study, job: u32) -> Result<Row, AllocError>
+    requires fits { StudyFits (study_of study.now) }
+    requires job { job < jobs_of (study_of study.now) }
+    ensures { IfOk result (λ row. IsRowOfJob (study_of study.now) job row) }
+{
+    let origins = study.origins.len() as u32;
+    row_of(alloc, study, job / origins, job % origins)
+}

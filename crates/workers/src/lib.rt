@@ -1,0 +1,28 @@
+//! A study's rows, and the matrix that they make.
+//! A study asks for one row per scenario and origin; each row depends on its own scenario's network alone.
+//!
+//! - `study`: [`Study`], what is asked for.
+//! - `rows`: [`row_of`], the row of one scenario and origin.
+//! - `jobs`: [`one_thread`], the matrix, row after row.
+//! - `gates`: [`Gate`], which decides what becomes of a worker's lease, and [`Open`], which lets each be worked at.
+//! - `faults`: [`RunFault`], why a run gave no matrix.
+//! - `laws`: what follows for rows and matrices, as that a study has one matrix.
+//!
+//! What a row and a matrix are stands in `specs/` (`Rows`, `Matrices`).
+#![tactic(auto)]
+
+mod faults;
+mod gates;
+mod jobs;
+mod laws;
+mod rows;
+mod study;
+#[cfg(test)]
+mod tests;
+
+pub use faults::RunFault;
+pub use gates::{Gate, Open, Verdict};
+pub use jobs::one_thread;
+pub use laws::{matrices_are_unique, rows_are_unique, rows_depend_on_their_network};
+pub use rows::row_of;
+pub use study::{MOST_RIDES, MOST_SCENARIOS, Study};
