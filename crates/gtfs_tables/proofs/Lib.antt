@@ -1,2 +1,10 @@
-pub mod FeedFacts
+pub mod FeedTrips
+pub mod Named
+pub mod NoFaults
+pub mod Sound
 pub mod StopIds
+pub mod EventCounts
+pub mod Told
+pub mod MarkFacts
+pub mod OriginFacts
+pub mod OpportunityFacts

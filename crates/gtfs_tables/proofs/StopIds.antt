@@ -12,11 +12,11 @@ same a b e = grind (arith, bytes_eq-Decides)
 are_same : (a b : List ℕ) → bytes_eq a b ≡ true → a ≡ b
 are_same a b e = grind (arith, bytes_eq-Decides)
 
-flipped : (a b : List ℕ) → bytes_eq a b ≡ false → bytes_eq b a ≡ false
+pub flipped : (a b : List ℕ) → bytes_eq a b ≡ false → bytes_eq b a ≡ false
 flipped a b e = grind (arith, bytes_eq-Decides)
 
 -- one of some that all differ from the first
-differs : (x : List ℕ) (ids : List (List ℕ)) (s : ℕ) (id : List ℕ) → AllByRecursion (λ y. bytes_eq x y ≡ false) ids → slice_get ids s ≡ Some id → bytes_eq x id ≡ false
+pub differs : (x : List ℕ) (ids : List (List ℕ)) (s : ℕ) (id : List ℕ) → AllByRecursion (λ y. bytes_eq x y ≡ false) ids → slice_get ids s ≡ Some id → bytes_eq x id ≡ false
 differs x [] s id all e = cc e
 differs x (y ∷ ids) zero id all e = let is : y ≡ id = cc e in ap (bytes_eq x) (sym is) ∙ all.0
 differs x (y ∷ ids) (suc s) id all e = differs x ids s id all.1 e

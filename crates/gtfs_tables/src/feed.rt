@@ -1,38 +1,82 @@
-//! What a feed says, by the numbers of its stops and trips.
+//! What a feed says, by the numbers of its stops, routes, services and trips.
 
-ghost use Rattle.std.specs.Prelude.{◌≡◌, ◌<◌, Some, length, position, slice_get, option_map, IfSome};
+ghost use Rattle.std.specs.Prelude.{◌≡◌, ◌<◌, Some, length, map, position, slice_get, option_map, IfSome};
 ghost use Rattle.std.specs.Str.{bytes_eq};
-ghost use Rattle.gtfs_tables.specs.Feed.{IsFeed};
+ghost use Rattle.gtfs_tables.specs.Feed.{IsFeed, calendar_data, exception_data};
+ghost use Rattle.gtfs_tables.specs.FeedParts.{data_of};
 
+use crate::catalog::Catalog;
 use crate::trip::FeedTrip;
 use std::marker::Model;
+use table_files::{CalendarRow, ExceptionRow};
 use table_records::Identifiers;
 use timetable::StopNo;
 
-/// The data of a feed. Stops have numbers from 0 in the order of `stops.txt`, trips in the order of `trips.txt`.
+/// The data of a feed. Stops have numbers from 0 in the order of `stops.txt`, routes in that of `routes.txt`, trips in
+/// that of `trips.txt`, and services as `calendar.txt`, `calendar_dates.txt` and `trips.txt` first name them.
 #[derive(Drop)]
 pub struct Feed {
     stops: Identifiers,
+    routes: Identifiers,
+    services: Identifiers,
+    calendar: Vec<CalendarRow>,
+    exceptions: Vec<ExceptionRow>,
+    trip_ids: Identifiers,
     trips: Vec<FeedTrip>,
+    aside: u32,
 }
 
 impl Model for Feed {
-    ghost use Rattle.gtfs_tables.specs.Feed.{FeedData, IsFeed};
+    ghost use Rattle.std.specs.Prelude.{◌≡◌, map};
+    ghost use Rattle.gtfs_tables.specs.Feed.{FeedData, IsFeed, calendar_data, exception_data};
 
     ghost Value = { FeedData };
 
-    ghost view = { λ f. record { stops = f.stops; trips = f.trips.items } };
+    ghost view = { λ f. record {
+      stops = f.stops;
+      routes = f.routes;
+      services = f.services;
+      calendar = map calendar_data f.calendar.items;
+      exceptions = map exception_data f.exceptions.items;
+      trips = f.trips.items;
+      aside = f.aside;
+    } };
 
-    ghost invariant = { λ f. IsFeed (record { stops = f.stops; trips = f.trips.items }) };
+    ghost invariant = { λ f. IsFeed (record {
+      stops = f.stops;
+      routes = f.routes;
+      services = f.services;
+      calendar = map calendar_data f.calendar.items;
+      exceptions = map exception_data f.exceptions.items;
+      trips = f.trips.items;
+      aside = f.aside;
+    }) × (f.trip_ids ≡ map (λ t. t.id) f.trips.items) };
 }
 
 impl Feed {
-    /// The feed of these stops and trips.
-    pub(crate) fn new(stops: Identifiers, trips: Vec<FeedTrip>) -> Feed
-        requires { IsFeed (record { stops = stops; trips = trips.items }) }
-        ensures { result ≡ record { stops = stops; trips = trips.items } }
+    /// The feed of a catalog and its trips, of which so many were set aside.
+    pub(crate) fn new(catalog: Catalog, trips: Vec<FeedTrip>, aside: u32) -> Feed
+        requires feed { IsFeed (data_of catalog trips.items aside) }
+        requires ids { catalog.trips.ids ≡ map (λ t. t.id) trips.items }
+        ensures { result ≡ data_of catalog trips.items aside }
     {
-        Feed { stops, trips }
+        let Catalog {
+            stops,
+            routes,
+            calendar,
+            exceptions,
+            trips: listed,
+        } = catalog;
+        Feed {
+            stops,
+            routes,
+            services: listed.services,
+            calendar,
+            exceptions,
+            trip_ids: listed.ids,
+            trips,
+            aside,
+        }
     }
 
     /// What is true of every feed, for the layers above.
@@ -72,6 +116,47 @@ impl Feed {
         }
     }
 
+    /// The number of the route with an identifier, none where no route has it.
+    pub fn route_no(&self, id: &[u8]) -> Option<u32>
+        ensures { result ≡ position (bytes_eq id.now) self.now.routes }
+    {
+        match self.routes.number(id) {
+            Some(number) => Some(number as u32),
+            None => None,
+        }
+    }
+
+    /// How many services there are.
+    pub fn service_count(&self) -> u32
+        ensures { result ≡ length self.now.services }
+    {
+        self.services.len() as u32
+    }
+
+    /// The number of the service with an identifier, none where no service has it.
+    pub fn service_no(&self, id: &[u8]) -> Option<u32>
+        ensures { result ≡ position (bytes_eq id.now) self.now.services }
+    {
+        match self.services.number(id) {
+            Some(number) => Some(number as u32),
+            None => None,
+        }
+    }
+
+    /// The rows of `calendar.txt`, in file order.
+    pub fn calendar(&self) -> &[CalendarRow]
+        ensures { map calendar_data result.now ≡ self.now.calendar }
+    {
+        self.calendar.as_slice()
+    }
+
+    /// The rows of `calendar_dates.txt`, in file order.
+    pub fn exceptions(&self) -> &[ExceptionRow]
+        ensures { map exception_data result.now ≡ self.now.exceptions }
+    {
+        self.exceptions.as_slice()
+    }
+
     /// How many trips there are, at most 1,000,000.
     pub fn trip_count(&self) -> u32
         ensures { result ≡ length self.now.trips }
@@ -85,5 +170,22 @@ impl Feed {
         ensures { slice_get self.now.trips trip ≡ Some result.now }
     {
         &self.trips[trip as usize]
+    }
+
+    /// The number of the trip with an identifier, none where no trip has it.
+    pub fn trip_no(&self, id: &[u8]) -> Option<u32>
+        ensures { result ≡ position (bytes_eq id.now) (map (λ t. t.id) self.now.trips) }
+    {
+        match self.trip_ids.number(id) {
+            Some(number) => Some(number as u32),
+            None => None,
+        }
+    }
+
+    /// How many trips were set aside: a record of theirs in `stop_times.txt` names no stop. They have no events.
+    pub fn aside(&self) -> u32
+        ensures { result ≡ self.now.aside }
+    {
+        self.aside
     }
 }

@@ -1,23 +1,41 @@
 //! The tables of a GTFS feed, from the bytes of its files to the data that they state, or to their first fault.
-//! (GTFS Schedule reference: `stops.txt`, `trips.txt`, `stop_times.txt`.)
+//! (GTFS Schedule reference, the files from `stops.txt` to `frequencies.txt`.)
 //!
-//! [`read_feed`] takes the files as [`FeedBytes`] and gives a [`Feed`]: stops and trips by number, each trip a
-//! [`FeedTrip`] with its events. A refusal is a [`FeedFault`]: which file, which record, and what is wrong with it.
+//! [`read_feed`] takes the files as [`FeedBytes`] and gives a [`Feed`]: stops, routes, services and trips by number, each
+//! trip a [`FeedTrip`] with its events, and the rows of both calendars. A refusal is a [`FeedFault`]: which file, which
+//! record, and what is wrong with it.
+//!
+//! [`read_origins`] and [`read_opportunities`] read the two files of an analysis that name the feed's stops: where journeys
+//! begin, and how much there is to reach at each stop. Neither is part of GTFS, and each may be absent.
 //!
 //! `specs/Files` says what the files state and which fault comes first, `specs/Feed` what is true of every feed.
+//! `specs/Origins` and `specs/Opportunities` say the same of their files.
 //! How the single files are read is in the crate `table_files`, and how their fields are in `table_records`.
 #![tactic(auto)]
 
+mod catalog;
 mod feed;
 mod feed_bytes;
+mod named_stops;
+mod opportunities;
+mod origins;
 mod read;
 mod trip;
 
 pub use feed::Feed;
-pub use feed_bytes::FeedBytes;
+pub use feed_bytes::{FeedBytes, MOST_BYTES, file_fits};
+pub use opportunities::read_opportunities;
+pub use origins::read_origins;
 pub use read::read_feed;
-pub use table_records::{FeedFault, FileName, What, read_time};
-pub use trip::{DepartureList, Departures, FeedTrip, TripId};
+pub use table_files::{CalendarRow, Departures, ExceptionRow};
+pub use table_records::{FeedFault, FileName, What, read_date, read_time};
+pub use trip::{DepartureList, FeedTrip, TripId};
 
+#[cfg(test)]
+mod fault_tests;
+#[cfg(test)]
+mod origin_tests;
+#[cfg(test)]
+mod test_feeds;
 #[cfg(test)]
 mod tests;

@@ -1,74 +1,113 @@
 //! A feed from the bytes of its files.
 
-ghost use Rattle.std.specs.Prelude.{◌≡◌, [], length, IfOk, IfErr};
+ghost use Rattle.std.specs.Prelude.{◌≡◌, ◌≤◌, [], length, map, IfOk, IfErr};
 ghost use Rattle.table_records.specs.Faults.{Tells};
-ghost use Rattle.table_records.specs.declared.fault.What.TheVariants as what;
+ghost use Rattle.table_files.specs.WholeTrips.{AreEvents};
 ghost use Rattle.gtfs_tables.specs.Files as spec;
 
+use crate::catalog::read_catalog;
 use crate::feed::Feed;
-use crate::feed_bytes::FeedBytes;
+use crate::feed_bytes::{FeedBytes, missing};
 use crate::trip::{DepartureList, FeedTrip, TripId};
 use std::alloc::{AllocError, Global};
-use table_files::{read_stop_times, read_stops, read_trips};
-use table_records::{FeedFault, FileName, Identifiers, What};
+use table_files::{
+    Departures, FeedTrips, StopTimes, no_departures, read_frequencies, read_stop_times,
+};
+use table_records::{FeedFault, FileName, Identifiers};
 use timetable::Events;
 
 /// What the files of a feed state, or the first fault among them: by file, then by record, then by check.
 ///
-/// `stops.txt`, `trips.txt` and `stop_times.txt` are read, in this order, and must be there. Records are counted
-/// from 1 with the header, and a file that is absent has its fault at record 0. After the last record of
-/// `stop_times.txt` each trip is checked as a whole, in the order of `trips.txt`.
+/// The files are read in the order `stops.txt`, `routes.txt`, `calendar.txt`, `calendar_dates.txt`, `trips.txt`,
+/// `stop_times.txt`, `frequencies.txt`. The last may be absent, and of the two calendars one. Records are counted from 1
+/// with the header, and a file that is absent has its fault at record 0. After the last record of `stop_times.txt` each
+/// trip is checked as a whole, in the order of `trips.txt`.
 ///
-/// A record of `stop_times.txt` needs both times and a stop, and every event allows travellers to board and to alight.
+/// Each file has at most 2^30 bytes, which [`FeedBytes::fits`] tests.
 pub fn read_feed(alloc: Global, files: &FeedBytes<'_>) -> Result<Feed, FeedFault>
+    requires { spec.AreWithinLimit (spec.files_of files.now) }
     ensures good { IfOk result (λ feed. (spec.feed_faults (spec.files_of files.now) ≡ []) × (feed ≡ spec.feed_of (spec.files_of files.now))) }
     ensures fault { IfErr result (λ e. Tells e (spec.feed_faults (spec.files_of files.now))) }
 {
-    let Some(bytes) = files.stops else {
-        return Err(missing(FileName::Stops));
-    };
-    let stops = read_stops(alloc, bytes)?;
-    let Some(bytes) = files.trips else {
-        return Err(missing(FileName::Trips));
-    };
-    let trips = read_trips(alloc, bytes)?;
-    let Some(bytes) = files.stop_times else {
-        return Err(missing(FileName::StopTimes));
-    };
-    let events = read_stop_times(alloc, bytes, &trips.ids, &stops.stops)?;
-    let trips = trips_of(alloc, &trips.ids, events)?;
-    Ok(Feed::new(stops.stops, trips))
+    let catalog = read_catalog(alloc, files)?;
+    let times = times_of(alloc, files, &catalog.trips.ids, &catalog.stops)?;
+    let departures = departures_of(alloc, files, &catalog.trips.ids)?;
+    let trips = trips_of(alloc, &catalog.trips, times.trips, departures)?;
+    Ok(Feed::new(catalog, trips, times.aside))
 }
 
-// The fault of a file that is absent and must be there.
-fn missing(file: FileName) -> FeedFault
-    ensures { result ≡ record { file = file; at = 0; what = what.MissingFile } }
+// The events of each trip.
+fn times_of(
+    alloc: Global,
+    files: &FeedBytes<'_>,
+    trips: &Identifiers,
+    stops: &Identifiers,
+) -> Result<StopTimes, FeedFault>
+    requires size { spec.IsWithinLimit (spec.bytes_of files.now.stop_times) }
+    requires trips { trips.now ≡ spec.trip_ids_in (spec.files_of files.now) }
+    requires stops { stops.now ≡ spec.stops_in (spec.files_of files.now) }
+    requires few_trips { length trips.now ≤ 1000000 }
+    requires few_stops { length stops.now ≤ 65535 }
+    ensures good { IfOk result (λ t. (spec.faults_of_stop_times (spec.files_of files.now) ≡ [])
+        × (t.trips.items ≡ spec.events_in (spec.files_of files.now)) × (t.aside ≡ spec.aside_in (spec.files_of files.now))) }
+    ensures fit { IfOk result (λ t. AreEvents (length stops.now) t.trips.items) }
+    ensures few { IfOk result (λ t. t.aside ≤ length trips.now) }
+    ensures fault { IfErr result (λ e. Tells e (spec.faults_of_stop_times (spec.files_of files.now))) }
 {
-    FeedFault::at(file, 0, What::MissingFile)
+    match files.stop_times {
+        Some(bytes) => read_stop_times(alloc, bytes, trips, stops),
+        None => Err(missing(FileName::StopTimes)),
+    }
 }
 
-// The trips by their identifiers and their events.
+// The rows of `frequencies.txt` for each trip, none where the file is absent.
+fn departures_of(
+    alloc: Global,
+    files: &FeedBytes<'_>,
+    trips: &Identifiers,
+) -> Result<Vec<Vec<Departures>>, FeedFault>
+    requires size { spec.IsWithinLimit (spec.bytes_of files.now.frequencies) }
+    requires trips { trips.now ≡ spec.trip_ids_in (spec.files_of files.now) }
+    ensures good { IfOk result (λ v. (spec.faults_of_frequencies (spec.files_of files.now) ≡ [])
+        × (map (λ rows. rows.items) v.items ≡ spec.departures_in (spec.files_of files.now))) }
+    ensures fault { IfErr result (λ e. Tells e (spec.faults_of_frequencies (spec.files_of files.now))) }
+{
+    match files.frequencies {
+        Some(bytes) => read_frequencies(alloc, bytes, trips),
+        None => Ok(no_departures(alloc, trips.len())?),
+    }
+}
+
+// The trips by their identifiers, numbers, events and departures.
 fn trips_of(
     alloc: Global,
-    ids: &Identifiers,
+    trips: &FeedTrips,
     events: Vec<Events>,
+    departures: Vec<Vec<Departures>>,
 ) -> Result<Vec<FeedTrip>, AllocError>
-    requires { length events.items ≡ length ids.now }
-    ensures { IfOk result (λ v. v.items ≡ spec.trips_of ids.now events.items) }
+    requires numbers { length trips.now.numbers.items ≡ length trips.now.ids }
+    requires events { length events.items ≡ length trips.now.ids }
+    requires departures { length departures.items ≡ length trips.now.ids }
+    ensures { IfOk result (λ v. v.items ≡ spec.trips_of trips.now.ids trips.now.numbers.items events.items (map (λ rows. rows.items) departures.items)) }
 {
-    let mut trips = Vec::with_capacity(alloc, events.len())?;
+    let mut done = Vec::with_capacity(alloc, events.len())?;
+    let mut departures = departures.into_iter();
     for events in events {
-        let id = match ids.id(trips.len()) {
-            Some(id) => id,
-            None => unreachable!(),
+        let Some(id) = trips.ids.id(done.len()) else {
+            unreachable!()
         };
-        trips.push(FeedTrip {
-            route: 0,
-            service: 0,
-            id: TripId::new(Vec::from_slice(alloc, id)?),
+        let Some(rows) = departures.next() else {
+            unreachable!()
+        };
+        let numbers = trips.numbers[done.len()];
+        let id = TripId::new(Vec::from_slice(alloc, id)?);
+        done.push(FeedTrip {
+            route: numbers.route,
+            service: numbers.service,
+            id,
             events,
-            departures: DepartureList::new(Vec::new(alloc)),
+            departures: DepartureList::new(rows),
         })?;
     }
-    Ok(trips)
+    Ok(done)
 }

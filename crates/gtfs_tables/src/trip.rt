@@ -3,6 +3,7 @@
 ghost use Rattle.std.specs.Prelude.{◌≡◌};
 
 use std::marker::Model;
+use table_files::Departures;
 use timetable::Events;
 
 /// The identifier of a trip, `trip_id`. Contracts see its bytes.
@@ -35,14 +36,6 @@ impl TripId {
     }
 }
 
-/// A row of `frequencies.txt`: departures every `headway` seconds from `start` until before `end`, in seconds of the service day.
-#[derive(Clone, Copy, Debug, PartialEq, Eq)]
-pub struct Departures {
-    pub start: u32,
-    pub end: u32,
-    pub headway: u32,
-}
-
 /// The rows of `frequencies.txt` for a trip, in file order. Contracts see the list.
 #[derive(Debug, Drop)]
 pub struct DepartureList {
@@ -51,7 +44,7 @@ pub struct DepartureList {
 
 impl Model for DepartureList {
     ghost use Rattle.std.specs.Prelude.{List};
-    ghost use Rattle.gtfs_tables.specs.declared.trip.Departures.{Departures};
+    ghost use Rattle.table_files.specs.declared.frequencies.Departures.{Departures};
 
     ghost Value = { List Departures };
 
@@ -77,13 +70,13 @@ impl DepartureList {
 /// A trip of a feed.
 #[derive(Debug, Drop)]
 pub struct FeedTrip {
-    /// The number of its route. Routes are not read yet, so it is 0.
+    /// The number of its route.
     pub route: u32,
-    /// The number of its service. Services are not read yet, so it is 0.
+    /// The number of its service.
     pub service: u32,
     pub id: TripId,
     /// Its events, in ascending order of `stop_sequence`, in seconds of the service day.
     pub events: Events,
-    /// Its rows of `frequencies.txt`. They are not read yet, so there are none.
+    /// Its rows of `frequencies.txt`. A trip that has some runs only as the departures that they give.
     pub departures: DepartureList,
 }

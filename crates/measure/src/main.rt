@@ -3,14 +3,16 @@
 //! `feed_files` holds the files in memory, `csv_alone` is the yardstick, `figures` does the sums.
 #![tactic(auto)]
 
+ghost use Rattle.gtfs_tables.specs.Files.{AreWithinLimit, files_of};
+
 mod csv_alone;
 mod feed_files;
 mod figures;
 
 use feed_files::FeedFiles;
 use figures::{hundredths, millis, per_second};
-use gtfs_tables::read_feed;
-use std::time::{Duration, Instant};
+use gtfs_tables::{Feed, FeedBytes, read_feed};
+use std::time::Instant;
 use std::{env, io};
 
 fn main(rt: HostRuntime) -> io::Result<()> {
@@ -25,34 +27,46 @@ fn main(rt: HostRuntime) -> io::Result<()> {
 // Times both and prints what came out.
 fn measure(rt: &HostRuntime, folder: &str) -> io::Result<()> {
     let files = FeedFiles::read(rt, folder)?;
-    let start = Instant::now(rt)?;
-    let records = csv_alone::count_feed(rt.alloc(), &files.bytes())?;
-    let csv_time = start.elapsed(rt)?;
-
-    let start = Instant::now(rt)?;
-    let feed = read_feed(rt.alloc(), &files.bytes());
-    let feed_time = start.elapsed(rt)?;
-    match feed {
-        Ok(feed) => {
-            println!(rt; "stops: {}", feed.stop_count())?;
-            println!(rt; "trips: {}", feed.trip_count())?;
-        }
-        Err(fault) => println!(rt; "refused: {fault:?}")?,
+    let bytes = files.bytes();
+    if !bytes.fits() {
+        return println!(rt; "refused: a file is too long");
     }
+    let start = Instant::now(rt)?;
+    let records = csv_alone::count_feed(rt.alloc(), &bytes)?;
+    let csv_time = millis(start.elapsed(rt)?);
+    let feed_time = time_reading(rt, &bytes)?;
     report(rt, records, csv_time, feed_time)
 }
 
-fn report(
-    rt: &HostRuntime,
-    records: u64,
-    csv_time: Duration,
-    feed_time: Duration,
-) -> io::Result<()> {
-    let (csv_time, feed_time) = (millis(csv_time), millis(feed_time));
-    let ratio = hundredths(feed_time, csv_time);
-    println!(rt; "stop_times records: {records}")?;
-    println!(rt; "csv alone: {csv_time} ms")?;
-    println!(rt; "read_feed: {feed_time} ms")?;
-    println!(rt; "ratio: {}.{:02}", ratio / 100, ratio % 100)?;
-    println!(rt; "events per second: {}", per_second(records, feed_time))
+// The milliseconds that reading a feed takes; prints what was read.
+fn time_reading(rt: &HostRuntime, files: &FeedBytes<'_>) -> io::Result<u64>
+    requires { AreWithinLimit (files_of files.now) }
+{
+    let start = Instant::now(rt)?;
+    let feed = read_feed(rt.alloc(), files);
+    let time = millis(start.elapsed(rt)?);
+    match feed {
+        Ok(feed) => tell_sizes(rt, &feed)?,
+        Err(fault) => println!(rt; "refused: {fault:?}")?,
+    }
+    Ok(time)
+}
+
+fn tell_sizes(rt: &HostRuntime, feed: &Feed) -> io::Result<()> {
+    tell(rt, "stops", u64::from(feed.stop_count()))?;
+    tell(rt, "trips", u64::from(feed.trip_count()))
+}
+
+// Times are in milliseconds, the ratio in hundredths.
+fn report(rt: &HostRuntime, records: u64, csv_time: u64, feed_time: u64) -> io::Result<()> {
+    tell(rt, "stop_times records", records)?;
+    tell(rt, "csv alone, ms", csv_time)?;
+    tell(rt, "read_feed, ms", feed_time)?;
+    tell(rt, "ratio, hundredths", hundredths(feed_time, csv_time))?;
+    tell(rt, "events per second", per_second(records, feed_time))
+}
+
+// A line of the report.
+fn tell(rt: &HostRuntime, what: &str, figure: u64) -> io::Result<()> {
+    println!(rt; "{what}: {figure}")
 }

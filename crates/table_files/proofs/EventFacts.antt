@@ -1,114 +1,242 @@
--- The events of trips that do not go back in time.
-use Rattle.std.proofs.Common.{◌≡◌, ◌<◌, ◌≤◌, ◌+◌, ◌||◌, ◌∙◌, ℕ, zero, suc, Bool, true, false, List, [], ◌∷◌, ◌++◌, length, map, get_or, Option, Some, None, unwrap_or, arith, refl, sym, ap, if◌then◌else◌}
-use Rattle.std.proofs.lemmas.Bool.Decides.{nat_tests}
-use Rattle.std.proofs.lemmas.List.{length-map}
-use Rattle.std.proofs.lemmas.List.Elements.{All-cons, All-map, All-nil}
+-- The events of all trips, where no whole trip has a fault.
+use Rattle.std.proofs.Common.{◌≡◌, ◌<◌, ◌≤◌, ◌+◌, ◌-◌, ◌||◌, ◌∙◌, ℕ, zero, suc, Bool, true, false, List, [], ◌∷◌, ◌++◌, length, map, Option, Some, None, unwrap_or, arith, refl, sym, ap, subst, if◌then◌else◌}
+use Rattle.std.proofs.lemmas.List.Elements.{All-cons, All-nil}
 use Rattle.std.proofs.lemmas.List.Sums.{sum_by-cons}
-use Rattle.std.specs.Prelude.{All, slice_get, sum_by}
+use Rattle.std.specs.Prelude.{All, IfSome, is_none, slice_get, sum_by}
 use Rattle.timetable.specs.Trips.{EventsRise}
 use Rattle.timetable.specs.declared.trips.Event.{Event}
-use Rattle.table_files.specs.Stamps.{IsSound, IsTime}
-use Rattle.table_files.specs.WholeTrips.{AreEvents, back_faults, event_of, events_of, goes_back, is_after, records_back, whole_trip_faults}
+use Rattle.table_records.proofs.FaultFacts.{tells_more}
+use Rattle.table_records.specs.Faults.{Tells}
+use Rattle.table_records.specs.declared.fault.FeedFault.{FeedFault}
+use Rattle.table_records.specs.declared.fault.What.TheVariants.{NoTime, TimesGoBack}
+use Rattle.table_files.specs.Fill.{between, event_at, filled, nearer, nearest}
+use Rattle.table_files.specs.Stamps.{AreTimes, IsSound}
+use Rattle.table_files.specs.WholeTrips.{AreEvents, departed, events_of, faults_of, goes_back, is_aside, records_back, trip_faults, untimed, untimed_ends, whole_trip_faults}
+use Rattle.table_files.specs.declared.fill.Neighbour.{Neighbour}
 use Rattle.table_files.specs.declared.stamps.Stamp.{Stamp}
-
-neither : (a b : Bool) → (a || b) ≡ false → (a ≡ false) × (b ≡ false)
-neither true b h = cc h
-neither false b h = (refl, h)
-
-no_parts : {X : Type 0} (xs ys : List X) → xs ++ ys ≡ [] → (xs ≡ []) × (ys ≡ [])
-no_parts [] ys h = (refl, h)
-no_parts (x ∷ xs) ys h = cc h
-
-pub none_mapped : {X Y : Type 0} (f : X → Y) (xs : List X) → map f xs ≡ [] → xs ≡ []
-none_mapped f [] h = refl
-none_mapped f (x ∷ xs) h = cc h
+use Rattle.table_files.specs.declared.stamps.Times.{Times}
+use Rattle.table_files.proofs.FillFacts.{Climbs, OneIs, filled_is, filled_on, gap_within, left_at, length-filled_on, rises, step, departure_before}
 
 pub none_first : {X : Type 0} (xs : List X) → None ≡ slice_get xs 0 → xs ≡ []
 none_first [] h = refl
 none_first (x ∷ xs) h = cc h
 
--- times that are there and do not fall
-in_turn : (a b : Option ℕ) → IsTime a → IsTime b → is_after a b ≡ false → unwrap_or a 0 ≤ unwrap_or b 0
-in_turn None b (n, e, le) tb h = cc e
-in_turn (Some x) None ta (n, e, le) h = cc e
-in_turn (Some x) (Some y) ta tb h = grind (arith, nat_tests)
+no_parts : {X : Type 0} (xs ys : List X) → xs ++ ys ≡ [] → (xs ≡ []) × (ys ≡ [])
+no_parts [] ys h = (refl, h)
+no_parts (x ∷ xs) ys h = cc h
 
--- a trip that does not go back at its first event
-record Onward (last : Option ℕ) (s : Stamp) (rest : List Stamp) : Type 0 where
-  here : goes_back last s ≡ false
-  later : records_back s.depart rest ≡ []
+none_mapped : {X Y : Type 0} (f : X → Y) (xs : List X) → map f xs ≡ [] → xs ≡ []
+none_mapped f [] h = refl
+none_mapped f (x ∷ xs) h = cc h
 
-onward : (last : Option ℕ) (s : Stamp) (rest : List Stamp) → records_back last (s ∷ rest) ≡ [] → Onward last s rest
-onward last s rest h = by (goes_back last s) refl (no_parts _ _ h)
+-- the last event has a time
+abbrev LastIsTimed : List Stamp → Type 0
+LastIsTimed [] = Unit {0}
+LastIsTimed (s ∷ []) = is_none s.times ≡ false
+LastIsTimed (s ∷ t ∷ rest) = LastIsTimed (t ∷ rest)
+
+-- the first event follows a neighbour, or has a time
+abbrev FirstIsTimed : Option Neighbour → List Stamp → Type 0
+FirstIsTimed before [] = Unit {0}
+FirstIsTimed before (s ∷ rest) = OneIs s.times before
+
+is_timed : (s : Stamp) → untimed (Some s) ≡ [] → is_none s.times ≡ false
+is_timed s h = by (is_none s.times) refl h
   where
-    by : (b : Bool) → goes_back last s ≡ b → ((if b then s.at ∷ [] else []) ≡ []) × (records_back s.depart rest ≡ []) → Onward last s rest
-    by true e (first, more) = cc first
-    by false e (first, more) = record { here = e; later = more }
+    by : (b : Bool) → is_none s.times ≡ b → (if b then s.at ∷ [] else []) ≡ [] → is_none s.times ≡ false
+    by true e g = cc g
+    by false e g = e
 
-tail_sound : (n : ℕ) (s : Stamp) (rest : List Stamp) → All (IsSound n) (s ∷ rest) → All (IsSound n) rest
-tail_sound n s rest all k d lt = all (suc k) d (omega (arith, lt))
+last_timed : (stamps : List Stamp) → untimed (slice_get stamps (length stamps - 1)) ≡ [] → LastIsTimed stamps
+last_timed [] h = tt
+last_timed (s ∷ []) h = is_timed s h
+last_timed (s ∷ t ∷ rest) h =
+    let there : length (s ∷ t ∷ rest) - 1 ≡ suc (length (t ∷ rest) - 1) = omega arith in
+    last_timed (t ∷ rest) (subst (λ (k : ℕ). untimed (slice_get (s ∷ t ∷ rest) k) ≡ []) there h)
 
-stays : (n : ℕ) (last : Option ℕ) (stamps : List Stamp) → All (IsSound n) stamps → records_back last stamps ≡ [] → All (λ (e : Event). e.arrive ≤ e.depart) (events_of stamps)
-stays n last [] all h = All-nil (λ (e : Event). e.arrive ≤ e.depart)
-stays n last (s ∷ rest) all h =
-    let on = onward last s rest h in
+there : {X Y : Type 0} (o : Option X) (p : Option Y) → is_none o ≡ false → OneIs o p
+there None p h = cc h
+there (Some x) p h = tt
+
+first_timed : (stamps : List Stamp) → untimed (slice_get stamps 0) ≡ [] → FirstIsTimed None stamps
+first_timed [] h = tt
+first_timed (s ∷ rest) h = there s.times None (is_timed s h)
+
+-- a timed event ahead
+ahead : (s : Stamp) (rest : List Stamp) → LastIsTimed (s ∷ rest) → OneIs s.times (nearest rest)
+ahead s [] last = there s.times None last
+ahead s (t ∷ rest) last = swap s.times (nearer t.times (nearest rest)) (found t.times (nearest rest) (ahead t rest last))
+  where
+    found : (o : Option Times) (p : Option Neighbour) → OneIs o p → is_none (nearer o p) ≡ false
+    found None None h = cc h
+    found None (Some n) h = refl
+    found (Some t) p h = refl
+
+    swap : {X Y : Type 0} (o : Option X) (p : Option Y) → is_none p ≡ false → OneIs o p
+    swap None None h = cc h
+    swap None (Some y) h = tt
+    swap (Some x) p h = tt
+
+rest_timed : (s : Stamp) (rest : List Stamp) → LastIsTimed (s ∷ rest) → LastIsTimed rest
+rest_timed s [] last = tt
+rest_timed s (t ∷ rest) last = last
+
+passed : (times : Option Times) (before : Option Neighbour) → left_at (nearer times before) ≡ departed (left_at before) times
+passed None None = refl
+passed None (Some n) = refl
+passed (Some t) before = refl
+
+follows : (s t : Stamp) (before : Option Neighbour) → OneIs s.times before → OneIs t.times (nearer s.times before)
+follows s t before h = by t.times s.times before h
+  where
+    by : {X : Type 0} (o : Option X) (times : Option Times) (n : Option Neighbour) → OneIs times n → OneIs o (nearer times n)
+    by None None None h = cc h
+    by None None (Some n) h = tt
+    by None (Some t) n h = tt
+    by (Some x) times n h = tt
+
+climbs : (before : Option Neighbour) (stamps : List Stamp) → FirstIsTimed before stamps → LastIsTimed stamps → records_back (left_at before) stamps ≡ []
+    → Climbs (departure_before before (nearest stamps)) (filled_on before stamps)
+climbs before [] first last on = tt
+climbs before (s ∷ rest) first last on =
+    let (here, later) = no_parts _ _ on in
+    let forth : goes_back (left_at before) s.times ≡ false = stays (goes_back (left_at before) s.times) here in
+    let on_later : records_back (left_at (nearer s.times before)) rest ≡ [] = ap (λ (n : ℕ). records_back n rest) (passed s.times before) ∙ later in
+    step s s.times before (nearest rest) (filled_on (nearer s.times before) rest) first (ahead s rest last) forth
+    (climbs (nearer s.times before) rest (next rest) (rest_timed s rest last) on_later)
+  where
+    stays : (b : Bool) → (if b then s.at ∷ [] else []) ≡ [] → b ≡ false
+    stays true h = cc h
+    stays false h = refl
+
+    next : (xs : List Stamp) → FirstIsTimed (nearer s.times before) xs
+    next [] = tt
+    next (t ∷ xs) = follows s t before first
+
+-- a trip without fault
+record Goes (stamps : List Stamp) : Type 0 where
+  first : FirstIsTimed None stamps
+  last : LastIsTimed stamps
+  on : records_back 0 stamps ≡ []
+
+goes : (stamps : List Stamp) → is_aside stamps ≡ false → trip_faults stamps ≡ [] → Goes stamps
+goes stamps here none =
+    let faults : faults_of NoTime (untimed_ends stamps) ++ faults_of TimesGoBack (records_back 0 stamps) ≡ [] = rw here at none in
+    let (ends, back) = no_parts _ _ faults in
+    let (first, last) = no_parts (untimed (slice_get stamps 0)) _ (none_mapped _ (untimed_ends stamps) ends) in
+    record { first = first_timed stamps first; last = last_timed stamps last; on = none_mapped _ (records_back 0 stamps) back }
+
+abbrev InTime : Event → Type 0
+InTime e = (e.arrive ≤ 604799) × (e.depart ≤ 604799)
+
+abbrev IsTimely : Option Neighbour → Type 0
+IsTimely o = IfSome o (λ n. AreTimes n.times)
+
+tail_sound : {X : Type 0} (P : X → Type 0) (x : X) (rest : List X) → All P (x ∷ rest) → All P rest
+tail_sound P x rest all k d lt = all (suc k) d (omega (arith, lt))
+
+nearer_timely : (times : Option Times) (beyond : Option Neighbour) → IfSome times AreTimes → IsTimely beyond → IsTimely (nearer times beyond)
+nearer_timely None None a b = tt
+nearer_timely None (Some n) a b = b
+nearer_timely (Some t) beyond a b = a
+
+nearest_timely : (n : ℕ) (stamps : List Stamp) → All (IsSound n) stamps → IsTimely (nearest stamps)
+nearest_timely n [] all = tt
+nearest_timely n (s ∷ rest) all = nearer_timely s.times (nearest rest) (all zero s (omega arith)).times (nearest_timely n rest (tail_sound (IsSound n) s rest all))
+
+timely : (times : Option Times) (before after : Option Neighbour) → IfSome times AreTimes → IsTimely before → IsTimely after → AreTimes (unwrap_or times (between before after))
+timely (Some t) before after a b c = a
+timely None None after a b c = record { arrive = omega arith; depart = omega arith }
+timely None (Some n) None a b c = record { arrive = omega arith; depart = omega arith }
+timely None (Some n) (Some m) a b c =
+    let most = gap_within n.times.depart m.times.arrive (n.untimed + 1) (n.untimed + m.untimed + 2) 604799 (omega arith) (omega arith) b.depart c.arrive in
+    record { arrive = most; depart = most }
+
+in_time : (n : ℕ) (before : Option Neighbour) (stamps : List Stamp) → IsTimely before → All (IsSound n) stamps → All InTime (filled_on before stamps)
+in_time n before [] early all = All-nil InTime
+in_time n before (s ∷ rest) early all =
     let sound = all zero s (omega arith) in
-    All-cons (λ (e : Event). e.arrive ≤ e.depart) (event_of s) (events_of rest)
-    (in_turn s.arrive s.depart sound.arrive sound.depart (neither (is_after last s.arrive) (is_after s.arrive s.depart) on.here).1)
-    (stays n s.depart rest (tail_sound n s rest all) on.later)
+    let more = tail_sound (IsSound n) s rest all in
+    let times = timely s.times before (nearest rest) sound.times early (nearest_timely n rest more) in
+    All-cons InTime (event_at s (unwrap_or s.times (between before (nearest rest)))) (filled_on (nearer s.times before) rest) (times.arrive, times.depart)
+    (in_time n (nearer s.times before) rest (nearer_timely s.times before sound.times early) more)
 
-moves : (n : ℕ) (last : Option ℕ) (stamps : List Stamp) → All (IsSound n) stamps → records_back last stamps ≡ []
-    → (k : ℕ) (e f : Event) → slice_get (events_of stamps) k ≡ Some e → slice_get (events_of stamps) (k + 1) ≡ Some f → e.depart ≤ f.arrive
-moves n last [] all h k e f a b = cc a
-moves n last (s ∷ []) all h zero e f a b = cc b
-moves n last (s ∷ t ∷ rest) all h zero e f a b =
-    let on = onward last s (t ∷ rest) h in
-    let next = onward s.depart t rest on.later in
-    let first = all zero s (omega arith) in
-    let second = all (suc zero) t (omega arith) in
-    let one : event_of s ≡ e = cc a in
-    let two : event_of t ≡ f = cc b in
-    let le = in_turn s.depart t.arrive first.depart second.arrive (neither (is_after s.depart t.arrive) (is_after t.arrive t.depart) next.here).0 in
-    let left = ap (λ (x : Event). x.depart) one in
-    let right = ap (λ (x : Event). x.arrive) two in
-    omega (arith, le, left, right)
-moves n last (s ∷ rest) all h (suc k) e f a b =
-    let on = onward last s rest h in
-    let next : suc k + 1 ≡ suc (k + 1) = omega arith in
-    moves n s.depart rest (tail_sound n s rest all) on.later k e f a (sym (ap (slice_get (event_of s ∷ events_of rest)) next) ∙ b)
+neither : (a b : Bool) → (a || b) ≡ false → (a ≡ false) × (b ≡ false)
+neither true b h = cc h
+neither false b h = (refl, h)
 
-pub rises : (n : ℕ) (stamps : List Stamp) → All (IsSound n) stamps → back_faults stamps ≡ [] → EventsRise (events_of stamps)
-rises n stamps all none =
-    let forward = none_mapped _ (records_back None stamps) none in
-    record { stays = stays n None stamps all forward; moves = moves n None stamps all forward }
+stop_within : (n : ℕ) (o : Option ℕ) → IfSome o (λ k. k < n) → is_none o ≡ false → unwrap_or o 0 < n
+stop_within n None h some = cc some
+stop_within n (Some k) h some = h
 
-within : (time : Option ℕ) → IsTime time → unwrap_or time 0 ≤ 604799
-within None (n, e, le) = cc e
-within (Some x) (n, e, le) = let is : x ≡ n = cc e in omega (arith, is, le)
+at_stops : (n : ℕ) (before : Option Neighbour) (stamps : List Stamp) → is_aside stamps ≡ false → All (IsSound n) stamps → All (λ (e : Event). e.stop.0 < n) (filled_on before stamps)
+at_stops n before [] here all = All-nil (λ (e : Event). e.stop.0 < n)
+at_stops n before (s ∷ rest) here all =
+    let (first, more) = neither (is_none s.stop) (is_aside rest) here in
+    All-cons (λ (e : Event). e.stop.0 < n) (event_at s (unwrap_or s.times (between before (nearest rest)))) (filled_on (nearer s.times before) rest)
+    (stop_within n s.stop (all zero s (omega arith)).stop first)
+    (at_stops n (nearer s.times before) rest more (tail_sound (IsSound n) s rest all))
 
--- the events of all trips
-all_rise : (n : ℕ) (trips : List (List Stamp)) → All (All (IsSound n)) trips → whole_trip_faults trips ≡ [] → All EventsRise (map events_of trips)
-all_rise n [] all none = All-nil EventsRise
-all_rise n (stamps ∷ trips) all none =
+-- the events of one trip
+record Fit (n : ℕ) (stamps : List Stamp) (events : List Event) : Type 0 where
+  few : length events ≤ length stamps
+  at_stop : All (λ (e : Event). e.stop.0 < n) events
+  in_time : All InTime events
+  rise : EventsRise events
+
+fit : (n : ℕ) (stamps : List Stamp) → All (IsSound n) stamps → trip_faults stamps ≡ [] → Fit n stamps (events_of stamps)
+fit n stamps all none = by (is_aside stamps) refl
+  where
+    by : (b : Bool) → is_aside stamps ≡ b → Fit n stamps (if b then [] else filled stamps)
+    by true e = record {
+      few = omega arith;
+      at_stop = All-nil (λ (e : Event). e.stop.0 < n);
+      in_time = All-nil InTime;
+      rise = rises 0 [] tt;
+    }
+    by false e =
+        let ok = goes stamps e none in
+        let up = climbs None stamps ok.first ok.last ok.on in
+        subst (Fit n stamps) (filled_is stamps)
+        (record {
+          few = omega (arith, length-filled_on None stamps);
+          at_stop = at_stops n None stamps e all;
+          in_time = in_time n None stamps tt all;
+          rise = rises (departure_before None (nearest stamps)) (filled_on None stamps) up;
+        })
+
+few_events : (n : ℕ) (trips : List (List Stamp)) → All (All (IsSound n)) trips → whole_trip_faults trips ≡ [] → sum_by length (map events_of trips) ≤ sum_by length trips
+few_events n [] all none = omega arith
+few_events n (stamps ∷ trips) all none =
     let (first, more) = no_parts _ _ none in
-    All-cons EventsRise (events_of stamps) (map events_of trips) (rises n stamps (all zero stamps (omega arith)) first)
-    (all_rise n trips (λ k d lt. all (suc k) d (omega (arith, lt))) more)
-
-lengths : (trips : List (List Stamp)) → sum_by length (map events_of trips) ≡ sum_by length trips
-lengths [] = refl
-lengths (stamps ∷ trips) =
     let mapped = sum_by-cons (length {A = Event}) (events_of stamps) (map events_of trips) in
     let plain = sum_by-cons (length {A = Stamp}) stamps trips in
-    omega (arith, mapped, plain, lengths trips, length-map stamps event_of)
+    let here = (fit n stamps (all zero stamps (omega arith)) first).few in
+    omega (arith, mapped, plain, few_events n trips (tail_sound (All (IsSound n)) stamps trips all) more, here)
+
+all_fit : (n : ℕ) (P : List Event → Type 0) → ((stamps : List Stamp) → Fit n stamps (events_of stamps) → P (events_of stamps))
+    → (trips : List (List Stamp)) → All (All (IsSound n)) trips → whole_trip_faults trips ≡ [] → All P (map events_of trips)
+all_fit n P f [] all none = All-nil P
+all_fit n P f (stamps ∷ trips) all none =
+    let (first, more) = no_parts _ _ none in
+    All-cons P (events_of stamps) (map events_of trips) (f stamps (fit n stamps (all zero stamps (omega arith)) first))
+    (all_fit n P f trips (tail_sound (All (IsSound n)) stamps trips all) more)
 
 pub are_events : (n count : ℕ) (trips : List (List Stamp)) → sum_by length trips ≡ count → count ≤ 8000000 → All (All (IsSound n)) trips → whole_trip_faults trips ≡ []
     → AreEvents n (map events_of trips)
 are_events n count trips total few all none = record {
-  few = omega (arith, lengths trips, total, few);
-  at_stops = All-map (All (λ (e : Event). e.stop.0 < n)) events_of trips
-      (λ k d lt. All-map (λ (e : Event). e.stop.0 < n) event_of (get_or trips k d) (λ j s less. (all k d lt j s less).stop));
-  in_time = All-map (All (λ (e : Event). (e.arrive ≤ 604799) × (e.depart ≤ 604799))) events_of trips
-      (λ k d lt. All-map (λ (e : Event). (e.arrive ≤ 604799) × (e.depart ≤ 604799)) event_of (get_or trips k d)
-      (λ j s less. let sound = all k d lt j s less in (within _ sound.arrive, within _ sound.depart)));
-  rise = all_rise n trips all none;
+  few = omega (arith, few_events n trips all none, total, few);
+  at_stops = all_fit n (All (λ (e : Event). e.stop.0 < n)) (λ stamps f. f.at_stop) trips all none;
+  in_time = all_fit n (All InTime) (λ stamps f. f.in_time) trips all none;
+  rise = all_fit n EventsRise (λ stamps f. f.rise) trips all none;
 }
+
+-- a trip that is not set aside and has no fault
+pub sound_trip : (stamps : List Stamp) → is_aside stamps ≡ false → untimed_ends stamps ≡ [] → records_back 0 stamps ≡ [] → (trip_faults stamps ≡ []) × (events_of stamps ≡ filled stamps)
+sound_trip stamps here ends back = (rw (here, ends, back) refl, rw here refl)
+
+-- the first fault of a trip is that of the trips from it on
+pub tells_trip : (e : FeedFault) (stamps : List Stamp) (all left rest : List (List Stamp)) → whole_trip_faults left ≡ whole_trip_faults all → left ≡ stamps ∷ rest
+    → Tells e (trip_faults stamps) → Tells e (whole_trip_faults all)
+tells_trip e stamps all left rest same is told =
+    subst (Tells e) (sym (ap whole_trip_faults is) ∙ same) (tells_more e (trip_faults stamps) (whole_trip_faults rest) told)

@@ -1,3 +1,4 @@
+pub mod FillFacts
 pub mod EventFacts
 pub mod HeaderFacts
 pub mod OneOrder
@@ -10,3 +11,7 @@ pub mod CalendarFacts
 pub mod CalendarDateFacts
 pub mod FrequencyFacts
 pub mod FeedTripFacts
+pub mod ChildrenFacts
+pub mod PlaceFacts
+pub mod EndFacts
+pub mod TransferFacts

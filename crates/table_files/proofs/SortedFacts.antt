@@ -58,9 +58,12 @@ any_all p sorted (s ∷ stamps) = any_all p (insert_in_order s sorted) stamps �
     three true false c = refl
     three false b c = refl
 
--- the order makes no difference to whether there is a number
+-- the order makes no difference to whether a record passes a test
+pub any_in_order : (p : Stamp → Bool) (stamps : List Stamp) → list_any p (in_order stamps) ≡ list_any p stamps
+any_in_order p stamps = any_all p [] stamps ∙ any_or (list_any p stamps) false
+
 pub number_in_order : (n : ℕ) (stamps : List Stamp) → has_number n (in_order stamps) ≡ has_number n stamps
-number_in_order n stamps = any_all (λ (s : Stamp). s.sequence == n) [] stamps ∙ any_or (list_any (λ (s : Stamp). s.sequence == n) stamps) false
+number_in_order n stamps = any_in_order (λ (s : Stamp). s.sequence == n) stamps
 
 pub sorted_length : (rows : List (ℕ × Stamp)) (first : ℕ) (ids : List (List ℕ)) → length (sorted_from rows first ids) ≡ length ids
 sorted_length rows first [] = refl

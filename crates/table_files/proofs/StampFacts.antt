@@ -1,9 +1,9 @@
 -- Ascending records.
-use Rattle.std.proofs.Common.{◌≡◌, ◌≢◌, ◌<◌, ◌≤◌, ◌+◌, ◌==◌, ◌||◌, ℕ, zero, suc, Bool, true, false, List, [], ◌∷◌, length, get_or, insert, arith, refl, ap, sym, ◌∙◌}
+use Rattle.std.proofs.Common.{◌≡◌, ◌≢◌, ◌<◌, ◌≤◌, ◌+◌, ◌==◌, ◌||◌, ℕ, zero, suc, Bool, true, false, List, [], ◌∷◌, length, get_or, insert, arith, refl}
 use Rattle.std.proofs.lemmas.Bool.Decides.{nat_tests}
-use Rattle.std.specs.Prelude.{nat_lt}
+use Rattle.std.specs.Prelude.{None, nat_lt}
 use Rattle.std.specs.List.{list_any}
-use Rattle.table_files.specs.Stamps.{IsAscending, insert_in_order}
+use Rattle.table_files.specs.Stamps.{FitsAt, IsAscending, insert_in_order}
 use Rattle.table_files.specs.declared.stamps.Stamp.{Stamp}
 
 -- a record has a sequence number
@@ -90,6 +90,17 @@ any_default [] k d e h = absurd (omega arith)
 any_default (x ∷ xs) zero d e h = refl
 any_default (x ∷ xs) (suc k) d e h = any_default xs k d e (omega arith)
 
--- the record before, as it was read
-pub read_before : (xs : List Stamp) (k : ℕ) (r x : Stamp) → k < length xs → r ≡ get_or xs k r → (get_or xs k x).sequence ≡ r.sequence
-read_before xs k r x lt is = ap (λ (s : Stamp). s.sequence) (any_default xs k x r lt ∙ sym is)
+-- where a record with a sequence number belongs
+pub fits : (i n : ℕ) (xs : List Stamp) → IsAscending 0 xs → i ≤ length xs → ((m : ℕ) → i ≡ suc m → (d : Stamp) → (get_or xs m d).sequence < n)
+    → (i < length xs → (d : Stamp) → n < (get_or xs i d).sequence) → FitsAt i n xs
+fits i n xs up within below beyond =
+    let new : Stamp = record { sequence = n; at = 0; stop = None; times = None; board = false; alight = false } in
+    record {
+      within = within;
+      absent = (at new refl).absent;
+      placed = λ s e. (at s e).placed;
+      ascending = λ s e. (at s e).ascending;
+    }
+  where
+    at : (s : Stamp) → s.sequence ≡ n → Fits 0 xs i s
+    at s e = fits_at i 0 xs s up (omega arith) within (λ m h. let b = below m h s in omega (arith, b, e)) (λ lt. let b = beyond lt s in omega (arith, b, e))

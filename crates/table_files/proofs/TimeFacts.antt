@@ -1,22 +1,24 @@
 -- One more record of stop_times.txt.
-use Rattle.std.proofs.Common.{◌≡◌, ◌<◌, ◌≤◌, ◌+◌, ◌-◌, ◌*◌, ◌&&◌, ◌∙◌, ℕ, zero, suc, Bool, true, false, List, [], ◌∷◌, ◌++◌, length, Option, Some, None, nat_le, nat_lt, position, get_or, replicate, set, take, inr, arith, refl, sym, ap, subst, if◌then◌else◌}
+use Rattle.std.proofs.Common.{◌≡◌, ◌<◌, ◌≤◌, ◌+◌, ◌-◌, ◌*◌, ◌==◌, ◌&&◌, ◌∙◌, ℕ, zero, suc, Bool, true, false, List, [], ◌∷◌, ◌++◌, length, map, filter, Option, Some, None, nat_le, nat_lt, cond, position, get_or, replicate, set, take, arith, refl, sym, ap, subst, if◌then◌else◌}
 use Rattle.std.proofs.lemmas.Bool.{lt-leb}
 use Rattle.std.proofs.lemmas.Bool.Decides.{nat_tests}
 use Rattle.std.proofs.lemmas.List.{length-append}
 use Rattle.std.proofs.lemmas.List.Elements.{All-cons, All-nil, All-set}
 use Rattle.std.proofs.lemmas.List.Sums.{sum_by-cons, sum_by-set}
-use Rattle.std.specs.Prelude.{All, is_none, is_some, not, option_and_then, option_map, slice_index, sum_by}
-use Rattle.std.specs.List.{position_or_len}
-use Rattle.std.specs.Str.{bytes_eq}
+use Rattle.std.specs.Prelude.{All, IfSome, count_by, is_none, option_and_then, option_map, slice_get, slice_index, sum_by}
+use Rattle.std.specs.List.{list_any, position_or_len}
 use Rattle.table_records.specs.Fields.{clock, hours_of, is_colon, is_digit, is_empty, number_of, sixty, sixty_at, time_after, time_of}
-use Rattle.table_records.specs.Faults.{Tells, faults_at}
+use Rattle.table_records.specs.Faults.{IsFirst, faults_at}
 use Rattle.table_records.specs.declared.fault.FileName.TheVariants.{StopTimes}
+use Rattle.table_records.specs.declared.fault.What.{What}
 use Rattle.table_records.specs.declared.fault.What.TheVariants as what
-use Rattle.table_files.specs.Stamps.{IsSound, IsTime, has_number, in_order, insert_in_order}
-use Rattle.table_files.specs.StopTimes.{TimeRow, IsStopTimes, checks, of_trip, sorted_from, stamp_of, stamps_from, stamps_of, trip_of}
+use Rattle.table_files.specs.Stamps.{AreTimes, IsSound, has_number, in_order, insert_in_order}
+use Rattle.table_files.specs.StopTimes.{AreStamps, TimeRow, checks, of_trip, place_checks, rows_from, sequence_of, sorted_from, sorted_trips, stamp_of, stamps_from, stamps_of, stop_of, times_of, trip_events, trip_of, trips_aside, visit_checks}
+use Rattle.timetable.specs.declared.trips.Event.{Event}
+use Rattle.table_records.specs.declared.fault.FeedFault.{FeedFault}
+use Rattle.table_files.specs.WholeTrips.{events_of, is_aside, whole_trip_faults}
 use Rattle.table_files.specs.declared.stamps.Stamp.{Stamp}
-use Rattle.table_files.specs.declared.stop_time_list.StopTimeList.{StopTimeList}
-use Rattle.table_files.proofs.SortedFacts.{All-insert_in_order, length-insert_in_order, sorted_length, sorted_more, sorted_none}
+use Rattle.table_files.proofs.SortedFacts.{All-insert_in_order, any_in_order, length-insert_in_order, number_in_order, sorted_at, sorted_more, sorted_none}
 
 -- the records with one more
 stamps_push : (trips stops : List (List ℕ)) (at : ℕ) (rows : List TimeRow) (r : TimeRow)
@@ -73,13 +75,6 @@ time_small text n e = by (nat_le 7 (length text) && nat_le (length text) 9) e
     by true s = inner (length text - 6) (is_colon (length text - 6) text && is_colon (length text - 6 + 3) text) s
     by false s = cc s
 
-pub is_time : (text : List ℕ) → is_none (time_of text) ≡ false → IsTime (time_of text)
-is_time text there = by (time_of text) refl there
-  where
-    by : (o : Option ℕ) → time_of text ≡ o → is_none o ≡ false → IsTime o
-    by None e h = cc h
-    by (Some n) e h = (n, refl, time_small text n e)
-
 -- a number that was found is below the length
 pub found_below : {X : Type 0} (p : X → Bool) (xs : List X) (n : ℕ) → Some n ≡ position p xs → n < length xs
 found_below p xs n e = by (nat_lt (position_or_len p xs) (length xs)) refl e
@@ -88,66 +83,79 @@ found_below p xs n e = by (nat_lt (position_or_len p xs) (length xs)) refl e
     by true h s = let is : n ≡ position_or_len p xs = cc s in grind (arith, nat_tests)
     by false h s = cc s
 
-pub none_is : {X : Type 0} (o : Option X) (b : Bool) → is_some o ≡ not b → is_none o ≡ b
-none_is None true h = refl
-none_is None false h = cc h
-none_is (Some x) true h = cc h
-none_is (Some x) false h = refl
+-- the times of a record are within 168 hours
+times_small : (a d : Option ℕ) → AtMost a 604799 → AtMost d 604799 → IfSome (times_of a d) AreTimes
+times_small None None p q = tt
+times_small None (Some d) p q = record { arrive = q d refl; depart = q d refl }
+times_small (Some a) None p q = record { arrive = p a refl; depart = p a refl }
+times_small (Some a) (Some d) p q = record { arrive = p a refl; depart = q d refl }
 
-pub flipped : (b c d : Bool) → b ≡ not c → b ≡ not d → c ≡ d
-flipped b true true h e = refl
-flipped b true false h e = cc (h, e)
-flipped b false true h e = cc (h, e)
-flipped b false false h e = refl
+first_append : {X : Type 0} (xs ys : List X) (x : X) → slice_get xs 0 ≡ Some x → slice_get (xs ++ ys) 0 ≡ Some x
+first_append [] ys x h = cc h
+first_append (z ∷ xs) ys x h = h
 
--- a record whose trip and stop are known and whose sequence number is one
-module _ (trips stops : List (List ℕ)) (p : StopTimeList) (before : List TimeRow) (r : TimeRow) (t s n : ℕ)
-    (is : IsStopTimes trips stops p before) (few : p.count < 8000000) (some_trip : is_empty r.trip ≡ false) (trip : Some t ≡ position (bytes_eq r.trip) trips)
-    (some_stop : is_empty r.stop ≡ false) (stop : Some s ≡ position (bytes_eq r.stop) stops) (number : Some n ≡ number_of r.sequence) where
+first_map : {X Y : Type 0} (f : X → Y) (xs : List X) (x : X) → slice_get xs 0 ≡ Some x → slice_get (map f xs) 0 ≡ Some (f x)
+first_map f [] x h = cc h
+first_map f (y ∷ xs) x h = let same : y ≡ x = cc h in ap (λ z. Some (f z)) same
+
+-- a record that comes after those before it
+module _ (trips stops : List (List ℕ)) (before : List TimeRow) (r : TimeRow) (few : length before < 8000000) where
   room : nat_le 8000000 (length before) ≡ false
-  room = lt-leb _ _ (omega (arith, is.count))
+  room = lt-leb _ _ few
 
-  pub tells_duplicate : has_number n (of_trip t (stamps_of trips stops before)) ≡ true
-      → Tells (record { file = StopTimes; at = p.count + 2; what = what.DuplicateId }) (faults_at StopTimes (checks trips stops) before r)
-  tells_duplicate again = inr (rw (room, some_trip, ← trip, some_stop, ← stop, ← number, again, is.count) refl)
+  -- the fault of a record
+  abbrev pub Told : What → Type 0
+  Told w = IsFirst (record { file = StopTimes; at = length before + 2; what = w }) (faults_at StopTimes (checks trips stops) before r)
 
-  pub tells_arrive : has_number n (of_trip t (stamps_of trips stops before)) ≡ false → is_none (time_of r.arrive) ≡ true
-      → Tells (record { file = StopTimes; at = p.count + 2; what = what.BadTime }) (faults_at StopTimes (checks trips stops) before r)
-  tells_arrive new bad = inr (rw (room, some_trip, ← trip, some_stop, ← stop, ← number, new, bad, is.count) refl)
+  told : (w : What) → slice_get (checks trips stops before r) 0 ≡ Some w → Told w
+  told w h = first_map (λ x. record { file = StopTimes; at = length before + 2; what = x }) (checks trips stops before r) w h
 
-  pub tells_depart : has_number n (of_trip t (stamps_of trips stops before)) ≡ false → is_none (time_of r.arrive) ≡ false → is_none (time_of r.depart) ≡ true
-      → Tells (record { file = StopTimes; at = p.count + 2; what = what.BadTime }) (faults_at StopTimes (checks trips stops) before r)
-  tells_depart new good bad = inr (rw (room, some_trip, ← trip, some_stop, ← stop, ← number, new, good, bad, is.count) refl)
+  pub tells_place : (w : What) → slice_get (place_checks trips stops r) 0 ≡ Some w → Told w
+  tells_place w h = told w (rw room (first_append _ _ w (first_append _ _ w h)))
 
-  pub no_fault : has_number n (of_trip t (stamps_of trips stops before)) ≡ false → is_none (time_of r.arrive) ≡ false → is_none (time_of r.depart) ≡ false
-      → checks trips stops before r ≡ []
-  no_fault new good fine = rw (room, some_trip, ← trip, some_stop, ← stop, ← number, new, good, fine) refl
+  module _ (placed : place_checks trips stops r ≡ []) where
+    pub tells_duplicate : has_number (sequence_of r) (of_trip (trip_of trips r) (stamps_of trips stops before)) ≡ true → Told what.DuplicateId
+    tells_duplicate again = told what.DuplicateId (rw (room, placed, again) refl)
 
-  -- the list with one more record
-  pub times_more : (w : StopTimeList) (stamp : Stamp) (old : List Stamp) → w.count ≡ p.count + 1
-      → stamp ≡ record { sequence = n; at = p.count + 2; stop = s; arrive = time_of r.arrive; depart = time_of r.depart }
-      → is_none (time_of r.arrive) ≡ false → is_none (time_of r.depart) ≡ false
-      → old ≡ in_order (of_trip t (stamps_of trips stops before)) → old ≡ get_or p.trips.items t old → w.trips.items ≡ set p.trips.items t (insert_in_order stamp old)
-      → IsStopTimes trips stops w (before ++ r ∷ [])
-  times_more w stamp old count stamped arrive depart sorted at new =
-      let within : t < length trips = found_below (bytes_eq r.trip) trips t trip in
-      let stamps = stamps_of trips stops before in
-      let size : length p.trips.items ≡ length trips = ap length is.trips ∙ sorted_length stamps 0 trips in
-      let inside : t < length p.trips.items = omega (arith, size, within) in
-      let added : stamps_of trips stops (before ++ r ∷ []) ≡ stamps ++ (t, stamp) ∷ [] =
-      stamps_push trips stops 2 before r ∙ rw (stamped, is.count) (rw (← trip, ← stop, ← number) refl) in
+    module _ (new : has_number (sequence_of r) (of_trip (trip_of trips r) (stamps_of trips stops before)) ≡ false) where
+      pub tells_visit : (w : What) → slice_get (visit_checks r) 0 ≡ Some w → Told w
+      tells_visit w h = told w (rw (room, placed, new) h)
+
+      pub no_fault : visit_checks r ≡ [] → checks trips stops before r ≡ []
+      no_fault visited = rw (room, placed, new, visited) refl
+
+-- the records of the trips, with the trip of a record among them
+module _ (trips stops : List (List ℕ)) (all : List (List Stamp)) (before : List TimeRow) (r : TimeRow) (is : AreStamps trips stops all before)
+    (t : ℕ) (of : t ≡ trip_of trips r) (within : t < length trips) (old : List Stamp) (at : old ≡ get_or all t old) where
+  sorted : old ≡ in_order (of_trip t (stamps_of trips stops before))
+  sorted =
       let zero_on : t ≡ t + 0 = omega arith in
-      let more = sorted_more stamps t 0 t stamp trips old zero_on within sorted in
+      at ∙ ap (λ (l : List (List Stamp)). get_or l t old) is.sorted ∙ sorted_at (stamps_of trips stops before) t 0 t trips old zero_on within
+
+  pub has_same : (n : ℕ) → has_number n old ≡ has_number n (of_trip (trip_of trips r) (stamps_of trips stops before))
+  has_same n =
+      ap (has_number n) sorted ∙ number_in_order n (of_trip t (stamps_of trips stops before)) ∙ ap (λ (k : ℕ). has_number n (of_trip k (stamps_of trips stops before))) of
+
+  -- the records with one more
+  pub stamps_more : (stamp : Stamp) (new : List (List Stamp)) → length all ≡ length trips → length before < 8000000 → stamp ≡ stamp_of stops (length before + 2) r
+      → IfSome (stop_of stops r) (λ n. n < length stops) → new ≡ set all t (insert_in_order stamp old) → AreStamps trips stops new (before ++ r ∷ [])
+  stamps_more stamp new size few stamped stop put =
+      let inside : t < length all = omega (arith, size, within) in
+      let added : stamps_of trips stops (before ++ r ∷ []) ≡ stamps_of trips stops before ++ (t, stamp) ∷ [] =
+      stamps_push trips stops 2 before r ∙ rw (stamped, of) refl in
+      let zero_on : t ≡ t + 0 = omega arith in
+      let more = sorted_more (stamps_of trips stops before) t 0 t stamp trips old zero_on within sorted in
       let sound : IsSound (length stops) stamp = subst (IsSound (length stops)) (sym stamped)
-      (record { stop = found_below (bytes_eq r.stop) stops s stop; arrive = is_time r.arrive arrive; depart = is_time r.depart depart }) in
-      let sums = sum_by-set (length {A = Stamp}) p.trips.items t (insert_in_order stamp old) old inside in
-      let old_length : length (get_or p.trips.items t old) ≡ length old = ap (length {A = Stamp}) (sym at) in
+      (record { stop = stop; times = times_small (time_of r.arrive) (time_of r.depart) (time_small r.arrive) (time_small r.depart) }) in
+      let sums = sum_by-set (length {A = Stamp}) all t (insert_in_order stamp old) old inside in
+      let old_length : length (get_or all t old) ≡ length old = ap (length {A = Stamp}) (sym at) in
       let longer = length-insert_in_order stamp old in
+      let rows = length-append before (r ∷ []) in
       record {
-        count = count ∙ omega (arith, is.count, length-append before (r ∷ []));
-        trips = new ∙ ap (λ (l : List (List Stamp)). set l t (insert_in_order stamp old)) is.trips ∙ sym more ∙ ap (λ (l : List (ℕ × Stamp)). sorted_from l 0 trips) (sym added);
-        total = ap (sum_by (length {A = Stamp})) new ∙ omega (arith, sums, old_length, longer, is.total, count);
-        sound = rw new (All-set (All (IsSound (length stops))) p.trips.items t (insert_in_order stamp old)
+        few = omega (arith, rows, few);
+        sorted = put ∙ ap (λ (l : List (List Stamp)). set l t (insert_in_order stamp old)) is.sorted ∙ sym more ∙ ap (λ (l : List (ℕ × Stamp)). sorted_from l 0 trips) (sym added);
+        total = ap (sum_by (length {A = Stamp})) put ∙ omega (arith, sums, old_length, longer, is.total, rows);
+        sound = rw put (All-set (All (IsSound (length stops))) all t (insert_in_order stamp old)
             (All-insert_in_order (IsSound (length stops)) stamp old sound (subst (All (IsSound (length stops))) (sym at) (is.sound t old inside))) is.sound);
       }
 
@@ -159,11 +167,56 @@ all_nothing : (n : ℕ) (P : Stamp → Type 0) → All (All P) (replicate n [])
 all_nothing zero P = All-nil (All P)
 all_nothing (suc n) P = All-cons (All P) [] (replicate n []) (All-nil P) (all_nothing n P)
 
--- the list before the first record
-pub no_times : (trips stops : List (List ℕ)) (p : StopTimeList) → p.count ≡ 0 → p.trips.items ≡ replicate (length trips) [] → IsStopTimes trips stops p []
-no_times trips stops p count empty = record {
-  count = count;
-  trips = empty ∙ sym (sorted_none 0 trips);
-  total = ap (sum_by (length {A = Stamp})) empty ∙ sum_nothing (length trips) ∙ sym count;
+-- the records before the first one
+pub no_stamps : (trips stops : List (List ℕ)) (all : List (List Stamp)) → all ≡ replicate (length trips) [] → AreStamps trips stops all []
+no_stamps trips stops all empty = record {
+  few = omega arith;
+  sorted = empty ∙ sym (sorted_none 0 trips);
+  total = ap (sum_by (length {A = Stamp})) empty ∙ sum_nothing (length trips);
   sound = rw empty (all_nothing (length trips) (IsSound (length stops)));
 }
+
+-- a trip is set aside by its records in any order
+no_stop : (stops : List (List ℕ)) (r : TimeRow) → is_none (stop_of stops r) ≡ is_empty r.stop
+no_stop stops r = by (is_empty r.stop) _
+  where
+    by : {X : Type 0} (b : Bool) (x : X) → is_none (if b then None else Some x) ≡ b
+    by true x = refl
+    by false x = refl
+
+aside_of : (trips stops : List (List ℕ)) (t at : ℕ) (rows : List TimeRow)
+    → list_any (λ (s : Stamp). is_none s.stop) (of_trip t (stamps_from trips stops at rows)) ≡ list_any (λ (r : TimeRow). is_empty r.stop) (filter (λ (r : TimeRow). trip_of trips r == t) rows)
+aside_of trips stops t at [] = refl
+aside_of trips stops t at (r ∷ rows) = by (trip_of trips r == t) (aside_of trips stops t (at + 1) rows)
+  where
+    by : (b : Bool) → list_any (λ (s : Stamp). is_none s.stop) (of_trip t (stamps_from trips stops (at + 1) rows)) ≡ list_any (λ (r : TimeRow). is_empty r.stop) (filter (λ (r : TimeRow). trip_of trips r == t) rows)
+        → list_any (λ (s : Stamp). is_none s.stop) (map (λ (s : ℕ × Stamp). s.1) (if b then (trip_of trips r, stamp_of stops at r) ∷ filter (λ (s : ℕ × Stamp). s.0 == t) (stamps_from trips stops (at + 1) rows) else filter (λ (s : ℕ × Stamp). s.0 == t) (stamps_from trips stops (at + 1) rows)))
+        ≡ list_any (λ (x : TimeRow). is_empty x.stop) (if b then r ∷ filter (λ (x : TimeRow). trip_of trips x == t) rows else filter (λ (x : TimeRow). trip_of trips x == t) rows)
+    by true e = rw (no_stop stops r, e) refl
+    by false e = e
+
+asides_from : (trips stops : List (List ℕ)) (rows : List TimeRow) (t : ℕ) (ids : List (List ℕ))
+    → count_by is_aside (sorted_from (stamps_of trips stops rows) t ids) ≡ count_by (list_any (λ (r : TimeRow). is_empty r.stop)) (rows_from trips rows t ids)
+asides_from trips stops rows t [] = refl
+asides_from trips stops rows t (id ∷ ids) =
+    let stamps = of_trip t (stamps_of trips stops rows) in
+    let mine = filter (λ (r : TimeRow). trip_of trips r == t) rows in
+    let here : is_aside (in_order stamps) ≡ list_any (λ (r : TimeRow). is_empty r.stop) mine =
+    any_in_order (λ (s : Stamp). is_none s.stop) stamps ∙ aside_of trips stops t 2 rows in
+    sum_by-cons (λ (l : List Stamp). cond (is_aside l) 1 0) (in_order stamps) (sorted_from (stamps_of trips stops rows) (t + 1) ids)
+    ∙ (λ k. cond (here k) 1 0 + asides_from trips stops rows (t + 1) ids k)
+    ∙ sym (sum_by-cons (λ (l : List TimeRow). cond (list_any (λ (r : TimeRow). is_empty r.stop) l) 1 0) mine (rows_from trips rows (t + 1) ids))
+
+pub asides : (trips stops : List (List ℕ)) (rows : List TimeRow) → count_by is_aside (sorted_trips trips stops rows) ≡ trips_aside trips rows
+asides trips stops rows = asides_from trips stops rows 0 trips
+
+-- what the records say, where neither they nor whole trips have a fault
+pub read_whole : (trips stops : List (List ℕ)) (faults : List FeedFault) (rows given : List TimeRow) (all : List (List Stamp)) (events : List (List Event)) (aside : ℕ)
+    → faults ≡ [] → rows ≡ given → AreStamps trips stops all given → whole_trip_faults all ≡ [] → events ≡ map events_of all → aside ≡ count_by is_aside all
+    → (faults ++ whole_trip_faults (sorted_trips trips stops rows) ≡ []) × (events ≡ trip_events trips stops rows) × (aside ≡ trips_aside trips rows)
+read_whole trips stops faults rows given all events aside none same is whole events_are aside_is =
+    let sorted : all ≡ sorted_trips trips stops rows = is.sorted ∙ ap (sorted_trips trips stops) (sym same) in (
+      rw none (sym (ap whole_trip_faults sorted) ∙ whole),
+      events_are ∙ ap (map events_of) sorted,
+      aside_is ∙ ap (count_by is_aside) sorted ∙ asides trips stops rows,
+    )

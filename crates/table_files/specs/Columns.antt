@@ -1,13 +1,11 @@
 -- Columns by the names in a file's header, and a file whose header lacks one that is required.
 -- (GTFS Schedule reference, file requirements: the first line of each file has the field names.)
-use Rattle.std.specs.Prelude.{◌||◌, ℕ, Bool, List, [], ◌∷◌, is_none, codes, if◌then◌else◌}
+use Rattle.std.specs.Prelude.{ℕ, Bool, List, [], ◌∷◌, is_none, codes, if◌then◌else◌}
 use Rattle.table_records.specs.Columns.{column}
 use Rattle.table_records.specs.declared.fault.FeedFault.{FeedFault}
 use Rattle.table_records.specs.declared.fault.FileName.{FileName}
 use Rattle.table_records.specs.declared.fault.What.TheVariants as what
 use Rattle.table_files.specs.declared.columns.StopColumns.{StopColumns}
-use Rattle.table_files.specs.declared.columns.TripColumns.{TripColumns}
-use Rattle.table_files.specs.declared.columns.TimeColumns.{TimeColumns}
 
 -- the columns of stops.txt
 abbrev pub stop_columns : List (List ℕ) → StopColumns
@@ -16,30 +14,6 @@ stop_columns header = record { id = column header (codes "stop_id"); kind = colu
 -- whether one is missing that must be there
 abbrev pub lacks_stop_column : StopColumns → Bool
 lacks_stop_column c = is_none c.id
-
--- the columns of trips.txt
-abbrev pub trip_columns : List (List ℕ) → TripColumns
-trip_columns header = record {
-  route = column header (codes "route_id");
-  service = column header (codes "service_id");
-  id = column header (codes "trip_id");
-}
-
-abbrev pub lacks_trip_column : TripColumns → Bool
-lacks_trip_column c = is_none c.route || is_none c.service || is_none c.id
-
--- the columns of stop_times.txt
-abbrev pub time_columns : List (List ℕ) → TimeColumns
-time_columns header = record {
-  trip = column header (codes "trip_id");
-  stop = column header (codes "stop_id");
-  sequence = column header (codes "stop_sequence");
-  arrive = column header (codes "arrival_time");
-  depart = column header (codes "departure_time");
-}
-
-abbrev pub lacks_time_column : TimeColumns → Bool
-lacks_time_column c = is_none c.trip || is_none c.stop || is_none c.sequence
 
 -- the fault of a file whose header lacks a column that is required
 abbrev pub missing_column : FileName → List FeedFault

@@ -1,9 +1,9 @@
 pub mod Columns
 pub mod Order
 pub mod Stamps
+pub mod Fill
 pub mod Stops
 pub mod StopTimes
-pub mod Trips
 pub mod WholeTrips
 pub mod Routes
 pub mod Services
@@ -12,3 +12,7 @@ pub mod Calendar
 pub mod CalendarDates
 pub mod Frequencies
 pub mod FeedTrips
+pub mod Children
+pub mod Ends
+pub mod Places
+pub mod Transfers

@@ -1,45 +1,63 @@
 -- What is checked once all records of a trip are known, and the events that they give.
--- A trip goes back in time at an event that arrives before the event before it departs, or departs before it arrives.
+-- The first and the last event need a time. A trip goes back at a timed event that departs before it arrives,
+-- or arrives before the timed event before it departs. A trip that is set aside isn't checked and has no events.
 -- (GTFS Schedule reference, stop_times.txt: arrival_time, departure_time.)
-use Rattle.std.specs.Prelude.{◌≤◌, ◌<◌, ◌||◌, ℕ, Bool, true, false, List, [], ◌∷◌, ◌++◌, length, map, sum_by, All, Option, Some, None, nat_lt, unwrap_or, if◌then◌else◌}
+use Rattle.std.specs.Prelude.{◌≤◌, ◌<◌, ◌-◌, ◌||◌, ℕ, Bool, false, List, [], ◌∷◌, ◌++◌, length, map, slice_get, sum_by, All, Option, Some, None, is_none, nat_lt, if◌then◌else◌}
+use Rattle.std.specs.List.{list_any}
 use Rattle.timetable.specs.Trips.{EventsRise}
 use Rattle.timetable.specs.declared.trips.Event.{Event}
 use Rattle.table_records.specs.declared.fault.FeedFault.{FeedFault}
 use Rattle.table_records.specs.declared.fault.FileName.TheVariants.{StopTimes}
-use Rattle.table_records.specs.declared.fault.What.TheVariants.{TimesGoBack}
+use Rattle.table_records.specs.declared.fault.What.{What}
+use Rattle.table_records.specs.declared.fault.What.TheVariants.{NoTime, TimesGoBack}
+use Rattle.table_files.specs.Fill.{filled}
 use Rattle.table_files.specs.declared.stamps.Stamp.{Stamp}
+use Rattle.table_files.specs.declared.stamps.Times.{Times}
 
--- whether one time is after another, where both are there
-abbrev pub is_after : Option ℕ → Option ℕ → Bool
-is_after None b = false
-is_after (Some a) None = false
-is_after (Some a) (Some b) = nat_lt b a
+-- whether a trip is set aside: one of its records names no stop
+abbrev pub is_aside : List Stamp → Bool
+is_aside stamps = list_any (λ s. is_none s.stop) stamps
 
--- whether a trip goes back at a stop, given its departure from the stop before
-abbrev pub goes_back : Option ℕ → Stamp → Bool
-goes_back last s = is_after last s.arrive || is_after s.arrive s.depart
+-- the record of an event, if it has no time
+abbrev pub untimed : Option Stamp → List ℕ
+untimed None = []
+untimed (Some s) = if is_none s.times then s.at ∷ [] else []
+
+-- the records of the first and the last event, where they have no time
+abbrev pub untimed_ends : List Stamp → List ℕ
+untimed_ends stamps = untimed (slice_get stamps 0) ++ untimed (slice_get stamps (length stamps - 1))
+
+-- whether a trip goes back at an event, given the last departure before it
+abbrev pub goes_back : ℕ → Option Times → Bool
+goes_back last None = false
+goes_back last (Some t) = nat_lt t.arrive last || nat_lt t.depart t.arrive
+
+-- the last departure once an event is over
+abbrev pub departed : ℕ → Option Times → ℕ
+departed last None = last
+departed last (Some t) = t.depart
 
 -- the records at which a trip goes back
-abbrev pub records_back : Option ℕ → List Stamp → List ℕ
+abbrev pub records_back : ℕ → List Stamp → List ℕ
 records_back last [] = []
-records_back last (s ∷ rest) = (if goes_back last s then s.at ∷ [] else []) ++ records_back s.depart rest
+records_back last (s ∷ rest) = (if goes_back last s.times then s.at ∷ [] else []) ++ records_back (departed last s.times) rest
+
+-- a fault at each of some records
+abbrev pub faults_of : What → List ℕ → List FeedFault
+faults_of w records = map (λ at. record { file = StopTimes; at = at; what = w }) records
 
 -- the faults of a whole trip
-abbrev pub back_faults : List Stamp → List FeedFault
-back_faults stamps = map (λ at. record { file = StopTimes; at = at; what = TimesGoBack }) (records_back None stamps)
+abbrev pub trip_faults : List Stamp → List FeedFault
+trip_faults stamps = if is_aside stamps then [] else faults_of NoTime (untimed_ends stamps) ++ faults_of TimesGoBack (records_back 0 stamps)
 
 -- the faults of whole trips, trip by trip
 abbrev pub whole_trip_faults : List (List Stamp) → List FeedFault
 whole_trip_faults [] = []
-whole_trip_faults (stamps ∷ rest) = back_faults stamps ++ whole_trip_faults rest
-
--- the event of a record, at which the trip may be boarded and left
-abbrev pub event_of : Stamp → Event
-event_of s = record { stop = record { 0 = s.stop }; arrive = unwrap_or s.arrive 0; depart = unwrap_or s.depart 0; board = true; alight = true }
+whole_trip_faults (stamps ∷ rest) = trip_faults stamps ++ whole_trip_faults rest
 
 -- the events of a trip
 abbrev pub events_of : List Stamp → List Event
-events_of stamps = map event_of stamps
+events_of stamps = if is_aside stamps then [] else filled stamps
 
 -- the events of all trips: few enough, each at one of the stops and within 168 hours, and no trip goes back in time
 pub record AreEvents (stops : ℕ) (trips : List (List Event)) : Type 0 where

@@ -1,10 +1,17 @@
 //! The records of one trip: when it calls at which stop, in ascending order of `stop_sequence`.
 
-ghost use Rattle.std.specs.Prelude.{◌≡◌, ◌==◌, [], not, IfOk, OnErr, if◌then◌else◌};
-ghost use Rattle.table_files.specs.Stamps.{IsAscending, has_number, insert_in_order};
+ghost use Rattle.std.specs.Prelude.{◌≡◌, [], true, false, IfNone, IfSome, OnErr, OnOk};
+ghost use Rattle.table_files.specs.Stamps.{FitsAt, IsAscending, has_number, insert_in_order};
 
 use std::alloc::{AllocError, Global};
 use std::marker::Model;
+
+/// When a vehicle arrives at a stop and when it departs, in seconds of its service day.
+#[derive(Clone, Copy, Debug, PartialEq, Eq)]
+pub struct Times {
+    pub arrive: u32,
+    pub depart: u32,
+}
 
 /// A trip at a stop, as a record of `stop_times.txt` says it.
 #[derive(Clone, Copy, Debug, PartialEq, Eq)]
@@ -13,12 +20,14 @@ pub struct Stamp {
     pub sequence: u32,
     /// The number of the record, the header being record 1.
     pub at: u32,
-    /// The number of the stop.
-    pub stop: u32,
-    /// The arrival in seconds, none where the file leaves it open.
-    pub arrive: Option<u32>,
-    /// The departure in seconds, none where the file leaves it open.
-    pub depart: Option<u32>,
+    /// The number of the stop, none where the record names none.
+    pub stop: Option<u32>,
+    /// Its times, none where the record has neither.
+    pub times: Option<Times>,
+    /// Whether travellers may board here.
+    pub board: bool,
+    /// Whether travellers may alight here.
+    pub alight: bool,
 }
 
 /// The records of one trip in ascending order, each sequence number once. Contracts see the list.
@@ -50,10 +59,17 @@ impl Stamps {
         }
     }
 
-    /// Puts a record where its sequence number belongs, and says whether the number was new.
-    pub fn insert(&mut self, stamp: Stamp) -> Result<bool, AllocError>
-        ensures new { IfOk result (λ new. new ≡ not (has_number stamp.sequence self.old)) }
-        ensures put { IfOk result (λ new. self.new ≡ (if new then insert_in_order stamp self.old else self.old)) }
+    /// Whether one of the records has this sequence number.
+    pub fn has(&self, sequence: u32) -> bool
+        ensures { result ≡ has_number sequence self.now }
+    {
+        place_of(self.items.as_slice(), sequence).is_none()
+    }
+
+    /// Puts a record where its sequence number belongs, which none of the others has.
+    pub fn insert(&mut self, stamp: Stamp) -> Result<(), AllocError>
+        requires new { has_number stamp.sequence self.old ≡ false }
+        ensures put { OnOk result (self.new ≡ insert_in_order stamp self.old) }
         ensures err { OnErr result (self.new ≡ self.old) }
     {
         insert_stamp(&mut self.items, stamp)
@@ -67,21 +83,33 @@ impl Stamps {
     }
 }
 
-// Looks for the place from the back, since the records of most files ascend.
-fn insert_stamp(stamps: &mut Vec<Stamp>, stamp: Stamp) -> Result<bool, AllocError>
-    requires { IsAscending 0 stamps.old.items }
-    ensures new { IfOk result (λ new. new ≡ not (has_number stamp.sequence stamps.old.items)) }
-    ensures put { IfOk result (λ new. stamps.new.items ≡ (if new then insert_in_order stamp stamps.old.items else stamps.old.items)) }
+fn insert_stamp(stamps: &mut Vec<Stamp>, stamp: Stamp) -> Result<(), AllocError>
+    requires ascending { IsAscending 0 stamps.old.items }
+    requires new { has_number stamp.sequence stamps.old.items ≡ false }
+    ensures put { OnOk result (stamps.new.items ≡ insert_in_order stamp stamps.old.items) }
     ensures ascending { IsAscending 0 stamps.new.items }
     ensures err { OnErr result (stamps.new.items ≡ stamps.old.items) }
 {
+    let Some(i) = place_of(stamps.as_slice(), stamp.sequence) else {
+        unreachable!();
+    };
+    stamps.insert(i, stamp)?;
+    Ok(())
+}
+
+// Where a record with this sequence number belongs, none where there is one already.
+// Looks from the back, since the records of most files ascend.
+fn place_of(stamps: &[Stamp], sequence: u32) -> Option<usize>
+    requires { IsAscending 0 stamps.now }
+    ensures taken { IfNone result (has_number sequence stamps.now ≡ true) }
+    ensures free { IfSome result (λ i. FitsAt i sequence stamps.now) }
+{
     let mut i = stamps.len();
-    while i > 0 && stamps[i - 1].sequence > stamp.sequence {
+    while i > 0 && stamps[i - 1].sequence > sequence {
         i -= 1;
     }
-    if i > 0 && stamps[i - 1].sequence == stamp.sequence {
-        return Ok(false);
+    if i > 0 && stamps[i - 1].sequence == sequence {
+        return None;
     }
-    stamps.insert(i, stamp)?;
-    Ok(true)
+    Some(i)
 }

@@ -1,68 +1,230 @@
-//! The records of `stop_times.txt`.
+//! The events of each trip: `stop_times.txt`.
 
-ghost use Rattle.std.specs.Prelude.{◌≡◌, ◌≤◌, ◌∷◌, ◌++◌, [], List, map, length, replicate, IfOk, IfErr};
+ghost use Rattle.std.specs.Prelude.{◌≡◌, ◌≤◌, ◌<◌, [], true, false, length, position, replicate, slice_get, IfOk, IfErr, IfSome, if◌then◌else◌};
+ghost use Rattle.std.specs.Str.{bytes_eq};
 ghost use Rattle.csv.specs.Records.{fields_of};
-ghost use Rattle.table_records.specs.Faults.{Tells, faults_after, faults_at};
-ghost use Rattle.table_records.specs.declared.fault.FileName.TheVariants.{StopTimes};
-ghost use Rattle.table_files.specs.StopTimes.{TimeRow, IsStopTimes, checks, faults_of, row_at, time_faults, time_rows, trip_events};
+ghost use Rattle.table_records.specs.Faults.{Tells};
+ghost use Rattle.table_records.specs.Fields.{is_empty, number_of, time_of, trimmed};
+ghost use Rattle.table_records.specs.declared.fault.What.TheVariants.{BadNumber, BadTime, UnknownStop};
+ghost use Rattle.table_files.specs.Services.{number_in};
+ghost use Rattle.table_files.specs.StopTimes.{is_wrong};
+ghost use Rattle.table_files.specs.StopTimes as spec;
 ghost use Rattle.table_files.specs.WholeTrips.{AreEvents};
 
-use crate::columns::TimeColumns;
-use crate::stamps::{Stamp, Stamps};
-use crate::stop_time_list::StopTimeList;
-use crate::whole_trips::events_of_trips;
+use crate::stamps::{Stamp, Stamps, Times};
+use crate::whole_trips::{StopTimes, events_of_trips};
 use csv::ByteRecord;
 use std::alloc::{AllocError, Global};
-use table_records::{FeedFault, FileName, Identifiers, Rows, What, field, number, read_time, trim};
-use timetable::Events;
+use table_records::{
+    FeedFault, FileName, Identifiers, RecordReader, What, column, field, number, open_table,
+    read_records, read_time, trim,
+};
 
-/// The events of each trip in the bytes of `stop_times.txt`, or its first fault.
-///
-/// `trips` and `stops` have the identifiers of the feed's trips and stops.
-pub fn read_stop_times(
-    alloc: Global,
-    bytes: &[u8],
-    trips: &Identifiers,
-    stops: &Identifiers,
-) -> Result<Vec<Events>, FeedFault>
-    requires { length stops.now ≤ 65535 }
-    ensures good { IfOk result (λ v. (time_faults trips.now stops.now bytes.now ≡ [])
-        × (v.items ≡ trip_events trips.now stops.now (time_rows bytes.now))) }
-    ensures fit { IfOk result (λ v. AreEvents (length stops.now) v.items) }
-    ensures fault { IfErr result (λ e. Tells e (time_faults trips.now stops.now bytes.now)) }
-{
-    let mut rows = Rows::new(alloc, bytes);
-    let mut header = ByteRecord::new(alloc);
-    if !rows.next(&mut header)? {
-        return Err(FeedFault::at(FileName::StopTimes, 1, What::MissingColumn));
-    }
-    let columns = TimeColumns::of(&header);
-    if columns.lacks_one() {
-        return Err(FeedFault::at(FileName::StopTimes, 1, What::MissingColumn));
-    }
-    read_records(alloc, trips, stops, &mut rows, columns)
+/// The most records of `stop_times.txt`.
+pub const MOST_RECORDS: u64 = 8_000_000;
+
+/// The columns of `stop_times.txt` that are read.
+#[derive(Clone, Copy, Debug, PartialEq, Eq)]
+pub struct TimeColumns {
+    pub trip: Option<usize>,
+    pub stop: Option<usize>,
+    pub sequence: Option<usize>,
+    pub arrive: Option<usize>,
+    pub depart: Option<usize>,
+    pub pickup: Option<usize>,
+    pub drop_off: Option<usize>,
 }
 
-// The events of each trip, of a file whose header was read.
-fn read_records(
-    alloc: Global,
-    trips: &Identifiers,
-    stops: &Identifiers,
-    rows: &mut Rows<'_>,
-    columns: TimeColumns,
-) -> Result<Vec<Events>, FeedFault>
+/// A reader of `stop_times.txt`, whose records name the feed's trips and stops.
+#[derive(Drop)]
+pub struct TimeReader<'a> {
+    pub columns: TimeColumns,
+    pub trips: &'a Identifiers,
+    pub stops: &'a Identifiers,
+}
+
+// Which trip a record is of, where it stops, and its place along the trip.
+#[derive(Clone, Copy, Debug, PartialEq, Eq)]
+struct Place {
+    trip: usize,
+    stop: Option<u32>,
+    sequence: u32,
+}
+
+// When a trip is at its place, and whether travellers may board and alight there.
+#[derive(Clone, Copy, Debug, PartialEq, Eq)]
+struct Visit {
+    times: Option<Times>,
+    board: bool,
+    alight: bool,
+}
+
+impl<'a> RecordReader for TimeReader<'a> {
+    ghost use Rattle.std.specs.Prelude.{◌≡◌, ◌≤◌, length};
+    ghost use Rattle.table_records.specs.declared.fault.FileName.TheVariants as file_name;
+    ghost use Rattle.table_files.specs.StopTimes.{AreStamps, TimeRow, row_at, checks};
+
+    type Table = Vec<Stamps>;
+
+    ghost Row = { TimeRow };
+
+    ghost file = { file_name.StopTimes };
+
+    ghost row_of = { λ s. row_at s.columns };
+
+    ghost checks = { λ s. checks s.trips.now s.stops.now };
+
+    ghost After = { λ s _ rows now. AreStamps s.trips.now s.stops.now now.items rows };
+
+    ghost HasRoom = { λ s table _. (length s.stops.now ≤ 65535) × (length table.items ≡ length s.trips.now) };
+
+    fn add(
+        &self,
+        _alloc: Global,
+        table: &mut Vec<Stamps>,
+        at: u64,
+        row: &ByteRecord,
+    ) -> Result<(), FeedFault> {
+        if at > MOST_RECORDS + 1 {
+            return Err(FeedFault::at(FileName::StopTimes, at, What::TooMany));
+        }
+        let place = match self.place(row) {
+            Ok(place) => place,
+            Err(what) => return Err(FeedFault::at(FileName::StopTimes, at, what)),
+        };
+        let stamps = &mut table[place.trip];
+        if stamps.has(place.sequence) {
+            return Err(FeedFault::at(FileName::StopTimes, at, What::DuplicateId));
+        }
+        let visit = match self.visit(row) {
+            Ok(visit) => visit,
+            Err(what) => return Err(FeedFault::at(FileName::StopTimes, at, what)),
+        };
+        stamps.insert(Stamp {
+            sequence: place.sequence,
+            at: at as u32,
+            stop: place.stop,
+            times: visit.times,
+            board: visit.board,
+            alight: visit.alight,
+        })?;
+        Ok(())
+    }
+}
+
+impl<'a> TimeReader<'a> {
+    // Where a record belongs.
+    fn place(&self, row: &ByteRecord) -> Result<Place, What>
+        requires { length self.now.stops.now ≤ 65535 }
+        ensures good { let r = spec.row_at self.now.columns (fields_of row.now) in
+            IfOk result (λ p. (spec.place_checks self.now.trips.now self.now.stops.now r ≡ []) × (p.trip ≡ spec.trip_of self.now.trips.now r)
+            × (p.stop ≡ spec.stop_of self.now.stops.now r) × (p.sequence ≡ spec.sequence_of r)) }
+        ensures inside { IfOk result (λ p. (p.trip < length self.now.trips.now) × IfSome p.stop (λ n. n < length self.now.stops.now)) }
+        ensures fault { let r = spec.row_at self.now.columns (fields_of row.now) in
+            IfErr result (λ e. slice_get (spec.place_checks self.now.trips.now self.now.stops.now r) 0 ≡ Some e) }
+    {
+        let trip = field(row, self.columns.trip);
+        if trip.is_empty() {
+            return Err(What::EmptyId);
+        }
+        let Some(trip) = self.trips.number(trip) else {
+            return Err(What::UnknownTrip);
+        };
+        let stop = read_stop(field(row, self.columns.stop), self.stops)?;
+        let Some(sequence) = number(trim(field(row, self.columns.sequence))) else {
+            return Err(What::BadNumber);
+        };
+        Ok(Place {
+            trip,
+            stop,
+            sequence,
+        })
+    }
+
+    // What a record says of its visit to the stop.
+    fn visit(&self, row: &ByteRecord) -> Result<Visit, What>
+        ensures good { let r = spec.row_at self.now.columns (fields_of row.now) in
+            IfOk result (λ v. (spec.visit_checks r ≡ []) × (v.times ≡ spec.times_of (time_of r.arrive) (time_of r.depart))
+            × (v.board ≡ spec.allows r.pickup) × (v.alight ≡ spec.allows r.drop_off)) }
+        ensures fault { let r = spec.row_at self.now.columns (fields_of row.now) in IfErr result (λ e. slice_get (spec.visit_checks r) 0 ≡ Some e) }
+    {
+        let arrive = read_open_time(field(row, self.columns.arrive))?;
+        let depart = read_open_time(field(row, self.columns.depart))?;
+        let board = read_allowed(field(row, self.columns.pickup))?;
+        let alight = read_allowed(field(row, self.columns.drop_off))?;
+        Ok(Visit {
+            times: times_of(arrive, depart),
+            board,
+            alight,
+        })
+    }
+}
+
+// The number of a stop, none where the text is empty.
+fn read_stop(text: &[u8], stops: &Identifiers) -> Result<Option<u32>, What>
     requires { length stops.now ≤ 65535 }
-    ensures good { IfOk result (λ v. (faults_of trips.now stops.now (map (row_at columns) rows.old) ≡ [])
-        × (v.items ≡ trip_events trips.now stops.now (map (row_at columns) rows.old))) }
-    ensures fit { IfOk result (λ v. AreEvents (length stops.now) v.items) }
-    ensures fault { IfErr result (λ e. Tells e (faults_of trips.now stops.now (map (row_at columns) rows.old))) }
+    ensures good { IfOk result (λ stop. (is_wrong (λ id. position (bytes_eq id) stops.now) text.now ≡ false)
+        × (stop ≡ (if is_empty text.now then None else Some (number_in stops.now text.now)))) }
+    ensures inside { IfOk result (λ stop. IfSome stop (λ n. n < length stops.now)) }
+    ensures fault { IfErr result (λ e. (is_wrong (λ id. position (bytes_eq id) stops.now) text.now ≡ true) × (e ≡ UnknownStop)) }
 {
-    let times = StopTimeList {
-        trips: no_records(alloc, trips.len())?,
-        count: 0,
-    };
-    let times = add_all(alloc, times, trips, stops, rows, columns)?;
-    events_of_trips(alloc, times.trips)
+    if text.is_empty() {
+        return Ok(None);
+    }
+    match stops.number(text) {
+        Some(stop) => Ok(Some(stop as u32)),
+        None => Err(What::UnknownStop),
+    }
+}
+
+// A time that may be left open: none where the text is empty.
+fn read_open_time(text: &[u8]) -> Result<Option<u32>, What>
+    ensures good { IfOk result (λ time. (is_wrong time_of (trimmed text.now) ≡ false) × (time ≡ time_of (trimmed text.now))) }
+    ensures fault { IfErr result (λ e. (is_wrong time_of (trimmed text.now) ≡ true) × (e ≡ BadTime)) }
+{
+    let time = read_time(text);
+    if time.is_none() && !trim(text).is_empty() {
+        return Err(What::BadTime);
+    }
+    Ok(time)
+}
+
+// Whether a pickup or drop-off type allows what it speaks of. Only 1 forbids it.
+fn read_allowed(text: &[u8]) -> Result<bool, What>
+    ensures good { IfOk result (λ allowed. (is_wrong number_of (trimmed text.now) ≡ false) × (allowed ≡ spec.allows (trimmed text.now))) }
+    ensures fault { IfErr result (λ e. (is_wrong number_of (trimmed text.now) ≡ true) × (e ≡ BadNumber)) }
+{
+    let text = trim(text);
+    match number(text) {
+        Some(kind) => Ok(kind != 1),
+        None if text.is_empty() => Ok(true),
+        None => Err(What::BadNumber),
+    }
+}
+
+// The times of an event: where one is given the other equals it.
+fn times_of(arrive: Option<u32>, depart: Option<u32>) -> Option<Times>
+    ensures { result ≡ spec.times_of arrive depart }
+{
+    let arrive_or_depart = arrive.or(depart)?;
+    Some(Times {
+        arrive: arrive_or_depart,
+        depart: depart.unwrap_or(arrive_or_depart),
+    })
+}
+
+fn columns_in(header: &ByteRecord) -> TimeColumns
+    ensures { result ≡ spec.columns_of (fields_of header.now) }
+{
+    TimeColumns {
+        trip: column(header, b"trip_id"),
+        stop: column(header, b"stop_id"),
+        sequence: column(header, b"stop_sequence"),
+        arrive: column(header, b"arrival_time"),
+        depart: column(header, b"departure_time"),
+        pickup: column(header, b"pickup_type"),
+        drop_off: column(header, b"drop_off_type"),
+    }
 }
 
 // No records yet, for each of the trips.
@@ -76,80 +238,37 @@ fn no_records(alloc: Global, count: usize) -> Result<Vec<Stamps>, AllocError>
     Ok(trips)
 }
 
-// Takes all records that are left.
-fn add_all(
+/// The events of each trip in the bytes of `stop_times.txt`, or its first fault.
+///
+/// `trips` and `stops` are the identifiers of the feed's trips and stops. The bytes are at most 2^30, the limit of an input file.
+pub fn read_stop_times(
     alloc: Global,
-    mut times: StopTimeList,
+    bytes: &[u8],
     trips: &Identifiers,
     stops: &Identifiers,
-    rows: &mut Rows<'_>,
-    columns: TimeColumns,
-) -> Result<StopTimeList, FeedFault>
+) -> Result<StopTimes, FeedFault>
     requires few { length stops.now ≤ 65535 }
-    requires empty { IsStopTimes trips.now stops.now times [] }
-    ensures good { IfOk result (λ p. (faults_after StopTimes (checks trips.now stops.now) [] (map (row_at columns) rows.old) ≡ [])
-        × IsStopTimes trips.now stops.now p (map (row_at columns) rows.old)) }
-    ensures fault { IfErr result (λ e. Tells e (faults_after StopTimes (checks trips.now stops.now) [] (map (row_at columns) rows.old))) }
+    requires trips { length trips.now ≤ 1000000 }
+    requires size { length bytes.now ≤ 1073741824 }
+    ensures good { IfOk result (λ t. (spec.time_faults trips.now stops.now bytes.now ≡ [])
+        × (t.trips.items ≡ spec.trip_events trips.now stops.now (spec.time_rows bytes.now))
+        × (t.aside ≡ spec.trips_aside trips.now (spec.time_rows bytes.now))) }
+    ensures fit { IfOk result (λ t. AreEvents (length stops.now) t.trips.items) }
+    ensures few { IfOk result (λ t. t.aside ≤ length trips.now) }
+    ensures fault { IfErr result (λ e. Tells e (spec.time_faults trips.now stops.now bytes.now)) }
 {
-    let mut row = ByteRecord::new(alloc);
-    while rows.next(&mut row)? {
-        times.add(trips, stops, columns, &row)?;
-    }
-    Ok(times)
-}
-
-impl StopTimeList {
-    // Takes the next record.
-    fn add(
-        &mut self,
-        trips: &Identifiers,
-        stops: &Identifiers,
-        columns: TimeColumns,
-        row: &ByteRecord,
-    ) -> Result<(), FeedFault>
-        requires few { length stops.now ≤ 65535 }
-        requires size { length self.old.trips.items ≡ length trips.now }
-        ensures good { IfOk result (λ _. (before : List TimeRow) → IsStopTimes trips.now stops.now self.old before
-            → (checks trips.now stops.now before (row_at columns (fields_of row.now)) ≡ [])
-            × IsStopTimes trips.now stops.now self.new (before ++ row_at columns (fields_of row.now) ∷ [])) }
-        ensures fault { IfErr result (λ e. (before : List TimeRow) → IsStopTimes trips.now stops.now self.old before
-            → Tells e (faults_at StopTimes (checks trips.now stops.now) before (row_at columns (fields_of row.now)))) }
-    {
-        let at = self.count as u64 + 2;
-        if at > 8_000_001 {
-            return Err(FeedFault::at(FileName::StopTimes, at, What::TooMany));
-        }
-        let trip = field(row, columns.trip);
-        if trip.is_empty() {
-            return Err(FeedFault::at(FileName::StopTimes, at, What::EmptyId));
-        }
-        let Some(trip) = trips.number(trip) else {
-            return Err(FeedFault::at(FileName::StopTimes, at, What::UnknownTrip));
-        };
-        let stop = field(row, columns.stop);
-        if stop.is_empty() {
-            return Err(FeedFault::at(FileName::StopTimes, at, What::EmptyId));
-        }
-        let Some(stop) = stops.number(stop) else {
-            return Err(FeedFault::at(FileName::StopTimes, at, What::UnknownStop));
-        };
-        let Some(sequence) = number(trim(field(row, columns.sequence))) else {
-            return Err(FeedFault::at(FileName::StopTimes, at, What::BadNumber));
-        };
-        let stamp = Stamp {
-            sequence,
-            at: at as u32,
-            stop: stop as u32,
-            arrive: read_time(field(row, columns.arrive)),
-            depart: read_time(field(row, columns.depart)),
-        };
-        if !self.trips[trip].insert(stamp)? {
-            return Err(FeedFault::at(FileName::StopTimes, at, What::DuplicateId));
-        }
-        if stamp.arrive.is_none() || stamp.depart.is_none() {
-            return Err(FeedFault::at(FileName::StopTimes, at, What::BadTime));
-        }
-        self.count += 1;
-        Ok(())
-    }
+    let mut file = open_table(
+        alloc,
+        bytes,
+        FileName::StopTimes,
+        &[b"trip_id", b"stop_id", b"stop_sequence"],
+    )?;
+    let mut records = no_records(alloc, trips.len())?;
+    let reader = TimeReader {
+        columns: columns_in(&file.header),
+        trips,
+        stops,
+    };
+    read_records(alloc, &reader, &mut records, &mut file.rows)?;
+    events_of_trips(alloc, records)
 }

@@ -1,11 +1,23 @@
 //! The feed that the program carries: two trips among three stops.
 
+ghost use Rattle.gtfs_tables.specs.Files.{AreWithinLimit, files_of};
+
 use gtfs_tables::FeedBytes;
 
 const STOPS: &[u8] = b"stop_id,stop_name
 A,Alpha
 B,Beta
 C,Gamma
+";
+
+const ROUTES: &[u8] = b"route_id
+R1
+R2
+";
+
+const CALENDAR: &[u8] =
+    b"service_id,monday,tuesday,wednesday,thursday,friday,saturday,sunday,start_date,end_date
+MON,1,0,0,0,0,0,0,20260504,20260531
 ";
 
 const TRIPS: &[u8] = b"route_id,service_id,trip_id
@@ -21,14 +33,16 @@ T2,08:30:00,08:30:00,C,2
 ";
 
 /// The files of the small feed.
-pub fn example_feed() -> FeedBytes<'static> {
+pub fn example_feed() -> FeedBytes<'static>
+    ensures { AreWithinLimit (files_of result) }
+{
     FeedBytes {
         stops: Some(STOPS),
+        routes: Some(ROUTES),
+        calendar: Some(CALENDAR),
+        calendar_dates: None,
         trips: Some(TRIPS),
         stop_times: Some(STOP_TIMES),
-        routes: None,
-        calendar: None,
-        calendar_dates: None,
         frequencies: None,
         transfers: None,
     }

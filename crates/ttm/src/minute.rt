@@ -1,7 +1,7 @@
 //! The line for one minute of the day.
 
 ghost use Rattle.std.specs.Prelude.{◌≡◌, ◌<◌, ◌≤◌, [], IfOk, IfErr};
-ghost use Rattle.gtfs_tables.specs.Files.{feed_of, files_of};
+ghost use Rattle.gtfs_tables.specs.Files.{AreWithinLimit, feed_faults, feed_of, files_of};
 ghost use Rattle.ttm.specs.MinuteLine.{IsMinuteLine};
 ghost use Rattle.ttm.specs.MinuteFaults.{minute_faults, origin_faults, Tells};
 
@@ -15,7 +15,8 @@ use std::alloc::Global;
 /// The least durations from `origin` at a minute of the day to all stops, in seconds, joined by commas.
 ///
 /// Every trip of the feed runs once, at the feed's own times, and nobody walks. A stop that no journey of at most
-/// `rides` rides reaches has an empty field. `minute` is below 1,440, `rides` 1 to 8.
+/// `rides` rides reaches has an empty field. `minute` is below 1,440, `rides` 1 to 8, and each file keeps the limit of
+/// [`FeedBytes::fits`].
 pub fn minute_line(
     alloc: Global,
     files: &FeedBytes<'_>,
@@ -23,14 +24,27 @@ pub fn minute_line(
     minute: u32,
     rides: u32,
 ) -> Result<Vec<u8>, StudyFault>
+    requires files { AreWithinLimit (files_of files.now) }
     requires minute { minute < 1440 }
     requires rides { (1 ≤ rides) × (rides ≤ 8) }
     ensures good { IfOk result (λ _. minute_faults (files_of files.now) origin.now ≡ []) }
     ensures line { IfOk result (λ line. IsMinuteLine (feed_of (files_of files.now)) origin.now minute rides line.items) }
     ensures fault { IfErr result (λ fault. Tells fault (minute_faults (files_of files.now) origin.now)) }
 {
-    let feed = read_feed(alloc, files).map_err(StudyFault::Feed)?;
+    let feed = feed_from(alloc, files)?;
     line_from(alloc, &feed, origin, minute, rides)
+}
+
+/// What the files say, or the first fault among them.
+fn feed_from(alloc: Global, files: &FeedBytes<'_>) -> Result<Feed, StudyFault>
+    requires { AreWithinLimit (files_of files.now) }
+    ensures good { IfOk result (λ feed. (feed_faults (files_of files.now) ≡ []) × (feed ≡ feed_of (files_of files.now))) }
+    ensures fault { IfErr result (λ fault. Tells fault (feed_faults (files_of files.now))) }
+{
+    match read_feed(alloc, files) {
+        Ok(feed) => Ok(feed),
+        Err(fault) => Err(StudyFault::Feed(fault)),
+    }
 }
 
 /// The line of a feed that was read.

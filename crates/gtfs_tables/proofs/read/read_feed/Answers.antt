@@ -1,37 +1,51 @@
-use Rattle.std.proofs.Common.{◌∙◌, arith}
+use Rattle.std.proofs.Common.{◌∙◌, [], inl, sym}
+use Rattle.std.proofs.lemmas.List.{length-map}
 use Rattle.std.proofs.lemmas.Result.{err_from_is_err_and}
-use Rattle.table_files.specs.StopTimes.{time_rows}
-use Rattle.gtfs_tables.proofs.FeedFacts.{as_many, feed_is, is_feed, no_faults, told_times, told_trips}
+use Rattle.gtfs_tables.specs.Files.{catalog_faults, faults_of_frequencies, faults_of_stop_times, files_of}
+use Rattle.std.specs.declared.vec.Vec.{Vec}
+use Rattle.std.specs.declared.alloc.Global.{Global}
+use Rattle.table_files.specs.declared.frequencies.Departures.{Departures}
+use Rattle.gtfs_tables.proofs.Sound.{departures_count, events_count, feed_is_sound, index_is}
+use Rattle.gtfs_tables.proofs.Told.{told_last, told_next}
 use Rattle.gtfs_tables.proofs.read.read_feed.Goals as goal
+
+pub returns-in_err-times-clause-fault : goal.returns-in_err-times-clause-fault
+returns-in_err-times-clause-fault c =
+    let f = files_of c.args.files.now in
+    let (e, is, same) = err_from_is_err_and c.from_residual-in_err-times.result c.from_residual-in_err-times.ensures.1 in
+    rw (is, same) (told_next _ (catalog_faults f) (faults_of_stop_times f) (faults_of_frequencies f) c.in_ok-catalog.ensures.good.0 c.in_err-times.ensures.fault)
+
+pub returns-in_err-departures-clause-fault : goal.returns-in_err-departures-clause-fault
+returns-in_err-departures-clause-fault c =
+    let f = files_of c.args.files.now in
+    let (e, is, same) = err_from_is_err_and c.from_residual-in_err-departures.result c.from_residual-in_err-departures.ensures.1 in
+    rw (is, same) (told_last _ (catalog_faults f) (faults_of_stop_times f) (faults_of_frequencies f) c.in_ok-catalog.ensures.good.0 c.in_ok-times.ensures.good.0 c.in_err-departures.ensures.fault)
 
 pub returns-in_err-trips-clause-fault : goal.returns-in_err-trips-clause-fault
 returns-in_err-trips-clause-fault c =
-    let (e, is, same_error) = err_from_is_err_and c.from_residual-in_err-trips.result c.from_residual-in_err-trips.ensures.1 in
-    rw (is, same_error) (told_trips c.args.files.now c.in-Some.bytes c.in-Some-trips.bytes _ c.in-Some.is c.in_ok-stops.ensures.good.0 c.in-Some-trips.is c.in_err-trips.ensures.fault)
+    let (e, is, memory) = err_from_is_err_and c.from_residual-in_err-trips.result c.from_residual-in_err-trips.ensures.1 in
+    rw is (inl memory)
 
-pub returns-in_err-events-clause-fault : goal.returns-in_err-events-clause-fault
-returns-in_err-events-clause-fault c =
-    let (e, is, same_error) = err_from_is_err_and c.from_residual-in_err-events.result c.from_residual-in_err-events.ensures.1 in
-    rw (is, same_error) (told_times c.args.files.now c.in-Some.bytes c.in-Some-trips.bytes c.in-Some-stop_times.bytes c.in-Some.is c.in-Some-trips.is c.in-Some-stop_times.is
-    c.in_ok-stops.ensures.good.0 c.in_ok-trips.ensures.good.0 c.in_ok-stops.stops.stops c.in_ok-trips.trips.ids c.in_ok-stops.ensures.good.1.stops c.in_ok-trips.ensures.good.1.ids
-    _ c.in_err-events.ensures.fault)
+pub trips_of-requires-clause-events : goal.trips_of-requires-clause-events
+trips_of-requires-clause-events c =
+    let (_, events, aside) = c.in_ok-times.ensures.good in
+    events_count (files_of c.args.files.now) c.in_ok-catalog.catalog [] c.in_ok-times.times.aside c.in_ok-times.times.trips.items _ c.in_ok-catalog.ensures.good.1 events c.in_ok-departures.ensures.good.1 aside
 
-pub trips_of-requires : goal.trips_of-requires
-trips_of-requires c =
-    as_many c.in_ok-trips.trips.ids c.in_ok-stops.stops.stops (time_rows c.in-Some-stop_times.bytes.now) c.in_ok-events.events.items c.in_ok-events.ensures.good.1
+pub trips_of-requires-clause-departures : goal.trips_of-requires-clause-departures
+trips_of-requires-clause-departures c =
+    let (_, events, aside) = c.in_ok-times.ensures.good in
+    sym (length-map c.in_ok-departures.departures.items (λ (rows : Vec Departures Global). rows.items))
+    ∙ departures_count (files_of c.args.files.now) c.in_ok-catalog.catalog [] c.in_ok-times.times.aside c.in_ok-times.times.trips.items _ c.in_ok-catalog.ensures.good.1 events c.in_ok-departures.ensures.good.1 aside
 
-pub new-requires : goal.new-requires
-new-requires c =
-    is_feed c.in_ok-stops.stops.stops c.in_ok-trips.trips.ids c.in_ok-events.events.items c.in_ok-trips-2.trips.items (omega (arith, c.in_ok-stops.stops.few, c.in_ok-stops.stops.within))
-    c.in_ok-stops.ensures.good.1.distinct c.in_ok-trips.trips.few c.in_ok-events.ensures.fit c.in_ok-trips-2.ensures
+pub new-requires-clause-feed : goal.new-requires-clause-feed
+new-requires-clause-feed c =
+    let (_, events, aside) = c.in_ok-times.ensures.good in
+    feed_is_sound (files_of c.args.files.now) c.in_ok-catalog.catalog c.in_ok-trips.trips.items c.in_ok-times.times.aside c.in_ok-times.times.trips.items _
+    c.in_ok-catalog.ensures.good.1 events c.in_ok-departures.ensures.good.1 aside c.in_ok-trips.ensures
+    c.in_ok-catalog.ensures.good.0 c.in_ok-departures.ensures.good.0 c.in_ok-times.ensures.fit c.in_ok-times.ensures.few
 
-pub returns-clause-good : goal.returns-clause-good
-returns-clause-good c =
-    let list = rw c.in_ok-events.ensures.good.1 at c.in_ok-trips-2.ensures in (
-      no_faults c.args.files.now c.in-Some.bytes c.in-Some-trips.bytes c.in-Some-stop_times.bytes c.in-Some.is c.in-Some-trips.is c.in-Some-stop_times.is
-          c.in_ok-stops.ensures.good.0 c.in_ok-trips.ensures.good.0 c.in_ok-stops.stops.stops c.in_ok-trips.trips.ids c.in_ok-stops.ensures.good.1.stops c.in_ok-trips.ensures.good.1.ids
-          c.in_ok-events.ensures.good.0,
-      c.new.ensures ∙ feed_is c.args.files.now c.in-Some.bytes c.in-Some-trips.bytes c.in-Some-stop_times.bytes c.in-Some.is c.in-Some-trips.is c.in-Some-stop_times.is
-          c.in_ok-stops.ensures.good.0 c.in_ok-trips.ensures.good.0 c.in_ok-stops.stops.stops c.in_ok-trips.trips.ids c.in_ok-stops.ensures.good.1.stops c.in_ok-trips.ensures.good.1.ids
-          _ list,
-    )
+pub new-requires-clause-ids : goal.new-requires-clause-ids
+new-requires-clause-ids c =
+    let (_, events, aside) = c.in_ok-times.ensures.good in
+    index_is (files_of c.args.files.now) c.in_ok-catalog.catalog c.in_ok-trips.trips.items c.in_ok-times.times.aside c.in_ok-times.times.trips.items _
+    c.in_ok-catalog.ensures.good.1 events c.in_ok-departures.ensures.good.1 aside c.in_ok-trips.ensures

@@ -1,9 +1,13 @@
-use Rattle.std.proofs.Common.{◌≡◌, ◌++◌, map}
+use Rattle.std.proofs.Common.{◌≡◌, ◌≤◌, ◌+◌, ◌++◌, length, map}
+use Rattle.std.specs.Prelude.{count_by, sum_by}
 use Rattle.std.specs.Vec.Iter.{into_iter_items}
-use Rattle.table_files.specs.WholeTrips.{events_of, whole_trip_faults}
+use Rattle.table_files.specs.WholeTrips.{events_of, is_aside, whole_trip_faults}
 use Rattle.table_files.proofs.whole_trips.events_of_trips.Given as goal
 
 abbrev pub invariant-loop-stamps : goal.invariant-loop-stamps
 invariant-loop-stamps l =
     (whole_trip_faults (into_iter_items l.stamps-iterator) ≡ whole_trip_faults l.fn.trips.items)
     × (l.all.items ++ map events_of (into_iter_items l.stamps-iterator) ≡ map events_of l.fn.trips.items)
+    × (l.aside + count_by is_aside (into_iter_items l.stamps-iterator) ≡ count_by is_aside l.fn.trips.items)
+    × (l.aside + length (into_iter_items l.stamps-iterator) ≤ 1000000)
+    × (sum_by length (into_iter_items l.stamps-iterator) ≤ 8000000)

@@ -1,0 +1,140 @@
+//! The catalog of a feed: what its files name, by number, before their times are read.
+
+ghost use Rattle.std.specs.Prelude.{◌≡◌, ◌≤◌, [], length, IfOk, IfErr};
+ghost use Rattle.std.specs.List.{IsDistinct};
+ghost use Rattle.std.specs.Str.{bytes_eq};
+ghost use Rattle.table_records.specs.Faults.{Tells};
+ghost use Rattle.table_files.specs.Calendar.{IsCalendar, service_rows};
+ghost use Rattle.table_files.specs.CalendarDates.{AreExceptions, date_rows};
+ghost use Rattle.table_files.specs.FeedTrips.{AreTrips, trip_rows};
+ghost use Rattle.gtfs_tables.specs.Files as spec;
+ghost use Rattle.gtfs_tables.specs.Catalog.{IsCatalog};
+
+use crate::feed_bytes::{FeedBytes, missing};
+use std::alloc::Global;
+use table_files::{
+    Calendar, CalendarDates, CalendarRow, ExceptionRow, FeedTrips, read_calendar,
+    read_calendar_dates, read_feed_trips, read_routes, read_stops,
+};
+use table_records::{FeedFault, FileName, Identifiers};
+
+/// The stops, routes, services and trips of a feed, by number, and the rows of its calendars.
+#[derive(Drop)]
+pub struct Catalog {
+    pub stops: Identifiers,
+    pub routes: Identifiers,
+    pub calendar: Vec<CalendarRow>,
+    pub exceptions: Vec<ExceptionRow>,
+    pub trips: FeedTrips,
+}
+
+/// What `stops.txt`, `routes.txt`, `calendar.txt`, `calendar_dates.txt` and `trips.txt` name, or the first fault
+/// among them, in this order.
+pub fn read_catalog(alloc: Global, files: &FeedBytes<'_>) -> Result<Catalog, FeedFault>
+    requires { spec.AreWithinLimit (spec.files_of files.now) }
+    ensures good { IfOk result (λ c. (spec.catalog_faults (spec.files_of files.now) ≡ []) × IsCatalog c (spec.files_of files.now)) }
+    ensures fault { IfErr result (λ e. Tells e (spec.catalog_faults (spec.files_of files.now))) }
+{
+    let stops = stops_of(alloc, files)?;
+    let routes = routes_of(alloc, files)?;
+    let calendar = calendar_of(alloc, files)?;
+    let dates = dates_of(alloc, files, calendar.services)?;
+    let trips = trips_of(alloc, files, &routes, dates.services)?;
+    Ok(Catalog {
+        stops,
+        routes,
+        calendar: calendar.rows,
+        exceptions: dates.rows,
+        trips,
+    })
+}
+
+// The identifiers of the stops.
+fn stops_of(alloc: Global, files: &FeedBytes<'_>) -> Result<Identifiers, FeedFault>
+    ensures good { IfOk result (λ ids. (spec.faults_of_stops (spec.files_of files.now) ≡ []) × (ids ≡ spec.stops_in (spec.files_of files.now))) }
+    ensures few { IfOk result (λ ids. length ids ≤ 65535) }
+    ensures distinct { IfOk result (λ ids. IsDistinct bytes_eq ids) }
+    ensures fault { IfErr result (λ e. Tells e (spec.faults_of_stops (spec.files_of files.now))) }
+{
+    let Some(bytes) = files.stops else {
+        return Err(missing(FileName::Stops));
+    };
+    let list = read_stops(alloc, bytes)?;
+    Ok(list.stops)
+}
+
+// The identifiers of the routes.
+fn routes_of(alloc: Global, files: &FeedBytes<'_>) -> Result<Identifiers, FeedFault>
+    requires { spec.IsWithinLimit (spec.bytes_of files.now.routes) }
+    ensures good { IfOk result (λ ids. (spec.faults_of_routes (spec.files_of files.now) ≡ []) × (ids ≡ spec.routes_in (spec.files_of files.now))) }
+    ensures few { IfOk result (λ ids. length ids ≤ 1073741824) }
+    ensures fault { IfErr result (λ e. Tells e (spec.faults_of_routes (spec.files_of files.now))) }
+{
+    match files.routes {
+        Some(bytes) => read_routes(alloc, bytes),
+        None => Err(missing(FileName::Routes)),
+    }
+}
+
+// The rows of `calendar.txt`, which may be absent where `calendar_dates.txt` is there.
+fn calendar_of(alloc: Global, files: &FeedBytes<'_>) -> Result<Calendar, FeedFault>
+    requires { spec.IsWithinLimit (spec.bytes_of files.now.calendar) }
+    ensures good { IfOk result (λ c. (spec.faults_of_calendar (spec.files_of files.now) ≡ [])
+        × IsCalendar c (spec.rows_in service_rows (spec.bytes_of files.now.calendar))) }
+    ensures few { IfOk result (λ c. length c.services ≤ 1073741824) }
+    ensures fault { IfErr result (λ e. Tells e (spec.faults_of_calendar (spec.files_of files.now))) }
+{
+    match files.calendar {
+        Some(bytes) => read_calendar(alloc, bytes),
+        None => match files.calendar_dates {
+            Some(_) => Ok(Calendar {
+                services: Identifiers::new(alloc),
+                rows: Vec::new(alloc),
+            }),
+            None => Err(missing(FileName::Calendar)),
+        },
+    }
+}
+
+// The rows of `calendar_dates.txt`, after the services that are known.
+fn dates_of(
+    alloc: Global,
+    files: &FeedBytes<'_>,
+    services: Identifiers,
+) -> Result<CalendarDates, FeedFault>
+    requires size { spec.IsWithinLimit (spec.bytes_of files.now.calendar_dates) }
+    requires known { length services ≤ 1073741824 }
+    ensures good { IfOk result (λ d. (spec.faults_of_calendar_dates (spec.files_of files.now) ≡ [])
+        × AreExceptions services d (spec.rows_in date_rows (spec.bytes_of files.now.calendar_dates))) }
+    ensures few { IfOk result (λ d. length d.services ≤ 2147483650) }
+    ensures fault { IfErr result (λ e. Tells e (spec.faults_of_calendar_dates (spec.files_of files.now))) }
+{
+    match files.calendar_dates {
+        Some(bytes) => read_calendar_dates(alloc, bytes, services),
+        None => Ok(CalendarDates {
+            services,
+            rows: Vec::new(alloc),
+        }),
+    }
+}
+
+// The trips, after the services that are known.
+fn trips_of(
+    alloc: Global,
+    files: &FeedBytes<'_>,
+    routes: &Identifiers,
+    services: Identifiers,
+) -> Result<FeedTrips, FeedFault>
+    requires size { spec.IsWithinLimit (spec.bytes_of files.now.trips) }
+    requires routes { routes.now ≡ spec.routes_in (spec.files_of files.now) }
+    requires few { length routes.now ≤ 1073741824 }
+    requires known { length services ≤ 2147483650 }
+    ensures good { IfOk result (λ t. (spec.faults_of_trips (spec.files_of files.now) ≡ [])
+        × AreTrips routes.now services t (spec.rows_in trip_rows (spec.bytes_of files.now.trips))) }
+    ensures fault { IfErr result (λ e. Tells e (spec.faults_of_trips (spec.files_of files.now))) }
+{
+    match files.trips {
+        Some(bytes) => read_feed_trips(alloc, bytes, routes, services),
+        None => Err(missing(FileName::Trips)),
+    }
+}

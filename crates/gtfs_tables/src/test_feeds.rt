@@ -1,0 +1,74 @@
+//! A feed of three stops and two trips for the tests, and what is asserted of feeds and of refusals.
+
+use crate::{Feed, FeedBytes, FileName, What, read_feed};
+use std::alloc::Global;
+use std::process::Abort;
+
+pub const STOPS: &[u8] = b"stop_id,stop_name\nA,Alpha\nB,Beta\nC,Gamma\n";
+
+pub const ROUTES: &[u8] = b"route_id,route_type\nR1,3\nR2,3\n";
+
+pub const CALENDAR: &[u8] =
+    b"service_id,monday,tuesday,wednesday,thursday,friday,saturday,sunday,start_date,end_date\nMON,1,0,0,0,0,0,0,20260504,20260531\n";
+
+pub const TRIPS: &[u8] = b"route_id,service_id,trip_id\nR1,MON,T1\nR2,MON,T2\n";
+
+pub const TIMES: &[u8] =
+    b"trip_id,arrival_time,departure_time,stop_id,stop_sequence\nT1,08:00:00,08:00:00,A,1\nT1,08:10:00,08:10:00,B,2\nT2,08:15:00,08:15:00,B,1\nT2,08:30:00,08:30:00,C,2\n";
+
+/// The small feed: two trips on Mondays in May 2026.
+pub fn small_feed() -> FeedBytes<'static> {
+    FeedBytes {
+        stops: Some(STOPS),
+        routes: Some(ROUTES),
+        calendar: Some(CALENDAR),
+        calendar_dates: None,
+        trips: Some(TRIPS),
+        stop_times: Some(TIMES),
+        frequencies: None,
+        transfers: None,
+    }
+}
+
+/// The small feed with other files for its stops, trips and times.
+pub fn feed_of(
+    stops: &'static [u8],
+    trips: &'static [u8],
+    times: &'static [u8],
+) -> FeedBytes<'static> {
+    FeedBytes {
+        stops: Some(stops),
+        trips: Some(trips),
+        stop_times: Some(times),
+        ..small_feed()
+    }
+}
+
+/// The feed of the files, which have no fault.
+pub fn expect_read(rt: &impl Abort, alloc: Global, files: FeedBytes<'_>) -> Feed {
+    assert!(rt; files.fits());
+    match read_feed(alloc, &files) {
+        Ok(feed) => feed,
+        Err(fault) => panic!(rt; "{fault:?}"),
+    }
+}
+
+/// The files are refused for this fault.
+pub fn expect_fault(
+    rt: &impl Abort,
+    alloc: Global,
+    files: FeedBytes<'_>,
+    file: FileName,
+    at: u64,
+    what: What,
+) {
+    assert!(rt; files.fits());
+    match read_feed(alloc, &files) {
+        Ok(_) => panic!(rt; "no fault, where {file:?} {at} {what:?} was expected"),
+        Err(fault) => {
+            assert_eq!(rt; fault.file, file);
+            assert_eq!(rt; fault.at, at);
+            assert_eq!(rt; fault.what, what);
+        }
+    }
+}

@@ -1,0 +1,61 @@
+-- Texts that are put out in parts, the last of them perhaps cut off.
+use Rattle.std.proofs.Common.{◌≡◌, ◌<◌, ◌+◌, ℕ, zero, suc, List, [], ◌++◌, Option, Some, None, inl, inr, ◌⊎◌, take, drop, refl, sym, ap, ◌∙◌, subst, arith, append_assoc, take-append-drop}
+use Rattle.std.proofs.KnownBytes.{Appends-nil, Appends-trans}
+use Rattle.std.proofs.lemmas.Bool.{cases_order}
+use Rattle.std.specs.Io.KnownBytes.{Appends, Keeps}
+use Rattle.matrix_text.specs.Prefixes.{PutsPrefix}
+use Rattle.matrix_text.specs.Text.{texts_below}
+
+-- nothing is a prefix
+pub nothing_out : (a : Option (List ℕ)) (text : List ℕ) → PutsPrefix a a text
+nothing_out a text = record { out = []; left = text; split = refl; appended = Appends-nil a }
+
+-- so are the first bytes
+pub first_out : (a b : Option (List ℕ)) (text : List ℕ) (n : ℕ) → Appends a b (take n text) → PutsPrefix a b text
+first_out a b text n h = record { out = take n text; left = drop n text; split = take-append-drop n text; appended = h }
+
+-- and still are where a write that failed kept them
+pub kept_out : (a b c : Option (List ℕ)) (text : List ℕ) → Appends a b text → Keeps b c → Appends a c text
+kept_out None b c text p q = tt
+kept_out (Some x) None c text p q = absurd p
+kept_out (Some x) (Some y) None text p q = absurd q
+kept_out (Some x) (Some y) (Some z) text p q = q ∙ p
+
+-- a prefix of the first part
+pub cut_before : (a b : Option (List ℕ)) (first more : List ℕ) → PutsPrefix a b first → PutsPrefix a b (first ++ more)
+cut_before a b first more p = record {
+  out = p.out;
+  left = p.left ++ more;
+  split = sym (append_assoc p.out p.left more) ∙ ap (λ (l : List ℕ). l ++ more) p.split;
+  appended = p.appended;
+}
+
+-- the first part, and a prefix of the second
+pub cut_after : (a b c : Option (List ℕ)) (first more : List ℕ) → Appends a b first → PutsPrefix b c more → PutsPrefix a c (first ++ more)
+cut_after a b c first more h p = record {
+  out = first ++ p.out;
+  left = p.left;
+  split = append_assoc first p.out p.left ∙ ap (λ (l : List ℕ). first ++ l) p.split;
+  appended = Appends-trans a b c first p.out h p.appended;
+}
+
+-- a prefix of fewer texts
+fewer : (a b : Option (List ℕ)) (text : ℕ → List ℕ) (k n : ℕ) → k < n → PutsPrefix a b (texts_below text (suc k)) → PutsPrefix a b (texts_below text n)
+fewer a b text k zero low p = absurd (omega arith)
+fewer a b text k (suc n) low p = at (λ l. fewer a b text k n l p) (cases_order k n)
+  where
+    at : (k < n → PutsPrefix a b (texts_below text n)) → (k ≡ n) ⊎ ((k < n) ⊎ (n < k)) → PutsPrefix a b (texts_below text (suc n))
+    at below (inl e) = subst (λ j. PutsPrefix a b (texts_below text (suc j))) e p
+    at below (inr (inl l)) = cut_before a b (texts_below text n) (text n) (below l)
+    at below (inr (inr l)) = absurd (omega arith)
+
+-- the texts below k, and a prefix of the next
+pub cut_below : (a b c : Option (List ℕ)) (text : ℕ → List ℕ) (k n : ℕ) → k < n → Appends a b (texts_below text k) → PutsPrefix b c (text k) → PutsPrefix a c (texts_below text n)
+cut_below a b c text k n low h p = fewer a c text k n low (cut_after a b c (texts_below text k) (text k) h p)
+
+-- the texts below k, and the next
+pub one_more : (a b c : Option (List ℕ)) (text : ℕ → List ℕ) (k : ℕ) → Appends a b (texts_below text k) → Appends b c (text k) → Appends a c (texts_below text (k + 1))
+one_more a b c text k h p = subst (λ n. Appends a c (texts_below text n)) (suc_is k) (Appends-trans a b c (texts_below text k) (text k) h p)
+  where
+    suc_is : (n : ℕ) → suc n ≡ n + 1
+    suc_is n = omega arith

@@ -1,0 +1,36 @@
+use Rattle.std.proofs.Common.{arith, append-nil, [], subst, ◌≡◌, ◌-◌, ◌≤◌, length, take, drop, List, ℕ, length-drop}
+use Rattle.std.proofs.lemmas.List.{take_all}
+use Rattle.std.proofs.Math.Seq.{take-add}
+use Rattle.std.proofs.KnownBytes.{Appends-trans}
+use Rattle.std.specs.Io.KnownBytes.{Appends}
+use Rattle.matrix_text.proofs.Prefixes.{first_out, kept_out}
+use Rattle.matrix_text.proofs.output.put_all.Goals as goal
+
+pub loop-sent-preserved : goal.loop-sent-preserved
+loop-sent-preserved g c =
+    let bytes = c.args.bytes.now in
+    let sent = c.loop-sent.sent in
+    let n = c.in-Ok.taken in
+    let cut : take (length bytes - sent) (drop sent bytes) ≡ drop sent bytes = take_all (length bytes - sent) (drop sent bytes) (omega (arith, length-drop sent bytes)) in
+    let bound : n ≤ length (take (length bytes - sent) (drop sent bytes)) = c.in-Ok.ensures.bound in
+    let fits : n ≤ length (drop sent bytes) = subst (λ (l : List ℕ). n ≤ length l) cut bound in
+    let one : Appends (g.W.Write.contents c.loop-sent.w) (g.W.Write.contents c.write.new.self) (take n (take (length bytes - sent) (drop sent bytes))) = c.in-Ok.ensures.bytes in
+    record {
+      bound = omega (arith, length-drop sent bytes);
+      out = rw (take-add sent n bytes) (Appends-trans _ _ _ _ _ c.loop-sent.invariant.out (subst (λ (l : List ℕ). Appends (g.W.Write.contents c.loop-sent.w) (g.W.Write.contents c.write.new.self) (take n l)) cut one));
+    }
+
+pub returns-in-Ok-eq0-clause-err : goal.returns-in-Ok-eq0-clause-err
+returns-in-Ok-eq0-clause-err g c =
+    let old = g.W.Write.contents c.args.w.now in
+    let now = g.W.Write.contents c.loop-sent.w in
+    let new = g.W.Write.contents c.write.new.self in
+    let rest = take (length c.args.bytes.now - c.loop-sent.sent) (drop c.loop-sent.sent c.args.bytes.now) in
+    let none : c.in-Ok-eq0.field-0 ≡ 0 = omega arith in
+    let nothing : Appends now new [] = subst (λ (n : ℕ). Appends now new (take n rest)) none c.in-Ok-eq0.ensures.bytes in
+    first_out old new c.args.bytes.now c.loop-sent.sent
+    (subst (λ (l : List ℕ). Appends old new l) (append-nil (take c.loop-sent.sent c.args.bytes.now)) (Appends-trans old now new _ [] c.loop-sent.invariant.out nothing))
+
+pub returns-in-Err-clause-err : goal.returns-in-Err-clause-err
+returns-in-Err-clause-err g c =
+    first_out _ _ c.args.bytes.now c.loop-sent.sent (kept_out _ _ _ _ c.loop-sent.invariant.out c.in-Err.ensures.bytes)

@@ -1,0 +1,10 @@
+-- What a writer holds after a text was put out in part.
+use Rattle.std.specs.Prelude.{◌≡◌, ℕ, List, ◌++◌, Option}
+use Rattle.std.specs.Io.KnownBytes.{Appends}
+
+-- some prefix of the text is out, and nothing else
+pub record PutsPrefix (old new : Option (List ℕ)) (text : List ℕ) : Type 0 where
+  pub out : List ℕ
+  pub left : List ℕ
+  pub split : out ++ left ≡ text
+  pub appended : Appends old new out

@@ -1,0 +1,23 @@
+//! The text of a matrix: comma-separated records, a header and then one line per scenario and origin.
+//!
+//! - `text`: [`write_matrix`], line after line.
+//! - `labels`: [`Labels`], what names the rows and the columns.
+//! - `lines`: one line, formed whole before it is put out.
+//! - `output`: [`put_all`], bytes put out whole.
+//! - `faults`: [`TextFault`], why a text wasn't written.
+//!
+//! The text itself stands in `specs/Text.antt`.
+#![tactic(auto)]
+
+mod faults;
+mod labels;
+mod lines;
+mod output;
+#[cfg(test)]
+mod tests;
+mod text;
+
+pub use faults::TextFault;
+pub use labels::Labels;
+pub use output::put_all;
+pub use text::write_matrix;

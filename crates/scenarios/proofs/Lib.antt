@@ -1,0 +1,5 @@
+mod Shifting
+mod MovedEvents
+mod KeptRuns
+mod Fitting
+mod MovedTrips

@@ -1,0 +1,11 @@
+use Rattle.std.proofs.Common.{◌≡◌, map, take, true}
+use Rattle.std.specs.List.{list_all}
+use Rattle.scenarios.specs.Moving.{arriving}
+use Rattle.scenarios.specs.Networks.{is_event_on_axis, moved_event}
+use Rattle.scenarios.proofs.moving.moved_events.Given as goal
+
+abbrev pub invariant-loop-place : goal.invariant-loop-place
+invariant-loop-place l = record {
+  made : l.made.items ≡ map (moved_event l.fn.seconds) (take l.place (arriving l.departs l.events));
+  axis : list_all (is_event_on_axis l.fn.seconds) (take l.place (arriving l.departs l.events)) ≡ true;
+}

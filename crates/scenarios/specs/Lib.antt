@@ -1,0 +1,5 @@
+pub mod Edits
+pub mod ScenarioData
+pub mod Scenario
+pub mod Networks
+pub mod Moving

@@ -1,0 +1,4 @@
+mod Marking
+mod Listing
+mod Departing
+mod Running

@@ -1,0 +1,28 @@
+use Rattle.std.proofs.Common.{◌∙◌}
+use Rattle.csv.specs.Records.{fields_of}
+use Rattle.table_records.specs.Table.{records_of}
+use Rattle.table_records.specs.declared.fault.FileName.TheVariants as file
+use Rattle.table_files.specs.Places.{checks, required, row_of}
+use Rattle.table_files.proofs.PlaceFacts.{are_places}
+use Rattle.table_records.proofs.ReadingFacts.{headed}
+use Rattle.table_files.proofs.places.read_places.Goals as goal
+
+pub into_places-requires-clause-few : goal.into_places-requires-clause-few
+into_places-requires-clause-few c =
+    let room = c.in_ok-read_records.ensures.room in
+    (are_places c.read_records.new.table _ c.in_ok-read_records.ensures.good.1 room.few room.stops room.stations).2
+
+pub into_places-requires-clause-in_range : goal.into_places-requires-clause-in_range
+into_places-requires-clause-in_range c =
+    let room = c.in_ok-read_records.ensures.room in
+    let (same, are, few) = are_places c.read_records.new.table _ c.in_ok-read_records.ensures.good.1 room.few room.stops room.stations in
+    rw same are
+
+pub returns-clause-good : goal.returns-clause-good
+returns-clause-good c =
+    let (faults, rows) = headed file.Stops required row_of checks (records_of c.args.bytes.now) (fields_of c.in_ok-file.file.header) c.in_ok-file.file.rows
+    c.in_ok-file.ensures.columns c.in_ok-file.ensures.records in
+    let good = rw c.columns_in.ensures at c.in_ok-read_records.ensures.good in
+    let room = c.in_ok-read_records.ensures.room in
+    let (same, are, few) = are_places c.read_records.new.table _ good.1 room.few room.stops room.stations in
+    (faults ∙ good.0, c.in_ok-into_places.ensures ∙ rw rows same)

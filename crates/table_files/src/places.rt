@@ -1,0 +1,345 @@
+//! The places of a feed: stops, stations and others, as `stops.txt` names them.
+
+ghost use Rattle.std.specs.Prelude.{◌<◌, Some, slice_get, ◌≡◌, ◌≤◌, [], length, map, is_none, position, IfOk, IfErr, IfSome};
+ghost use Rattle.std.specs.Str.{bytes_eq};
+ghost use Rattle.csv.specs.Records.{fields_of};
+ghost use Rattle.table_records.specs.Faults.{Tells};
+ghost use Rattle.table_files.specs.Children as children_spec;
+ghost use Rattle.table_files.specs.Ends as ends_spec;
+ghost use Rattle.table_files.specs.Places as spec;
+
+use crate::children::{Children, children_of};
+use crate::ends::{Ends, stops_at};
+use crate::place::Place;
+use csv::ByteRecord;
+use std::alloc::{AllocError, Global};
+use std::marker::Model;
+use table_records::{
+    FeedFault, FileName, Identifiers, RecordReader, What, column, field, number, open_table,
+    read_records, trim,
+};
+use timetable::StopNo;
+
+/// The places of a feed, in the order of `stops.txt`: what each is, and the stops of each station.
+#[derive(Drop)]
+pub struct Places {
+    names: Identifiers,
+    stops: Identifiers,
+    stations: Identifiers,
+    places: Vec<Place>,
+    children: Children,
+}
+
+impl Model for Places {
+    ghost use Rattle.table_files.specs.Places.{ArePlaces, PlaceData};
+
+    ghost Value = { PlaceData };
+
+    ghost view = { λ p. record { names = p.names; stops = p.stops; stations = p.stations; places = p.places.items; children = p.children } };
+
+    ghost invariant = { λ p. ArePlaces (record { names = p.names; stops = p.stops; stations = p.stations; places = p.places.items; children = p.children }) };
+}
+
+impl Places {
+    /// What is true of all places, for the layers above.
+    pub fn known(&self)
+        ensures { spec.ArePlaces self.now }
+    {
+        let _ = &self.places;
+    }
+
+    /// The identifiers of all records.
+    pub fn names(&self) -> &Identifiers
+        ensures { result.now ≡ self.now.names }
+    {
+        &self.names
+    }
+
+    /// The identifiers of the stops, each at its number.
+    pub fn stops(&self) -> &Identifiers
+        ensures { result.now ≡ self.now.stops }
+    {
+        &self.stops
+    }
+
+    /// The place with an identifier, none where no record has it.
+    pub fn place(&self, id: &[u8]) -> Option<Place>
+        ensures named { result ≡ spec.place_named self.now.names self.now.places id.now }
+        ensures unknown { is_none result ≡ is_none (position (bytes_eq id.now) self.now.names) }
+        ensures in_range { IfSome result (children_spec.IsPlace (length self.now.stops) (length self.now.stations)) }
+    {
+        let number = self.names.number(id)?;
+        Some(self.places[number])
+    }
+
+    /// The stops of a station, in file order.
+    pub fn children(&self, station: u32) -> &[StopNo]
+        requires { station < length self.now.stations }
+        ensures { slice_get self.now.children station ≡ Some result.now }
+    {
+        self.children.at(station)
+    }
+
+    /// The stops that a place stands for: a stop stands for itself, a station for its stops.
+    pub fn stops_at(&self, place: Place) -> Ends<'_>
+        requires { children_spec.IsPlace (length self.now.stops) (length self.now.stations) place }
+        ensures { ends_spec.stops_of result ≡ children_spec.stops_at place self.now.children }
+    {
+        stops_at(place, &self.children)
+    }
+}
+
+/// The columns of `stops.txt` that are read.
+#[derive(Clone, Copy, Debug, PartialEq, Eq)]
+pub struct PlaceColumns {
+    pub id: Option<usize>,
+    pub kind: Option<usize>,
+    pub parent: Option<usize>,
+}
+
+/// The places of the records so far. A parent may come later in the file than its child, so the stops' parents are kept.
+#[derive(Drop)]
+pub struct PlaceList {
+    pub names: Identifiers,
+    pub stops: Identifiers,
+    pub stations: Identifiers,
+    pub places: Vec<Place>,
+    pub parents: Vec<Vec<u8>>,
+}
+
+impl PlaceList {
+    ghost use Rattle.std.specs.Prelude.{◌≡◌, ◌≤◌, [], length, map, IfOk};
+    ghost use Rattle.table_files.specs.Places.{ArePlaces, HasRoom, IsPlaceList, IsPlaced};
+    ghost use Rattle.table_files.specs.Children.{children_of};
+
+    // No places.
+    fn new(alloc: Global) -> PlaceList
+        ensures empty { IsPlaceList result [] }
+        ensures room { HasRoom result 2 }
+    {
+        PlaceList {
+            names: Identifiers::new(alloc),
+            stops: Identifiers::new(alloc),
+            stations: Identifiers::new(alloc),
+            places: Vec::new(alloc),
+            parents: Vec::new(alloc),
+        }
+    }
+
+    // Puts a place of a kind after the others; its name is put with the names.
+    fn add(&mut self, alloc: Global, kind: u32, id: &[u8], parent: &[u8]) -> Result<(), AllocError>
+        requires stops { length self.old.stops ≤ 65535 }
+        requires stations { length self.old.stations ≤ 65535 }
+        ensures { IfOk result (λ _. IsPlaced kind id.now parent.now self.old self.new) }
+    {
+        match kind {
+            0 => {
+                self.places
+                    .push(Place::Stop(StopNo(self.stops.len() as u32)))?;
+                self.stops.push(alloc, id)?;
+                self.parents.push(Vec::from_slice(alloc, parent)?)?;
+            }
+            1 => {
+                self.places
+                    .push(Place::Station(self.stations.len() as u32))?;
+                self.stations.push(alloc, id)?;
+            }
+            _ => self.places.push(Place::Other)?,
+        }
+        Ok(())
+    }
+
+    // The places, with the stops of each station.
+    fn into_places(self, alloc: Global) -> Result<Places, AllocError>
+        requires few { length self.parents.items ≤ 65535 }
+        requires in_range { ArePlaces (record {
+          names = self.names;
+          stops = self.stops;
+          stations = self.stations;
+          places = self.places.items;
+          children = children_of self.stations (map (λ v. v.items) self.parents.items);
+        }) }
+        ensures { IfOk result (λ p. p ≡ record {
+          names = self.names;
+          stops = self.stops;
+          stations = self.stations;
+          places = self.places.items;
+          children = children_of self.stations (map (λ v. v.items) self.parents.items);
+        }) }
+    {
+        let children = children_of(alloc, &self.stations, &self.parents)?;
+        Ok(Places {
+            names: self.names,
+            stops: self.stops,
+            stations: self.stations,
+            places: self.places,
+            children,
+        })
+    }
+}
+
+impl RecordReader for PlaceColumns {
+    ghost use Rattle.table_records.specs.declared.fault.FileName.TheVariants as file_name;
+    ghost use Rattle.table_files.specs.Places.{HasRoom, IsPlaceList, PlaceRow, checks, row_at};
+
+    type Table = PlaceList;
+
+    ghost Row = { PlaceRow };
+
+    ghost file = { file_name.Stops };
+
+    ghost row_of = { row_at };
+
+    ghost checks = { λ _. checks };
+
+    ghost After = { λ _ _ rows now. IsPlaceList now rows };
+
+    ghost HasRoom = { λ _. HasRoom };
+
+    fn add(
+        &self,
+        alloc: Global,
+        table: &mut PlaceList,
+        at: u64,
+        row: &ByteRecord,
+    ) -> Result<(), FeedFault> {
+        if at > 65_536 {
+            return Err(FeedFault::at(FileName::Stops, at, What::TooMany));
+        }
+        let id = field(row, self.id);
+        if id.is_empty() {
+            return Err(FeedFault::at(FileName::Stops, at, What::EmptyId));
+        }
+        if !table.names.push(alloc, id)? {
+            return Err(FeedFault::at(FileName::Stops, at, What::DuplicateId));
+        }
+        let Some(kind) = kind_number(trim(field(row, self.kind))) else {
+            return Err(FeedFault::at(FileName::Stops, at, What::BadNumber));
+        };
+        table.add(alloc, kind, id, field(row, self.parent))?;
+        Ok(())
+    }
+}
+
+/// A number of a field, 0 where the field is empty.
+pub fn kind_number(text: &[u8]) -> Option<u32>
+    ensures { result ≡ spec.kind_of text.now }
+{
+    if text.is_empty() {
+        Some(0)
+    } else {
+        number(text)
+    }
+}
+
+fn columns_in(header: &ByteRecord) -> PlaceColumns
+    ensures { result ≡ spec.columns_of (fields_of header.now) }
+{
+    PlaceColumns {
+        id: column(header, b"stop_id"),
+        kind: column(header, b"location_type"),
+        parent: column(header, b"parent_station"),
+    }
+}
+
+/// The places of `stops.txt`, or its first fault.
+///
+/// Records of `location_type` empty or 0 are stops, those of 1 stations. A stop's `parent_station` counts where it names a station.
+/// The bytes are at most 2^30, the limit of an input file.
+pub fn read_places(alloc: Global, bytes: &[u8]) -> Result<Places, FeedFault>
+    requires { length bytes.now ≤ 1073741824 }
+    ensures good { IfOk result (λ p. (spec.stop_faults bytes.now ≡ []) × (p ≡ spec.places_in (spec.place_rows bytes.now))) }
+    ensures fault { IfErr result (λ e. Tells e (spec.stop_faults bytes.now)) }
+{
+    let mut file = open_table(alloc, bytes, FileName::Stops, &[b"stop_id"])?;
+    let mut list = PlaceList::new(alloc);
+    read_records(alloc, &columns_in(&file.header), &mut list, &mut file.rows)?;
+    Ok(list.into_places(alloc)?)
+}
+
+#[cfg(test)]
+mod tests {
+    use super::*;
+    use std::test::Fail;
+
+    // Whether a place stands for these stops.
+    fn stands_for(places: &Places, id: &[u8], stops: &[StopNo]) -> bool {
+        match places.place(id) {
+            Some(place) => places.stops_at(place).as_slice() == stops,
+            None => false,
+        }
+    }
+
+    #[test]
+    fn stops_and_stations_are_numbered_apart(rt: HostRuntime) -> Result<(), Fail> {
+        let places = read_places(
+            rt.alloc(),
+            b"stop_id,location_type\nA,\nS,1\nB, 0 \nE,2\nT,1\n\" \",0\n",
+        )?;
+        assert_eq!(rt; places.names().len(), 6);
+        assert_eq!(rt; places.stops().len(), 3);
+        assert_eq!(rt; places.place(b"A"), Some(Place::Stop(StopNo(0))));
+        assert_eq!(rt; places.place(b"B"), Some(Place::Stop(StopNo(1))));
+        assert_eq!(rt; places.place(b" "), Some(Place::Stop(StopNo(2))));
+        assert_eq!(rt; places.place(b"S"), Some(Place::Station(0)));
+        assert_eq!(rt; places.place(b"T"), Some(Place::Station(1)));
+        assert_eq!(rt; places.place(b"E"), Some(Place::Other));
+        assert_eq!(rt; places.place(b"Z"), None);
+        Ok(())
+    }
+
+    #[test]
+    fn a_station_stands_for_its_stops(rt: HostRuntime) -> Result<(), Fail> {
+        // B's parent comes later in the file, D's is a stop, C's is nowhere, and the entrance E is no stop.
+        let places = read_places(
+            rt.alloc(),
+            b"stop_id,parent_station,location_type\nA,S,\nB,T,0\nS,,1\nT,,1\nC,Z,\nD,A,\nE,S,2\nF,S,0\n",
+        )?;
+        assert!(rt; stands_for(&places, b"S", &[StopNo(0), StopNo(4)]));
+        assert!(rt; stands_for(&places, b"T", &[StopNo(1)]));
+        assert!(rt; stands_for(&places, b"A", &[StopNo(0)]));
+        assert!(rt; stands_for(&places, b"F", &[StopNo(4)]));
+        assert!(rt; stands_for(&places, b"E", &[]));
+        Ok(())
+    }
+
+    #[test]
+    fn refusals(rt: HostRuntime) {
+        let alloc = rt.alloc();
+        let file = FileName::Stops;
+        let nothing = read_places(alloc, b"").err();
+        assert_eq!(rt; nothing, Some(FeedFault::at(file, 1, What::MissingColumn)));
+        let column = read_places(alloc, b"stop,location_type\nA,\n").err();
+        assert_eq!(rt; column, Some(FeedFault::at(file, 1, What::MissingColumn)));
+        let empty = read_places(alloc, b"stop_id,location_type\nA,\n,x\n").err();
+        assert_eq!(rt; empty, Some(FeedFault::at(file, 3, What::EmptyId)));
+        let twice = read_places(alloc, b"stop_id,location_type\nA,\nA,x\n").err();
+        assert_eq!(rt; twice, Some(FeedFault::at(file, 3, What::DuplicateId)));
+        let kind = read_places(alloc, b"stop_id,location_type\nA,1 0\n").err();
+        assert_eq!(rt; kind, Some(FeedFault::at(file, 2, What::BadNumber)));
+    }
+
+    // The bytes of a file of so many stops.
+    fn stops_file(alloc: Global, stops: u32) -> Result<Vec<u8>, AllocError> {
+        let mut bytes = Vec::from_slice(alloc, b"stop_id\n")?;
+        for stop in 0..stops {
+            let line = format!(in alloc; "{stop}\n")?;
+            bytes.extend_from_slice(line.as_bytes())?;
+        }
+        Ok(bytes)
+    }
+
+    #[test]
+    fn at_most_65_535_places(rt: HostRuntime) -> Result<(), Fail> {
+        let bytes = stops_file(rt.alloc(), 65_536)?;
+        if bytes.len() > 1_073_741_824 {
+            return Ok(());
+        }
+        let many = read_places(rt.alloc(), &bytes).err();
+        assert_eq!(rt;
+            many,
+            Some(FeedFault::at(FileName::Stops, 65_537, What::TooMany))
+        );
+        Ok(())
+    }
+}
