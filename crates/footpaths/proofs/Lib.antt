@@ -7,3 +7,5 @@ mod Unique
 mod Closing
 mod Places
 mod Fits
+mod PairFacts
+mod WalkFacts

@@ -1,4 +1,6 @@
 pub mod Direct
+pub mod Pairs
+pub mod Walks
 pub mod Chains
 pub mod Closure
 pub mod Adjacency

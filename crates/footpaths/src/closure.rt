@@ -5,7 +5,7 @@ ghost use Rattle.timetable.specs.Footpaths.{rows_of};
 ghost use Rattle.footpaths.specs.Closure.{IsClosure, IsFootFault};
 
 use crate::adjacency::Adjacency;
-use crate::direct::Direct;
+use crate::direct_list::Direct;
 use crate::faults::FootFault;
 use crate::settling::Settling;
 use std::alloc::Global;

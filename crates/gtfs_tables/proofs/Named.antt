@@ -8,7 +8,7 @@ use Rattle.std.specs.List.{IsDistinct, list_all, list_any}
 use Rattle.std.specs.Str.{bytes_eq}
 use Rattle.table_files.specs.Services.{named, number_in}
 use Rattle.table_files.proofs.ServiceFacts.{all_listed, found, lost, number_old, same_text}
-use Rattle.table_files.proofs.StopFacts.{distinct_push}
+use Rattle.table_files.proofs.NewIds.{distinct_push}
 
 -- no two services share an identifier
 pub named_distinct : (known ids : List (List ℕ)) → IsDistinct bytes_eq known → IsDistinct bytes_eq (named known ids)

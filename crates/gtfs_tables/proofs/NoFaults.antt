@@ -21,7 +21,7 @@ use Rattle.table_files.specs.FeedTrips as trips
 use Rattle.table_files.specs.Frequencies as frequencies
 use Rattle.table_files.specs.Services.{number_in}
 use Rattle.table_files.proofs.ServiceFacts.{found}
-use Rattle.table_files.proofs.StopFacts.{distinct_push}
+use Rattle.table_files.proofs.NewIds.{distinct_push}
 use Rattle.table_files.proofs.TimeFacts.{time_small}
 use Rattle.gtfs_tables.specs.Feed.{IsDeparting}
 

@@ -12,15 +12,20 @@ use Rattle.table_files.specs.Calendar as calendar
 use Rattle.table_files.specs.CalendarDates as dates
 use Rattle.table_files.specs.FeedTrips as trips
 use Rattle.table_files.specs.Frequencies.{departures_at, frequency_faults, frequency_rows}
+use Rattle.table_files.specs.Children.{IsPlace}
+use Rattle.table_files.specs.Places.{ArePlaces, PlaceData}
 use Rattle.table_files.specs.Routes.{route_faults, route_ids}
 use Rattle.table_files.specs.Services.{named, number_in}
 use Rattle.table_files.specs.StopTimes.{time_rows}
+use Rattle.table_files.specs.Transfers.{IsLink}
 use Rattle.table_files.specs.WholeTrips.{AreEvents}
 use Rattle.table_files.specs.declared.calendar.Calendar.{Calendar}
 use Rattle.table_files.specs.declared.calendar_dates.CalendarDates.{CalendarDates}
 use Rattle.table_files.specs.declared.feed_trips.FeedTrips.{FeedTrips}
 use Rattle.table_files.specs.declared.feed_trips.TripNumbers.{TripNumbers}
 use Rattle.table_files.specs.declared.frequencies.Departures.{Departures}
+use Rattle.table_files.specs.declared.transfers.Link.{Link}
+use Rattle.table_files.specs.declared.transfers.Transfers.{Transfers}
 use Rattle.timetable.specs.Trips.{EventsRise}
 use Rattle.timetable.specs.declared.trips.Event.{Event}
 use Rattle.gtfs_tables.specs.Catalog.{IsCatalog}
@@ -120,9 +125,10 @@ module _ (f : FeedFiles) where
 
   -- the feed that the files state, where they have no fault
   pub is_feed : files.faults_of_routes f ≡ [] → files.faults_of_calendar f ≡ [] → files.faults_of_trips f ≡ [] → files.faults_of_frequencies f ≡ []
-      → length (files.stops_in f) ≤ 65535 → IsDistinct bytes_eq (files.stops_in f) → length (files.routes_in f) ≤ 1073741824 → length (files.services_in f) ≤ 2148483650
-      → AreEvents (length (files.stops_in f)) (files.events_in f) → files.aside_in f ≤ length (files.trip_ids_in f) → IsFeed (files.feed_of f)
-  is_feed no_routes no_calendar no_trips no_frequencies few distinct routes services are aside =
+      → ArePlaces (files.places_in f) → length (files.routes_in f) ≤ 1073741824 → length (files.services_in f) ≤ 2148483650
+      → AreEvents (length (files.stops_in f)) (files.events_in f) → files.aside_in f ≤ length (files.trip_ids_in f)
+      → All (IsLink (length (files.stops_in f)) (length (files.places_in f).children)) (files.links_in f) → IsFeed (files.feed_of f)
+  is_feed no_routes no_calendar no_trips no_frequencies places routes services are aside links =
       let ids : List (List ℕ) = files.trip_ids_in f in
       let numbers : List TripNumbers = files.numbers_in f in
       let events : List (List Event) = files.events_in f in
@@ -137,10 +143,11 @@ module _ (f : FeedFiles) where
       let any_events : All (λ (e : List Event). Unit {0}) events = λ k x lt. tt in
       let any_departures : All (λ (d : List Departures). Unit {0}) departures = λ k x lt. tt in
       record {
-        few_stops = few;
+        few_names = places.few;
+        few_stops = omega (arith, places.few, places.stops_within);
         few_routes = routes;
         few_services = services;
-        distinct_stops = distinct;
+        distinct_stops = places.distinct;
         distinct_routes = routes_apart no_routes;
         distinct_services = named_distinct (files.dated_services_in f) (map (λ (r : trips.TripRow). r.service) rows)
             (named_distinct (files.calendar_services_in f) (map (λ (r : dates.DateRow). r.service) (rows_in dates.date_rows f.calendar_dates)) (calendar_apart no_calendar));
@@ -161,15 +168,19 @@ module _ (f : FeedFiles) where
         calendar_services = All-map (λ (r : CalendarData). r.service < length (files.services_in f)) (calendar.data_of (files.services_in f)) (rows_in calendar.service_rows f.calendar) services_calendar;
         exception_services = All-map (λ (r : ExceptionData). r.service < length (files.services_in f)) (dates.data_of (files.services_in f)) (rows_in dates.date_rows f.calendar_dates) services_dates;
         few_aside = omega (arith, count, aside);
+        as_many = places.as_many;
+        places = subst (λ (n : ℕ). All (IsPlace (length (files.stops_in f)) n) (files.places_in f).places) (sym places.lists) places.in_range;
+        children = places.children;
+        links = links;
       }
 
   -- the catalog that was read file by file
-  pub is_catalog : (stops routes : List (List ℕ)) (c : Calendar) (d : CalendarDates) (t : FeedTrips) → stops ≡ files.stops_in f → routes ≡ files.routes_in f
+  pub is_catalog : (p : PlaceData) (routes : List (List ℕ)) (c : Calendar) (d : CalendarDates) (t : FeedTrips) → p ≡ files.places_in f → routes ≡ files.routes_in f
       → calendar.IsCalendar c (rows_in calendar.service_rows f.calendar) → dates.AreExceptions c.services d (rows_in dates.date_rows f.calendar_dates)
       → trips.AreTrips routes d.services t (rows_in trips.trip_rows f.trips) → files.faults_of_trips f ≡ []
-      → length stops ≤ 65535 → IsDistinct bytes_eq stops → length routes ≤ 1073741824 → length d.services ≤ 2147483650
-      → IsCatalog (record { stops = stops; routes = routes; calendar = c.rows; exceptions = d.rows; trips = t }) f
-  is_catalog stops routes c d t are_stops are_routes is_calendar are_exceptions are_trips no_trips few distinct few_routes few_dated =
+      → ArePlaces p → length routes ≤ 1073741824 → length d.services ≤ 2147483650
+      → IsCatalog (record { places = p; routes = routes; calendar = c.rows; exceptions = d.rows; trips = t }) f
+  is_catalog p routes c d t are_places are_routes is_calendar are_exceptions are_trips no_trips sound few_routes few_dated =
       let first : c.services ≡ files.calendar_services_in f = is_calendar.services in
       let named_in_dates : List (List ℕ) = map (λ (r : dates.DateRow). r.service) (rows_in dates.date_rows f.calendar_dates) in
       let named_in_trips : List (List ℕ) = map (λ (r : trips.TripRow). r.service) (rows_in trips.trip_rows f.trips) in
@@ -188,15 +199,14 @@ module _ (f : FeedFiles) where
       let rows_stay_too = values_stay of_calendar make_row (files.dated_services_in f) named_in_trips service_rows in_dates in
       let dates_stay = values_stay of_date make_date (files.dated_services_in f) named_in_trips date_rows (all_named of_date (files.calendar_services_in f) date_rows) in
       record {
-        stops = are_stops;
+        places = are_places;
         routes = are_routes;
         calendar = is_calendar.values ∙ ap (λ (l : List (List ℕ)). map (calendar.data_of l) service_rows) first ∙ sym (rows_stay_too ∙ rows_stay);
         exceptions = are_exceptions.values ∙ ap (λ (l : List (List ℕ)). map (dates.data_of l) date_rows) dated ∙ sym dates_stay;
         services = all;
         trip_ids = are_trips.ids;
         numbers = are_trips.numbers ∙ (λ k. map (trips.numbers_of (are_routes k) (all k)) trip_rows);
-        few_stops = few;
-        distinct_stops = distinct;
+        sound_places = sound;
         few_routes = few_routes;
         few_services = let dated_few : length (files.dated_services_in f) ≤ 2147483650 = subst (λ (l : List (List ℕ)). length l ≤ 2147483650) dated few_dated in
             subst (λ (l : List (List ℕ)). length l ≤ 2148483650) (sym all) (few_services 2147483650 dated_few no_trips);
@@ -218,30 +228,48 @@ module _ (f : FeedFiles) where
       trips_are : all ≡ files.trips_of (files.trip_ids_in f) (files.numbers_in f) (files.events_in f) (files.departures_in f)
       trips_are = are_trips ∙ (λ k. files.trips_of (is.trip_ids k) (is.numbers k) (are_events k) (are_departures k))
 
-      -- what was read is what the files state
-      pub data_is : data_of c all aside ≡ files.feed_of f
-      data_is = λ k. record {
-        stops = is.stops k;
-        routes = is.routes k;
-        services = is.services k;
-        calendar = is.calendar k;
-        exceptions = is.exceptions k;
-        trips = trips_are k;
-        aside = are_aside k;
-      }
-
       -- the index of the trips has their identifiers
       pub index_is : c.trips.ids ≡ map (λ (t : FeedTrip). t.id) all
       index_is = is.trip_ids ∙ sym (ap (map (λ (t : FeedTrip). t.id)) trips_are ∙ ids_are)
 
-      pub feed_is_sound : files.catalog_faults f ≡ [] → files.faults_of_frequencies f ≡ [] → AreEvents (length c.stops) events → aside ≤ length c.trips.ids → IsFeed (data_of c all aside)
-      feed_is_sound none no_frequencies are few_aside =
-          let (no_routes, no_calendar, no_trips) =
-          none_each (files.faults_of_stops f) (files.faults_of_routes f) (files.faults_of_calendar f) (files.faults_of_calendar_dates f) (files.faults_of_trips f) none in
-          subst IsFeed (sym data_is) (is_feed no_routes no_calendar no_trips no_frequencies
-          (subst (λ (l : List (List ℕ)). length l ≤ 65535) is.stops is.few_stops)
-          (subst (IsDistinct bytes_eq) is.stops is.distinct_stops)
-          (subst (λ (l : List (List ℕ)). length l ≤ 1073741824) is.routes is.few_routes)
-          (subst (λ (l : List (List ℕ)). length l ≤ 2148483650) is.services is.few_services)
-          (subst (AreEvents (length (files.stops_in f))) are_events (subst (λ (l : List (List ℕ)). AreEvents (length l) events) is.stops are))
-          (let ids = ap length is.trip_ids in omega (arith, few_aside, are_aside, ids)))
+      module _ (transfers : Transfers) (are_links : transfers.links.items ≡ files.links_in f) (are_unused : transfers.unused ≡ files.unused_in f) where
+        -- what was read is what the files state
+        pub data_is : data_of c all aside transfers ≡ files.feed_of f
+        data_is = λ k. record {
+          names = (is.places k).names;
+          places = (is.places k).places;
+          stops = (is.places k).stops;
+          children = (is.places k).children;
+          routes = is.routes k;
+          services = is.services k;
+          calendar = is.calendar k;
+          exceptions = is.exceptions k;
+          trips = trips_are k;
+          aside = are_aside k;
+          links = are_links k;
+          unused = are_unused k;
+        }
+
+        sound_places : ArePlaces (files.places_in f)
+        sound_places = subst ArePlaces is.places is.sound_places
+
+        -- both ends of each walk are places of the feed
+        sound_links : All (IsLink (length c.places.stops) (length c.places.stations)) transfers.links.items
+            → All (IsLink (length (files.stops_in f)) (length (files.places_in f).children)) (files.links_in f)
+        sound_links in_range =
+            let stops : ℕ = length (files.stops_in f) in
+            let here = subst (λ (p : PlaceData). All (IsLink (length p.stops) (length p.stations)) transfers.links.items) is.places in_range in
+            let stated = subst (All (IsLink stops (length (files.places_in f).stations))) are_links here in
+            subst (λ (n : ℕ). All (IsLink stops n) (files.links_in f)) (sym sound_places.lists) stated
+
+        pub feed_is_sound : files.catalog_faults f ≡ [] → files.faults_of_frequencies f ≡ [] → AreEvents (length c.places.stops) events → aside ≤ length c.trips.ids
+            → All (IsLink (length c.places.stops) (length c.places.stations)) transfers.links.items → IsFeed (data_of c all aside transfers)
+        feed_is_sound none no_frequencies are few_aside in_range =
+            let (no_routes, no_calendar, no_trips) =
+            none_each (files.faults_of_stops f) (files.faults_of_routes f) (files.faults_of_calendar f) (files.faults_of_calendar_dates f) (files.faults_of_trips f) none in
+            subst IsFeed (sym data_is) (is_feed no_routes no_calendar no_trips no_frequencies sound_places
+            (subst (λ (l : List (List ℕ)). length l ≤ 1073741824) is.routes is.few_routes)
+            (subst (λ (l : List (List ℕ)). length l ≤ 2148483650) is.services is.few_services)
+            (subst (AreEvents (length (files.stops_in f))) are_events (subst (λ (p : PlaceData). AreEvents (length p.stops) events) is.places are))
+            (let ids = ap length is.trip_ids in omega (arith, few_aside, are_aside, ids))
+            (sound_links in_range))

@@ -24,12 +24,15 @@ module _ (e : FeedFault) (a b c d f : List FeedFault) where
   told_fifth no_a no_b no_c no_d t = rw (no_a, no_b, no_c, no_d) t
 
 -- a fault after the catalog's
-module _ (e : FeedFault) (a b c : List FeedFault) where
-  pub told_next : a ≡ [] → Tells e b → Tells e (a ++ b ++ c)
-  told_next no_a t = rw no_a (tells_more e b c t)
+module _ (e : FeedFault) (a b c d : List FeedFault) where
+  pub told_next : a ≡ [] → Tells e b → Tells e (a ++ b ++ c ++ d)
+  told_next no_a t = rw no_a (tells_more e (b ++ c) d (tells_more e b c t))
 
-  pub told_last : a ≡ [] → b ≡ [] → Tells e c → Tells e (a ++ b ++ c)
-  told_last no_a no_b t = rw (no_a, no_b) t
+  pub told_after : a ≡ [] → b ≡ [] → Tells e c → Tells e (a ++ b ++ c ++ d)
+  told_after no_a no_b t = rw (no_a, no_b) (tells_more e c d t)
+
+  pub told_last : a ≡ [] → b ≡ [] → c ≡ [] → Tells e d → Tells e (a ++ b ++ c ++ d)
+  told_last no_a no_b no_c t = rw (no_a, no_b, no_c) t
 
 none_both : (a b : List FeedFault) → a ++ b ≡ [] → (a ≡ []) × (b ≡ [])
 none_both [] b e = (refl, e)

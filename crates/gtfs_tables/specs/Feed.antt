@@ -1,9 +1,14 @@
 -- What a feed says, and what is true of every feed.
 -- (GTFS Schedule reference. The limits are those of a network.)
-use Rattle.std.specs.Prelude.{◌<◌, ◌≤◌, ℕ, List, length, map, sum_by, All}
+use Rattle.std.specs.Prelude.{◌≡◌, ◌<◌, ◌≤◌, ℕ, List, length, map, sum_by, All}
 use Rattle.std.specs.List.{IsDistinct}
 use Rattle.std.specs.Str.{bytes_eq}
 use Rattle.timetable.specs.Trips.{EventsRise}
+use Rattle.timetable.specs.declared.trips.StopNo.{StopNo}
+use Rattle.table_files.specs.Children.{AreChildren, IsPlace}
+use Rattle.table_files.specs.Transfers.{IsLink}
+use Rattle.table_files.specs.declared.place.Place.{Place}
+use Rattle.table_files.specs.declared.transfers.Link.{Link}
 use Rattle.table_files.specs.Calendar as calendar
 use Rattle.table_files.specs.CalendarDates as calendar_dates
 use Rattle.table_files.specs.declared.calendar.CalendarRow.{CalendarRow}
@@ -14,16 +19,22 @@ pub use Rattle.table_files.specs.Calendar.{CalendarData}
 pub use Rattle.table_files.specs.CalendarDates.{ExceptionData}
 pub use Rattle.table_files.specs.Days.{day_number}
 
--- the identifiers of the stops, routes and services, each at its number; the rows of both calendars, the trips, each at
--- its number, and how many of them were set aside
+-- the identifiers of all places, and what each of them is; the identifiers of the stops, each at its number, and the
+-- stops of each station; the identifiers of the routes and services; the rows of both calendars; the trips, and how many of
+-- them were set aside; the walks that transfers.txt gives, and how many of its rows give none
 pub record FeedData : Type 0 where
+  pub names : List (List ℕ)
+  pub places : List Place
   pub stops : List (List ℕ)
+  pub children : List (List StopNo)
   pub routes : List (List ℕ)
   pub services : List (List ℕ)
   pub calendar : List CalendarData
   pub exceptions : List ExceptionData
   pub trips : List FeedTrip
   pub aside : ℕ
+  pub links : List Link
+  pub unused : ℕ
 
 -- a row's two times are within 168 hours, and its headway is at least a second
 pub record IsDeparting (row : Departures) : Type 0 where
@@ -32,8 +43,10 @@ pub record IsDeparting (row : Departures) : Type 0 where
   pub headway : 1 ≤ row.headway
 
 -- no two stops share an identifier, nor two routes, services or trips; the limits are kept, each event is at one of the
--- stops and within 168 hours, no trip goes back in time, and numbers of routes and services are those of the feed
+-- stops and within 168 hours, no trip goes back in time, and numbers of stops, stations, routes and services are those of
+-- the feed
 pub record IsFeed (d : FeedData) : Type 0 where
+  pub few_names : length d.names ≤ 65535
   pub few_stops : length d.stops ≤ 65535
   pub few_routes : length d.routes ≤ 1073741824
   pub few_services : length d.services ≤ 2148483650
@@ -52,6 +65,10 @@ pub record IsFeed (d : FeedData) : Type 0 where
   pub calendar_services : All (λ r. r.service < length d.services) d.calendar
   pub exception_services : All (λ r. r.service < length d.services) d.exceptions
   pub few_aside : d.aside ≤ length d.trips
+  pub as_many : length d.places ≡ length d.names
+  pub places : All (IsPlace (length d.stops) (length d.children)) d.places
+  pub children : AreChildren (length d.stops) d.children
+  pub links : All (IsLink (length d.stops) (length d.children)) d.links
 
 -- the values that a row of a calendar keeps, its dates as day numbers
 abbrev pub calendar_data : CalendarRow → CalendarData

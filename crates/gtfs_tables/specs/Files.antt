@@ -8,7 +8,8 @@ use Rattle.table_records.specs.declared.fault.FeedFault.{FeedFault}
 use Rattle.table_records.specs.declared.fault.FileName.{FileName}
 use Rattle.table_records.specs.declared.fault.FileName.TheVariants as file
 use Rattle.table_records.specs.declared.fault.What.TheVariants.{MissingFile}
-use Rattle.table_files.specs.Stops.{stop_faults, stop_rows, stops_of}
+use Rattle.table_files.specs.Places as places
+use Rattle.table_files.specs.Transfers as transfers
 use Rattle.table_files.specs.Routes.{route_faults, route_ids}
 use Rattle.table_files.specs.Calendar as calendar
 use Rattle.table_files.specs.CalendarDates as dates
@@ -17,6 +18,7 @@ use Rattle.table_files.specs.Frequencies.{departures_by_trip, frequency_faults, 
 use Rattle.table_files.specs.StopTimes.{time_faults, time_rows, trip_events, trips_aside}
 use Rattle.table_files.specs.declared.feed_trips.TripNumbers.{TripNumbers}
 use Rattle.table_files.specs.declared.frequencies.Departures.{Departures}
+use Rattle.table_files.specs.declared.transfers.Link.{Link}
 use Rattle.timetable.specs.declared.trips.Event.{Event}
 use Rattle.gtfs_tables.specs.Feed.{CalendarData, ExceptionData, FeedData}
 use Rattle.gtfs_tables.specs.declared.feed_bytes.FeedBytes.{FeedBytes}
@@ -83,9 +85,16 @@ abbrev pub rows_in : {R : Type 0} → (Bytes → List R) → Option Bytes → Li
 rows_in rows None = []
 rows_in rows (Some bytes) = rows bytes
 
--- the identifiers of the stops, of the routes and of the trips, each in file order
+-- the places of stops.txt: the stops, the stations and the others
+abbrev pub places_in : FeedFiles → places.PlaceData
+places_in files = places.places_in (rows_in places.place_rows files.stops)
+
+-- the identifiers of all places, of the stops, of the routes and of the trips, each in file order
+abbrev pub names_in : FeedFiles → List (List ℕ)
+names_in files = places.names_of (rows_in places.place_rows files.stops)
+
 abbrev pub stops_in : FeedFiles → List (List ℕ)
-stops_in files = stops_of (rows_in stop_rows files.stops)
+stops_in files = places.stops_of (rows_in places.place_rows files.stops)
 
 abbrev pub routes_in : FeedFiles → List (List ℕ)
 routes_in files = rows_in route_ids files.routes
@@ -129,9 +138,17 @@ aside_in files = trips_aside (trip_ids_in files) (rows_in time_rows files.stop_t
 abbrev pub departures_in : FeedFiles → List (List Departures)
 departures_in files = departures_by_trip (trip_ids_in files) (rows_in frequency_rows files.frequencies)
 
+-- the walks that transfers.txt gives
+abbrev pub links_in : FeedFiles → List Link
+links_in files = transfers.links_of (places_in files) (rows_in transfers.transfer_rows files.transfers)
+
+-- how many of its rows give none
+abbrev pub unused_in : FeedFiles → ℕ
+unused_in files = transfers.unused_of (places_in files) (rows_in transfers.transfer_rows files.transfers)
+
 -- the faults of each file
 abbrev pub faults_of_stops : FeedFiles → List FeedFault
-faults_of_stops files = required file.Stops stop_faults files.stops
+faults_of_stops files = required file.Stops places.stop_faults files.stops
 
 abbrev pub faults_of_routes : FeedFiles → List FeedFault
 faults_of_routes files = required file.Routes route_faults files.routes
@@ -153,6 +170,9 @@ faults_of_stop_times files = required file.StopTimes (time_faults (trip_ids_in f
 abbrev pub faults_of_frequencies : FeedFiles → List FeedFault
 faults_of_frequencies files = optional (frequency_faults (trip_ids_in files)) files.frequencies
 
+abbrev pub faults_of_transfers : FeedFiles → List FeedFault
+faults_of_transfers files = optional (transfers.transfer_faults (names_in files)) files.transfers
+
 -- the faults of the files that name stops, routes, services and trips
 abbrev pub catalog_faults : FeedFiles → List FeedFault
 catalog_faults files =
@@ -160,7 +180,7 @@ catalog_faults files =
 
 -- all faults of a feed, in the order of its files
 abbrev pub feed_faults : FeedFiles → List FeedFault
-feed_faults files = catalog_faults files ++ faults_of_stop_times files ++ faults_of_frequencies files
+feed_faults files = catalog_faults files ++ faults_of_stop_times files ++ faults_of_frequencies files ++ faults_of_transfers files
 
 -- the trips by their identifiers, numbers, events and departures
 abbrev pub trips_of : List (List ℕ) → List TripNumbers → List (List Event) → List (List Departures) → List FeedTrip
@@ -171,11 +191,16 @@ trips_of _ _ _ _ = []
 -- what the files state
 abbrev pub feed_of : FeedFiles → FeedData
 feed_of files = record {
+  names = names_in files;
+  places = (places_in files).places;
   stops = stops_in files;
+  children = (places_in files).children;
   routes = routes_in files;
   services = services_in files;
   calendar = calendar_in files;
   exceptions = exceptions_in files;
   trips = trips_of (trip_ids_in files) (numbers_in files) (events_in files) (departures_in files);
   aside = aside_in files;
+  links = links_in files;
+  unused = unused_in files;
 }

@@ -1,27 +1,26 @@
 //! The catalog of a feed: what its files name, by number, before their times are read.
 
 ghost use Rattle.std.specs.Prelude.{◌≡◌, ◌≤◌, [], length, IfOk, IfErr};
-ghost use Rattle.std.specs.List.{IsDistinct};
-ghost use Rattle.std.specs.Str.{bytes_eq};
 ghost use Rattle.table_records.specs.Faults.{Tells};
 ghost use Rattle.table_files.specs.Calendar.{IsCalendar, service_rows};
 ghost use Rattle.table_files.specs.CalendarDates.{AreExceptions, date_rows};
 ghost use Rattle.table_files.specs.FeedTrips.{AreTrips, trip_rows};
+ghost use Rattle.table_files.specs.Places.{ArePlaces};
 ghost use Rattle.gtfs_tables.specs.Files as spec;
 ghost use Rattle.gtfs_tables.specs.Catalog.{IsCatalog};
 
 use crate::feed_bytes::{FeedBytes, missing};
 use std::alloc::Global;
 use table_files::{
-    Calendar, CalendarDates, CalendarRow, ExceptionRow, FeedTrips, read_calendar,
-    read_calendar_dates, read_feed_trips, read_routes, read_stops,
+    Calendar, CalendarDates, CalendarRow, ExceptionRow, FeedTrips, Places, read_calendar,
+    read_calendar_dates, read_feed_trips, read_places, read_routes,
 };
 use table_records::{FeedFault, FileName, Identifiers};
 
-/// The stops, routes, services and trips of a feed, by number, and the rows of its calendars.
+/// The places, routes, services and trips of a feed, by number, and the rows of its calendars.
 #[derive(Drop)]
 pub struct Catalog {
-    pub stops: Identifiers,
+    pub places: Places,
     pub routes: Identifiers,
     pub calendar: Vec<CalendarRow>,
     pub exceptions: Vec<ExceptionRow>,
@@ -35,13 +34,13 @@ pub fn read_catalog(alloc: Global, files: &FeedBytes<'_>) -> Result<Catalog, Fee
     ensures good { IfOk result (λ c. (spec.catalog_faults (spec.files_of files.now) ≡ []) × IsCatalog c (spec.files_of files.now)) }
     ensures fault { IfErr result (λ e. Tells e (spec.catalog_faults (spec.files_of files.now))) }
 {
-    let stops = stops_of(alloc, files)?;
+    let places = places_of(alloc, files)?;
     let routes = routes_of(alloc, files)?;
     let calendar = calendar_of(alloc, files)?;
     let dates = dates_of(alloc, files, calendar.services)?;
     let trips = trips_of(alloc, files, &routes, dates.services)?;
     Ok(Catalog {
-        stops,
+        places,
         routes,
         calendar: calendar.rows,
         exceptions: dates.rows,
@@ -49,18 +48,19 @@ pub fn read_catalog(alloc: Global, files: &FeedBytes<'_>) -> Result<Catalog, Fee
     })
 }
 
-// The identifiers of the stops.
-fn stops_of(alloc: Global, files: &FeedBytes<'_>) -> Result<Identifiers, FeedFault>
-    ensures good { IfOk result (λ ids. (spec.faults_of_stops (spec.files_of files.now) ≡ []) × (ids ≡ spec.stops_in (spec.files_of files.now))) }
-    ensures few { IfOk result (λ ids. length ids ≤ 65535) }
-    ensures distinct { IfOk result (λ ids. IsDistinct bytes_eq ids) }
+// The places of `stops.txt`.
+fn places_of(alloc: Global, files: &FeedBytes<'_>) -> Result<Places, FeedFault>
+    requires { spec.IsWithinLimit (spec.bytes_of files.now.stops) }
+    ensures good { IfOk result (λ p. (spec.faults_of_stops (spec.files_of files.now) ≡ []) × (p ≡ spec.places_in (spec.files_of files.now))) }
+    ensures sound { IfOk result ArePlaces }
     ensures fault { IfErr result (λ e. Tells e (spec.faults_of_stops (spec.files_of files.now))) }
 {
     let Some(bytes) = files.stops else {
         return Err(missing(FileName::Stops));
     };
-    let list = read_stops(alloc, bytes)?;
-    Ok(list.stops)
+    let places = read_places(alloc, bytes)?;
+    places.known();
+    Ok(places)
 }
 
 // The identifiers of the routes.

@@ -1,14 +1,17 @@
 //! What a feed says, by the numbers of its stops, routes, services and trips.
 
-ghost use Rattle.std.specs.Prelude.{◌≡◌, ◌<◌, Some, length, map, position, slice_get, option_map, IfSome};
+ghost use Rattle.std.specs.Prelude.{◌≡◌, ◌<◌, Some, is_none, length, map, position, slice_get, option_map, IfSome};
 ghost use Rattle.std.specs.Str.{bytes_eq};
+ghost use Rattle.table_files.specs.Children as children_spec;
+ghost use Rattle.table_files.specs.Ends as ends_spec;
+ghost use Rattle.table_files.specs.Places.{place_named};
 ghost use Rattle.gtfs_tables.specs.Feed.{IsFeed, calendar_data, exception_data};
 ghost use Rattle.gtfs_tables.specs.FeedParts.{data_of};
 
 use crate::catalog::Catalog;
 use crate::trip::FeedTrip;
 use std::marker::Model;
-use table_files::{CalendarRow, ExceptionRow};
+use table_files::{CalendarRow, Ends, ExceptionRow, Link, Place, Places, Transfers};
 use table_records::Identifiers;
 use timetable::StopNo;
 
@@ -16,7 +19,7 @@ use timetable::StopNo;
 /// that of `trips.txt`, and services as `calendar.txt`, `calendar_dates.txt` and `trips.txt` first name them.
 #[derive(Drop)]
 pub struct Feed {
-    stops: Identifiers,
+    places: Places,
     routes: Identifiers,
     services: Identifiers,
     calendar: Vec<CalendarRow>,
@@ -24,6 +27,7 @@ pub struct Feed {
     trip_ids: Identifiers,
     trips: Vec<FeedTrip>,
     aside: u32,
+    transfers: Transfers,
 }
 
 impl Model for Feed {
@@ -33,42 +37,57 @@ impl Model for Feed {
     ghost Value = { FeedData };
 
     ghost view = { λ f. record {
-      stops = f.stops;
+      names = f.places.names;
+      places = f.places.places;
+      stops = f.places.stops;
+      children = f.places.children;
       routes = f.routes;
       services = f.services;
       calendar = map calendar_data f.calendar.items;
       exceptions = map exception_data f.exceptions.items;
       trips = f.trips.items;
       aside = f.aside;
+      links = f.transfers.links.items;
+      unused = f.transfers.unused;
     } };
 
     ghost invariant = { λ f. IsFeed (record {
-      stops = f.stops;
+      names = f.places.names;
+      places = f.places.places;
+      stops = f.places.stops;
+      children = f.places.children;
       routes = f.routes;
       services = f.services;
       calendar = map calendar_data f.calendar.items;
       exceptions = map exception_data f.exceptions.items;
       trips = f.trips.items;
       aside = f.aside;
+      links = f.transfers.links.items;
+      unused = f.transfers.unused;
     }) × (f.trip_ids ≡ map (λ t. t.id) f.trips.items) };
 }
 
 impl Feed {
-    /// The feed of a catalog and its trips, of which so many were set aside.
-    pub(crate) fn new(catalog: Catalog, trips: Vec<FeedTrip>, aside: u32) -> Feed
-        requires feed { IsFeed (data_of catalog trips.items aside) }
+    /// The feed of a catalog and its trips, of which so many were set aside, with the walks of `transfers.txt`.
+    pub(crate) fn new(
+        catalog: Catalog,
+        trips: Vec<FeedTrip>,
+        aside: u32,
+        transfers: Transfers,
+    ) -> Feed
+        requires feed { IsFeed (data_of catalog trips.items aside transfers) }
         requires ids { catalog.trips.ids ≡ map (λ t. t.id) trips.items }
-        ensures { result ≡ data_of catalog trips.items aside }
+        ensures { result ≡ data_of catalog trips.items aside transfers }
     {
         let Catalog {
-            stops,
+            places,
             routes,
             calendar,
             exceptions,
             trips: listed,
         } = catalog;
         Feed {
-            stops,
+            places,
             routes,
             services: listed.services,
             calendar,
@@ -76,6 +95,7 @@ impl Feed {
             trip_ids: listed.ids,
             trips,
             aside,
+            transfers,
         }
     }
 
@@ -90,7 +110,7 @@ impl Feed {
     pub fn stop_count(&self) -> u32
         ensures { result ≡ length self.now.stops }
     {
-        self.stops.len() as u32
+        self.places.stops().len() as u32
     }
 
     /// The identifier of a stop. [`Feed::stop_no`] leads back from it to the stop.
@@ -99,7 +119,7 @@ impl Feed {
         ensures id { slice_get self.now.stops stop.0 ≡ Some result.now }
         ensures leads_back { position (bytes_eq result.now) self.now.stops ≡ Some stop.0 }
     {
-        match self.stops.id(stop.0 as usize) {
+        match self.places.stops().id(stop.0 as usize) {
             Some(id) => id,
             None => unreachable!(),
         }
@@ -110,7 +130,7 @@ impl Feed {
         ensures number { option_map (λ s. s.0) result ≡ position (bytes_eq id.now) self.now.stops }
         ensures leads_back { IfSome result (λ s. slice_get self.now.stops s.0 ≡ Some id.now) }
     {
-        match self.stops.number(id) {
+        match self.places.stops().number(id) {
             Some(number) => Some(StopNo(number as u32)),
             None => None,
         }
@@ -187,5 +207,47 @@ impl Feed {
         ensures { result ≡ self.now.aside }
     {
         self.aside
+    }
+
+    /// The place with an identifier: a stop, a station, or another record of `stops.txt`; none where no record has it.
+    pub fn place(&self, id: &[u8]) -> Option<Place>
+        ensures named { result ≡ place_named self.now.names self.now.places id.now }
+        ensures unknown { is_none result ≡ is_none (position (bytes_eq id.now) self.now.names) }
+        ensures in_range { IfSome result (children_spec.IsPlace (length self.now.stops) (length self.now.children)) }
+    {
+        self.places.known();
+        self.places.place(id)
+    }
+
+    /// The stops of a station, in file order.
+    pub fn children(&self, station: u32) -> &[StopNo]
+        requires { station < length self.now.children }
+        ensures { slice_get self.now.children station ≡ Some result.now }
+    {
+        self.places.known();
+        self.places.children(station)
+    }
+
+    /// The stops that a place stands for: a stop for itself, a station for its stops, another place for none.
+    pub fn stops_at(&self, place: Place) -> Ends<'_>
+        requires { children_spec.IsPlace (length self.now.stops) (length self.now.children) place }
+        ensures { ends_spec.stops_of result ≡ children_spec.stops_at place self.now.children }
+    {
+        self.places.known();
+        self.places.stops_at(place)
+    }
+
+    /// The rows of `transfers.txt` that give a walk between two different stops, in file order.
+    pub fn links(&self) -> &[Link]
+        ensures { result.now ≡ self.now.links }
+    {
+        self.transfers.links.as_slice()
+    }
+
+    /// How many rows of `transfers.txt` give no walk.
+    pub fn unused_transfers(&self) -> u32
+        ensures { result ≡ self.now.unused }
+    {
+        self.transfers.unused
     }
 }

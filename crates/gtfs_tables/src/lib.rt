@@ -1,8 +1,9 @@
 //! The tables of a GTFS feed, from the bytes of its files to the data that they state, or to their first fault.
-//! (GTFS Schedule reference, the files from `stops.txt` to `frequencies.txt`.)
+//! (GTFS Schedule reference, the files from `stops.txt` to `transfers.txt`.)
 //!
 //! [`read_feed`] takes the files as [`FeedBytes`] and gives a [`Feed`]: stops, routes, services and trips by number, each
-//! trip a [`FeedTrip`] with its events, and the rows of both calendars. A refusal is a [`FeedFault`]: which file, which
+//! trip a [`FeedTrip`] with its events, the rows of both calendars, the [`Place`]s of `stops.txt` with the stops of each
+//! station, and each walk of `transfers.txt` as a [`Link`] between two places. A refusal is a [`FeedFault`]: which file, which
 //! record, and what is wrong with it.
 //!
 //! [`read_origins`] and [`read_opportunities`] read the two files of an analysis that name the feed's stops: where journeys
@@ -27,7 +28,7 @@ pub use feed_bytes::{FeedBytes, MOST_BYTES, file_fits};
 pub use opportunities::read_opportunities;
 pub use origins::read_origins;
 pub use read::read_feed;
-pub use table_files::{CalendarRow, Departures, ExceptionRow};
+pub use table_files::{CalendarRow, Departures, Ends, ExceptionRow, Link, Place};
 pub use table_records::{FeedFault, FileName, What, read_date, read_time};
 pub use trip::{DepartureList, FeedTrip, TripId};
 
@@ -35,6 +36,8 @@ pub use trip::{DepartureList, FeedTrip, TripId};
 mod fault_tests;
 #[cfg(test)]
 mod origin_tests;
+#[cfg(test)]
+mod place_tests;
 #[cfg(test)]
 mod test_feeds;
 #[cfg(test)]

@@ -1,7 +1,8 @@
 //! A feed from the bytes of its files.
 
-ghost use Rattle.std.specs.Prelude.{◌≡◌, ◌≤◌, [], length, map, IfOk, IfErr};
+ghost use Rattle.std.specs.Prelude.{◌≡◌, ◌≤◌, [], All, length, map, IfOk, IfErr};
 ghost use Rattle.table_records.specs.Faults.{Tells};
+ghost use Rattle.table_files.specs.Transfers.{IsLink};
 ghost use Rattle.table_files.specs.WholeTrips.{AreEvents};
 ghost use Rattle.gtfs_tables.specs.Files as spec;
 
@@ -11,7 +12,8 @@ use crate::feed_bytes::{FeedBytes, missing};
 use crate::trip::{DepartureList, FeedTrip, TripId};
 use std::alloc::{AllocError, Global};
 use table_files::{
-    Departures, FeedTrips, StopTimes, no_departures, read_frequencies, read_stop_times,
+    Departures, FeedTrips, Places, StopTimes, Transfers, no_departures, read_frequencies,
+    read_stop_times, read_transfers,
 };
 use table_records::{FeedFault, FileName, Identifiers};
 use timetable::Events;
@@ -19,7 +21,7 @@ use timetable::Events;
 /// What the files of a feed state, or the first fault among them: by file, then by record, then by check.
 ///
 /// The files are read in the order `stops.txt`, `routes.txt`, `calendar.txt`, `calendar_dates.txt`, `trips.txt`,
-/// `stop_times.txt`, `frequencies.txt`. The last may be absent, and of the two calendars one. Records are counted from 1
+/// `stop_times.txt`, `frequencies.txt`, `transfers.txt`. The last two may be absent, and of the two calendars one. Records are counted from 1
 /// with the header, and a file that is absent has its fault at record 0. After the last record of `stop_times.txt` each
 /// trip is checked as a whole, in the order of `trips.txt`.
 ///
@@ -30,10 +32,11 @@ pub fn read_feed(alloc: Global, files: &FeedBytes<'_>) -> Result<Feed, FeedFault
     ensures fault { IfErr result (λ e. Tells e (spec.feed_faults (spec.files_of files.now))) }
 {
     let catalog = read_catalog(alloc, files)?;
-    let times = times_of(alloc, files, &catalog.trips.ids, &catalog.stops)?;
+    let times = times_of(alloc, files, &catalog.trips.ids, catalog.places.stops())?;
     let departures = departures_of(alloc, files, &catalog.trips.ids)?;
+    let transfers = transfers_of(alloc, files, &catalog.places)?;
     let trips = trips_of(alloc, &catalog.trips, times.trips, departures)?;
-    Ok(Feed::new(catalog, trips, times.aside))
+    Ok(Feed::new(catalog, trips, times.aside, transfers))
 }
 
 // The events of each trip.
@@ -75,6 +78,28 @@ fn departures_of(
     match files.frequencies {
         Some(bytes) => read_frequencies(alloc, bytes, trips),
         None => Ok(no_departures(alloc, trips.len())?),
+    }
+}
+
+// The walks of `transfers.txt`, none where the file is absent.
+fn transfers_of(
+    alloc: Global,
+    files: &FeedBytes<'_>,
+    places: &Places,
+) -> Result<Transfers, FeedFault>
+    requires size { spec.IsWithinLimit (spec.bytes_of files.now.transfers) }
+    requires places { places.now ≡ spec.places_in (spec.files_of files.now) }
+    ensures good { IfOk result (λ t. (spec.faults_of_transfers (spec.files_of files.now) ≡ [])
+        × (t.links.items ≡ spec.links_in (spec.files_of files.now)) × (t.unused ≡ spec.unused_in (spec.files_of files.now))) }
+    ensures in_range { IfOk result (λ t. All (IsLink (length places.now.stops) (length places.now.stations)) t.links.items) }
+    ensures fault { IfErr result (λ e. Tells e (spec.faults_of_transfers (spec.files_of files.now))) }
+{
+    match files.transfers {
+        Some(bytes) => read_transfers(alloc, bytes, places),
+        None => Ok(Transfers {
+            links: Vec::new(alloc),
+            unused: 0,
+        }),
     }
 }
 

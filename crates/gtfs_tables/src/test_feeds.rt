@@ -1,4 +1,4 @@
-//! A feed of three stops and two trips for the tests, and what is asserted of feeds and of refusals.
+//! A feed of three stops and two trips for the tests, with and without stations, and what is asserted of feeds and of refusals.
 
 use crate::{Feed, FeedBytes, FileName, What, read_feed};
 use std::alloc::Global;
@@ -16,6 +16,12 @@ pub const TRIPS: &[u8] = b"route_id,service_id,trip_id\nR1,MON,T1\nR2,MON,T2\n";
 pub const TIMES: &[u8] =
     b"trip_id,arrival_time,departure_time,stop_id,stop_sequence\nT1,08:00:00,08:00:00,A,1\nT1,08:10:00,08:10:00,B,2\nT2,08:15:00,08:15:00,B,1\nT2,08:30:00,08:30:00,C,2\n";
 
+pub const STATIONS: &[u8] =
+    b"stop_id,location_type,parent_station\nA,,S\nS,1,\nB,0,S\nC,,\nE,2,S\nT,1,\n";
+
+pub const TRANSFERS: &[u8] =
+    b"from_stop_id,to_stop_id,transfer_type,min_transfer_time\nA,B,2,60\nA,B,3,60\nS,C,,120\nT,C,2,60\nE,C,2,60\n";
+
 /// The small feed: two trips on Mondays in May 2026.
 pub fn small_feed() -> FeedBytes<'static> {
     FeedBytes {
@@ -27,6 +33,16 @@ pub fn small_feed() -> FeedBytes<'static> {
         stop_times: Some(TIMES),
         frequencies: None,
         transfers: None,
+    }
+}
+
+/// The small feed with the station S around its stops A and B, the empty station T, an entrance E, and five rows of
+/// `transfers.txt`, of which the first and the third give walks.
+pub fn station_feed() -> FeedBytes<'static> {
+    FeedBytes {
+        stops: Some(STATIONS),
+        transfers: Some(TRANSFERS),
+        ..small_feed()
     }
 }
 

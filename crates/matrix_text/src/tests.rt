@@ -6,38 +6,54 @@ use gtfs_tables::{Feed, FeedBytes, read_feed};
 use std::alloc::{AllocError, Global};
 use std::io;
 use std::io::{ErrorKind, Write};
-use std::test::Fail;
 use timetable::StopNo;
 
-const STOPS: &[u8] = b"stop_id\nA\nB\nC\n";
+/// The two files in which the feeds of the examples differ.
+#[derive(Clone, Copy)]
+struct Files {
+    stops: &'static [u8],
+    stop_times: &'static [u8],
+}
 
-const TIMES: &[u8] = b"trip_id,arrival_time,departure_time,stop_id,stop_sequence
+/// Two trips among three stops.
+const THREE_STOPS: Files = Files {
+    stops: b"stop_id\nA\nB\nC\n",
+    stop_times: b"trip_id,arrival_time,departure_time,stop_id,stop_sequence
 T1,08:00:00,08:00:00,A,1
 T1,08:10:00,08:10:00,B,2
 T2,08:15:00,08:15:00,B,1
 T2,08:30:00,08:30:00,C,2
-";
+",
+};
 
-const QUOTED_STOPS: &[u8] = b"stop_id\n\"A,1\"\nB\nC\n";
-
-const QUOTED_TIMES: &[u8] = b"trip_id,arrival_time,departure_time,stop_id,stop_sequence
+/// The same, where the first stop's identifier has a comma.
+const QUOTED: Files = Files {
+    stops: b"stop_id\n\"A,1\"\nB\nC\n",
+    stop_times: b"trip_id,arrival_time,departure_time,stop_id,stop_sequence
 T1,08:00:00,08:00:00,\"A,1\",1
 T1,08:10:00,08:10:00,B,2
 T2,08:15:00,08:15:00,B,1
 T2,08:30:00,08:30:00,C,2
-";
+",
+};
 
-/// The feed of two trips among three stops, if it is one.
-fn feed_of(alloc: Global, stops: &'static [u8], stop_times: &'static [u8]) -> Option<Feed> {
+/// Two stops in place of three, and no times.
+const TWO_STOPS: Files = Files {
+    stops: b"stop_id\nA\nB\n",
+    stop_times: b"trip_id,stop_id,stop_sequence,arrival_time,departure_time\n",
+};
+
+/// The feed of two trips, if it is one.
+fn feed_of(alloc: Global, own: Files) -> Option<Feed> {
     let files = FeedBytes {
-        stops: Some(stops),
+        stops: Some(own.stops),
         routes: Some(b"route_id\nR1\nR2\n"),
         calendar: Some(
             b"service_id,monday,tuesday,wednesday,thursday,friday,saturday,sunday,start_date,end_date\nMON,1,0,0,0,0,0,0,20260504,20260531\n",
         ),
         calendar_dates: None,
         trips: Some(b"route_id,service_id,trip_id\nR1,MON,T1\nR2,MON,T2\n"),
-        stop_times: Some(stop_times),
+        stop_times: Some(own.stop_times),
         frequencies: None,
         transfers: None,
     };
@@ -50,15 +66,18 @@ fn feed_of(alloc: Global, stops: &'static [u8], stop_times: &'static [u8]) -> Op
 /// A row: scenario, origin, access and cells.
 type Told<'a> = (u32, u32, u64, &'a [Option<u32>]);
 
-/// The matrix of three columns and these rows, if they fill it.
+/// From A: B after ten minutes and C after thirty.
+const FROM_A: Told<'static> = (0, 0, 3, &[Some(0), Some(600), Some(1_800)]);
+
+/// The matrix of three columns and these rows; want of memory is told too where they don't fill it.
 fn matrix_of(
     alloc: Global,
     scenarios: u32,
     origins: u32,
     rows: &[Told<'_>],
-) -> Result<Option<Matrix>, AllocError> {
+) -> Result<Matrix, AllocError> {
     if scenarios > 3 || origins > 3 {
-        return Ok(None);
+        return Err(AllocError);
     }
     let mut collector = Collector::new(alloc, 1, scenarios, origins, 3)?;
     for (scenario, origin, access, cells) in rows {
@@ -70,80 +89,106 @@ fn matrix_of(
             access: *access,
         });
     }
-    Ok(collector.finish().ok())
+    match collector.finish() {
+        Ok(matrix) => Ok(matrix),
+        Err(_) => Err(AllocError),
+    }
 }
 
-/// Writes the text, and tells what came of it: none where the labels don't fit.
+/// The names of scenarios and the stops of origins.
+#[derive(Clone, Copy)]
+struct Named<'a> {
+    scenarios: &'a [&'a [u8]],
+    origins: &'a [StopNo],
+}
+
+/// One scenario, and A as the only origin.
+const BASE_FROM_A: Named<'static> = Named {
+    scenarios: &[b"base"],
+    origins: &[StopNo(0)],
+};
+
+/// The names as they stand in labels.
+fn list_of(alloc: Global, names: &[&[u8]]) -> Result<Vec<Vec<u8>>, AllocError> {
+    let mut list = Vec::with_capacity(alloc, names.len())?;
+    for name in names {
+        list.push(Vec::from_slice(alloc, name)?)?;
+    }
+    Ok(list)
+}
+
+/// Writes the text where the labels fit; want of memory is told too where they don't.
+fn write_over<W: Write>(
+    alloc: Global,
+    feed: &Feed,
+    matrix: &Matrix,
+    scenarios: &[Vec<u8>],
+    origins: &[StopNo],
+    w: &mut W,
+) -> Result<(), TextFault> {
+    let labels = Labels {
+        scenarios,
+        origins,
+        feed,
+    };
+    if !labels.fit(matrix) {
+        return Err(TextFault::Memory);
+    }
+    write_matrix(alloc, matrix, &labels, w)
+}
+
+/// Writes the text of a matrix over a feed of these files.
 fn write_text<W: Write>(
     alloc: Global,
-    matrix: &Option<Matrix>,
-    names: &[&[u8]],
-    origins: &[StopNo],
-    feed: &Option<Feed>,
+    files: Files,
+    matrix: &Matrix,
+    named: Named<'_>,
     w: &mut W,
-) -> Result<Option<Result<(), TextFault>>, AllocError> {
-    let mut scenarios = Vec::with_capacity(alloc, names.len())?;
-    for name in names {
-        scenarios.push(Vec::from_slice(alloc, name)?)?;
+) -> Result<(), TextFault> {
+    let Ok(scenarios) = list_of(alloc, named.scenarios) else {
+        return Err(TextFault::Memory);
+    };
+    match feed_of(alloc, files) {
+        Some(feed) => write_over(alloc, &feed, matrix, &scenarios, named.origins, w),
+        None => Err(TextFault::Memory),
     }
-    if let Some(matrix) = matrix
-        && let Some(feed) = feed
-    {
-        let labels = Labels {
-            scenarios: &scenarios,
-            origins,
-            feed,
-        };
-        if labels.fit(matrix) {
-            return Ok(Some(write_matrix(alloc, matrix, &labels, w)));
-        }
-    }
-    Ok(None)
 }
 
-/// From A: B after ten minutes and C after thirty.
-const FROM_A: Told<'static> = (0, 0, 3, &[Some(0), Some(600), Some(1_800)]);
-
-/// The text of a matrix of these rows over a feed, where the labels fit.
-fn text_of(
+/// Whether the matrix of these rows has this text.
+fn gives(
     alloc: Global,
-    files: (&'static [u8], &'static [u8]),
+    files: Files,
     shape: (u32, u32),
     rows: &[Told<'_>],
-    labels: (&[&[u8]], &[StopNo]),
-) -> Result<Option<Vec<u8>>, AllocError> {
-    let feed = feed_of(alloc, files.0, files.1);
-    let matrix = matrix_of(alloc, shape.0, shape.1, rows)?;
+    named: Named<'_>,
+    want: &[u8],
+) -> bool {
     let mut text = Vec::new(alloc);
-    match write_text(alloc, &matrix, labels.0, labels.1, &feed, &mut text)? {
-        Some(Ok(())) => Ok(Some(text)),
-        _ => Ok(None),
-    }
-}
-
-/// Whether there is a text, and it is this one.
-fn is_text(text: &Option<Vec<u8>>, want: &[u8]) -> bool {
-    match text {
-        Some(text) => text.as_slice() == want,
-        None => false,
+    match matrix_of(alloc, shape.0, shape.1, rows) {
+        Ok(matrix) => {
+            let told = write_text(alloc, files, &matrix, named, &mut text);
+            told.is_ok() && text.as_slice() == want
+        }
+        Err(_) => false,
     }
 }
 
 #[test]
-fn writes_one_row(rt: HostRuntime) -> Result<(), Fail> {
-    let labels: (&[&[u8]], &[StopNo]) = (&[b"base"], &[StopNo(0)]);
-    let text = text_of(rt.alloc(), (STOPS, TIMES), (1, 1), &[FROM_A], labels)?;
+fn writes_one_row(rt: HostRuntime) {
     assert!(rt;
-        is_text(
-            &text,
+        gives(
+            rt.alloc(),
+            THREE_STOPS,
+            (1, 1),
+            &[FROM_A],
+            BASE_FROM_A,
             b"scenario,origin,access,A,B,C\nbase,A,3,0,600,1800\n"
         )
     );
-    Ok(())
 }
 
 #[test]
-fn writes_scenarios_and_their_origins_in_order(rt: HostRuntime) -> Result<(), Fail> {
+fn writes_scenarios_and_their_origins_in_order(rt: HostRuntime) {
     let rows: [Told<'_>; 9] = [
         (2, 2, 1, &[None, None, Some(0)]),
         FROM_A,
@@ -155,15 +200,10 @@ fn writes_scenarios_and_their_origins_in_order(rt: HostRuntime) -> Result<(), Fa
         (2, 0, 3, &[Some(0), Some(900), Some(1_800)]),
         (2, 1, 2, &[None, Some(0), Some(1_800)]),
     ];
-    let names: [&[u8]; 3] = [b"base", b"cut", b"late"];
-    let origins = [StopNo(0), StopNo(1), StopNo(2)];
-    let text = text_of(
-        rt.alloc(),
-        (STOPS, TIMES),
-        (3, 3),
-        &rows,
-        (&names, &origins),
-    )?;
+    let named = Named {
+        scenarios: &[b"base", b"cut", b"late"],
+        origins: &[StopNo(0), StopNo(1), StopNo(2)],
+    };
     let want = b"scenario,origin,access,A,B,C
 base,A,3,0,600,1800
 base,B,2,,0,1800
@@ -175,69 +215,93 @@ late,A,3,0,900,1800
 late,B,2,,0,1800
 late,C,1,,,0
 ";
-    assert!(rt; is_text(&text, want));
-    Ok(())
+    assert!(rt; gives(rt.alloc(), THREE_STOPS, (3, 3), &rows, named, want));
 }
 
 #[test]
-fn tells_origins_by_their_stops(rt: HostRuntime) -> Result<(), Fail> {
-    let labels: (&[&[u8]], &[StopNo]) = (&[b"base"], &[StopNo(2)]);
-    let rows: [Told<'_>; 1] = [(0, 0, 1, &[None, None, Some(0)])];
-    let text = text_of(rt.alloc(), (STOPS, TIMES), (1, 1), &rows, labels)?;
-    assert!(rt; is_text(&text, b"scenario,origin,access,A,B,C\nbase,C,1,,,0\n"));
-    Ok(())
-}
-
-#[test]
-fn writes_the_header_alone_without_origins(rt: HostRuntime) -> Result<(), Fail> {
-    let text = text_of(rt.alloc(), (STOPS, TIMES), (1, 0), &[], (&[b"base"], &[]))?;
-    assert!(rt; is_text(&text, b"scenario,origin,access,A,B,C\n"));
-    Ok(())
-}
-
-#[test]
-fn quotes_where_it_is_needed(rt: HostRuntime) -> Result<(), Fail> {
-    let labels: (&[&[u8]], &[StopNo]) = (&[b"a \"b\""], &[StopNo(0)]);
-    let files = (QUOTED_STOPS, QUOTED_TIMES);
-    let text = text_of(rt.alloc(), files, (1, 1), &[FROM_A], labels)?;
-    let want = b"scenario,origin,access,\"A,1\",B,C\n\"a \"\"b\"\"\",\"A,1\",3,0,600,1800\n";
-    assert!(rt; is_text(&text, want));
-    Ok(())
-}
-
-/// Two stops in place of three, and no times.
-const FEWER_STOPS: (&[u8], &[u8]) = (
-    b"stop_id\nA\nB\n",
-    b"trip_id,stop_id,stop_sequence,arrival_time,departure_time\n",
-);
-
-#[test]
-fn fits_its_own_matrix_alone(rt: HostRuntime) -> Result<(), Fail> {
-    for (files, names, origins) in [
-        ((STOPS, TIMES), 0, StopNo(0)),
-        ((STOPS, TIMES), 2, StopNo(0)),
-        ((STOPS, TIMES), 1, StopNo(3)),
-        (FEWER_STOPS, 1, StopNo(0)),
-    ] {
-        let all: [&[u8]; 2] = [b"base", b"cut"];
-        let text = text_of(
+fn tells_origins_by_their_stops(rt: HostRuntime) {
+    let named = Named {
+        scenarios: &[b"base"],
+        origins: &[StopNo(2)],
+    };
+    assert!(rt;
+        gives(
             rt.alloc(),
-            files,
+            THREE_STOPS,
             (1, 1),
-            &[FROM_A],
-            (&all[..names], &[origins]),
-        )?;
-        assert!(rt; text.is_none());
+            &[(0, 0, 1, &[None, None, Some(0)])],
+            named,
+            b"scenario,origin,access,A,B,C\nbase,C,1,,,0\n"
+        )
+    );
+}
+
+#[test]
+fn writes_the_header_alone_without_origins(rt: HostRuntime) {
+    let named = Named {
+        scenarios: &[b"base"],
+        origins: &[],
+    };
+    let want = b"scenario,origin,access,A,B,C\n";
+    assert!(rt; gives(rt.alloc(), THREE_STOPS, (1, 0), &[], named, want));
+}
+
+#[test]
+fn quotes_where_it_is_needed(rt: HostRuntime) {
+    let named = Named {
+        scenarios: &[b"a \"b\""],
+        origins: &[StopNo(0)],
+    };
+    let want = b"scenario,origin,access,\"A,1\",B,C\n\"a \"\"b\"\"\",\"A,1\",3,0,600,1800\n";
+    assert!(rt; gives(rt.alloc(), QUOTED, (1, 1), &[FROM_A], named, want));
+}
+
+/// Whether these labels are told to fit the matrix of the row from A: none without memory.
+fn fit(alloc: Global, files: Files, scenarios: &[&[u8]], origins: &[StopNo]) -> Option<bool> {
+    match (matrix_of(alloc, 1, 1, &[FROM_A]), list_of(alloc, scenarios)) {
+        (Ok(matrix), Ok(scenarios)) => fit_over(alloc, files, &scenarios, origins, &matrix),
+        _ => None,
     }
-    let text = text_of(
-        rt.alloc(),
-        (STOPS, TIMES),
-        (1, 1),
-        &[FROM_A],
-        (&[b"base"], &[]),
-    )?;
-    assert!(rt; text.is_none());
-    Ok(())
+}
+
+/// Whether labels over these files are told to fit a matrix: none where the files are no feed.
+fn fit_over(
+    alloc: Global,
+    files: Files,
+    scenarios: &[Vec<u8>],
+    origins: &[StopNo],
+    matrix: &Matrix,
+) -> Option<bool> {
+    match feed_of(alloc, files) {
+        Some(feed) => Some(labels_fit(scenarios, origins, &feed, matrix)),
+        None => None,
+    }
+}
+
+/// Whether these labels are told to fit a matrix.
+fn labels_fit(scenarios: &[Vec<u8>], origins: &[StopNo], feed: &Feed, matrix: &Matrix) -> bool {
+    let labels = Labels {
+        scenarios,
+        origins,
+        feed,
+    };
+    labels.fit(matrix)
+}
+
+#[test]
+fn labels_fit_their_own_matrix_alone(rt: HostRuntime) {
+    let a = [StopNo(0)];
+    let one: [&[u8]; 1] = [b"base"];
+    let two: [&[u8]; 2] = [b"base", b"cut"];
+    assert_eq!(rt; fit(rt.alloc(), THREE_STOPS, &one, &a), Some(true));
+    assert_eq!(rt; fit(rt.alloc(), THREE_STOPS, &[], &a), Some(false));
+    assert_eq!(rt; fit(rt.alloc(), THREE_STOPS, &two, &a), Some(false));
+    assert_eq!(rt;
+        fit(rt.alloc(), THREE_STOPS, &one, &[StopNo(3)]),
+        Some(false)
+    );
+    assert_eq!(rt; fit(rt.alloc(), THREE_STOPS, &one, &[]), Some(false));
+    assert_eq!(rt; fit(rt.alloc(), TWO_STOPS, &one, &a), Some(false));
 }
 
 /// Takes at most so many bytes at a call, and fails after so many calls.
@@ -264,44 +328,38 @@ impl Write for Slow {
     }
 }
 
-/// What a slow writer took, and what the call told, where the labels fit.
-fn taken_of(
+/// Whether a slow writer takes these bytes of the text, and is told so of the rest.
+fn leaves(
     alloc: Global,
     at_once: usize,
     calls: usize,
-) -> Result<(Option<Result<(), TextFault>>, Vec<u8>), AllocError> {
-    let feed = feed_of(alloc, STOPS, TIMES);
-    let matrix = matrix_of(alloc, 1, 1, &[FROM_A])?;
+    told: Result<(), TextFault>,
+    want: &[u8],
+) -> bool {
     let mut writer = Slow {
         taken: Vec::new(alloc),
         at_once,
         calls,
     };
-    let told = write_text(alloc, &matrix, &[b"base"], &[StopNo(0)], &feed, &mut writer)?;
-    Ok((told, writer.taken))
+    match matrix_of(alloc, 1, 1, &[FROM_A]) {
+        Ok(matrix) => {
+            let done = write_text(alloc, THREE_STOPS, &matrix, BASE_FROM_A, &mut writer);
+            done == told && writer.taken.as_slice() == want
+        }
+        Err(_) => false,
+    }
 }
 
 #[test]
-fn leaves_a_prefix_where_the_writer_fails(rt: HostRuntime) -> Result<(), Fail> {
-    let all: &[u8] = b"scenario,origin,access,A,B,C\nbase,A,3,0,600,1800\n";
-    let cases: [(usize, usize, Result<(), TextFault>, &[u8]); 5] = [
-        (10, 1, Err(TextFault::Write), b"scenario,o"),
-        (1, 999, Ok(()), all),
-        (
-            99,
-            1,
-            Err(TextFault::Write),
-            b"scenario,origin,access,A,B,C\n",
-        ),
-        (0, 9, Err(TextFault::Write), b""),
-        (99, 0, Err(TextFault::Write), b""),
-    ];
-    for (at_once, calls, told, want) in &cases {
-        let (done, taken) = taken_of(rt.alloc(), *at_once, *calls)?;
-        assert_eq!(rt; done, Some(*told));
-        assert_eq!(rt; taken.as_slice(), *want);
-    }
-    Ok(())
+fn leaves_a_prefix_where_the_writer_fails(rt: HostRuntime) {
+    let fault = Err(TextFault::Write);
+    let header = b"scenario,origin,access,A,B,C\n";
+    let all = b"scenario,origin,access,A,B,C\nbase,A,3,0,600,1800\n";
+    assert!(rt; leaves(rt.alloc(), 10, 1, fault, b"scenario,o"));
+    assert!(rt; leaves(rt.alloc(), 1, 999, Ok(()), all));
+    assert!(rt; leaves(rt.alloc(), 99, 1, fault, header));
+    assert!(rt; leaves(rt.alloc(), 0, 9, fault, b""));
+    assert!(rt; leaves(rt.alloc(), 99, 0, fault, b""));
 }
 
 #[test]

@@ -3,3 +3,9 @@ mod MovedEvents
 mod KeptRuns
 mod Fitting
 mod MovedTrips
+mod AddedShift
+mod Ranges
+mod RowRanges
+mod TripRanges
+mod LastShifts
+mod FileFacts

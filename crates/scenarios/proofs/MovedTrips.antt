@@ -25,7 +25,7 @@ use Rattle.scenarios.specs.Networks.{are_few, are_on_axis, fits, is_event_on_axi
 use Rattle.scenarios.specs.Moving.{arriving}
 use Rattle.scenarios.specs.ScenarioData.{ScenarioData}
 
-all_at : {A : Type 0} (P : A → Type 0) (xs : List A) (i : ℕ) (x : A) → slice_get xs i ≡ Some x → All P xs → P x
+pub all_at : {A : Type 0} (P : A → Type 0) (xs : List A) (i : ℕ) (x : A) → slice_get xs i ≡ Some x → All P xs → P x
 all_at P xs i x at all = subst P (get_or_from_slice_get xs i x x at) (all i x (slice_get_within xs i x at))
 
 both : (a b : Bool) → (a && b) ≡ true → (a ≡ true) × (b ≡ true)
@@ -78,7 +78,7 @@ rises_moved z xs rise on =
     }
 
 -- nor do they where the first arrival is the first departure
-rises_arriving : (departs : Bool) (events : List Event) → EventsRise events → EventsRise (arriving departs events)
+pub rises_arriving : (departs : Bool) (events : List Event) → EventsRise events → EventsRise (arriving departs events)
 rises_arriving false events rise = rise
 rises_arriving true [] rise = rise
 rises_arriving true (first ∷ events) rise = record {

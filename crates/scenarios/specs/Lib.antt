@@ -3,3 +3,7 @@ pub mod ScenarioData
 pub mod Scenario
 pub mod Networks
 pub mod Moving
+pub mod Faults
+pub mod EditRows
+pub mod ShiftedTimes
+pub mod Files

@@ -3,6 +3,12 @@
 /// The most rows of a scenario.
 pub const MOST_EDITS: usize = 100_000;
 
+/// The most seconds by which one row shifts a trip, either way: less than a week.
+pub const MOST_SHIFT: u32 = 604_799;
+
+/// The times of shifted trips, in seconds of their service day, are less than this.
+pub const END_OF_TIMES: u32 = 2_000_000;
+
 /// What a row of a scenario does, by the feed's numbers.
 #[derive(Clone, Copy, Debug, PartialEq, Eq)]
 pub enum Edit {

@@ -1,19 +1,30 @@
 //! Scenarios: which trips of a feed are kept, by how much their times are shifted, and the networks that this makes.
 //!
 //! - `scenario`: [`Scenario`] and [`base`], the scenario without edits.
+//! - `files`: [`read_scenario`], the scenario that a file says, or its first [`ScenarioFault`].
 //! - `networks`: [`network_of`], the network of the runs that a scenario keeps.
 //!
-//! `specs/Edits` says what the rows of a scenario do to a trip, `specs/Networks` which network they make of runs.
+//! `specs/Edits` says what the rows of a scenario do to a trip, `specs/Networks` which network they make of runs, and
+//! `specs/Files` which edits a file says, with all its faults.
 #![tactic(auto)]
 
+mod edit_rows;
 mod edits;
+mod faults;
+#[cfg(test)]
+mod file_tests;
+mod files;
 mod moving;
 mod name;
 mod networks;
+mod places;
 mod scenario;
+mod shifted_times;
 #[cfg(test)]
 mod tests;
 mod trip_list;
 
+pub use faults::{ScenarioFault, ScenarioWhat};
+pub use files::read_scenario;
 pub use networks::network_of;
 pub use scenario::{Scenario, base};

@@ -4,8 +4,9 @@ ghost use Rattle.std.specs.Option.{option_map};
 
 use crate::edits::Edit;
 use crate::name::Name;
+use crate::places::{add_shift, flag_at, make_place, shift_at};
 use gtfs_tables::Feed;
-use std::alloc::Global;
+use std::alloc::{AllocError, Global};
 use std::marker::Model;
 
 /// A scenario: what its rows do to the trips of a feed. Contracts see its name and the list of its edits.
@@ -47,9 +48,11 @@ pub fn base(alloc: Global) -> Scenario
 }
 
 impl Scenario {
-    ghost use Rattle.std.specs.Prelude.{◌≡◌, ◌≤ℤ◌, Some, IfSome, neg_ℤ, pos, slice_get, slice_index_or, false};
+    ghost use Rattle.std.specs.Prelude.{◌≡◌, ◌<◌, ◌≤ℤ◌, ◌++◌, ◌∷◌, [], Some, IfSome, OnErr, OnOk, length, neg_ℤ, pos, slice_get, slice_index_or, false};
     ghost use Rattle.std.specs.Option.{MatchOption};
-    ghost use Rattle.scenarios.specs.Edits.{keeps_of, shift_of};
+    ghost use Rattle.scenarios.specs.declared.edits.Edit.TheVariants as edits;
+    ghost use Rattle.scenarios.specs.declared.edits.TheConstants.{MOST_EDITS};
+    ghost use Rattle.scenarios.specs.Edits.{IsShift, keeps_of, shift_of};
     ghost use Rattle.gtfs_tables.specs.declared.trip.FeedTrip.{FeedTrip};
 
     /// The name, in bytes; `base` for the scenario without edits.
@@ -60,6 +63,78 @@ impl Scenario {
             Name::Base => b"base",
             Name::Given(name) => name.as_slice(),
         }
+    }
+
+    /// A scenario of a name, which has no edits yet.
+    pub(crate) fn named(alloc: Global, name: Vec<u8>) -> Scenario
+        ensures { result ≡ record { name = name.items; edits = [] } }
+    {
+        Scenario {
+            name: Name::Given(name),
+            edits: Vec::new(alloc),
+            removed_routes: Vec::new(alloc),
+            removed_trips: Vec::new(alloc),
+            shifts: Vec::new(alloc),
+        }
+    }
+
+    /// The edits, in the order of their rows.
+    pub(crate) fn edits(&self) -> &[Edit]
+        ensures { result.now ≡ self.now.edits }
+    {
+        self.edits.as_slice()
+    }
+
+    /// Adds an edit after the others.
+    pub(crate) fn add(&mut self, edit: Edit) -> Result<(), AllocError>
+        requires few { length self.old.edits < MOST_EDITS }
+        requires shift { IsShift edit }
+        ensures good { OnOk result (self.new ≡ record self.old { edits = self.old.edits ++ edit ∷ [] }) }
+        ensures err { OnErr result (self.new ≡ self.old) }
+    {
+        match edit {
+            Edit::RemoveRoute(route) => self.remove_route(route),
+            Edit::RemoveTrip(trip) => self.remove_trip(trip),
+            Edit::Shift(trip, seconds) => self.shift_trip(trip, seconds),
+        }
+    }
+
+    // Adds the removal of a route.
+    fn remove_route(&mut self, route: u32) -> Result<(), AllocError>
+        requires { length self.old.edits < MOST_EDITS }
+        ensures good { OnOk result (self.new ≡ record self.old { edits = self.old.edits ++ edits.RemoveRoute route ∷ [] }) }
+        ensures err { OnErr result (self.new ≡ self.old) }
+    {
+        make_place(&mut self.removed_routes, route, false)?;
+        self.edits.push(Edit::RemoveRoute(route))?;
+        self.removed_routes[route as usize] = true;
+        Ok(())
+    }
+
+    // Adds the removal of a trip.
+    fn remove_trip(&mut self, trip: u32) -> Result<(), AllocError>
+        requires { length self.old.edits < MOST_EDITS }
+        ensures good { OnOk result (self.new ≡ record self.old { edits = self.old.edits ++ edits.RemoveTrip trip ∷ [] }) }
+        ensures err { OnErr result (self.new ≡ self.old) }
+    {
+        make_place(&mut self.removed_trips, trip, false)?;
+        self.edits.push(Edit::RemoveTrip(trip))?;
+        self.removed_trips[trip as usize] = true;
+        Ok(())
+    }
+
+    // Adds a shift of a trip, whose seconds come to those of its other shifts.
+    fn shift_trip(&mut self, trip: u32, seconds: i64) -> Result<(), AllocError>
+        requires few { length self.old.edits < MOST_EDITS }
+        requires low { neg_ℤ (pos 604799) ≤ℤ seconds }
+        requires high { seconds ≤ℤ pos 604799 }
+        ensures good { OnOk result (self.new ≡ record self.old { edits = self.old.edits ++ edits.Shift trip seconds ∷ [] }) }
+        ensures err { OnErr result (self.new ≡ self.old) }
+    {
+        make_place(&mut self.shifts, trip, 0)?;
+        self.edits.push(Edit::Shift(trip, seconds))?;
+        add_shift(&mut self.shifts, trip, seconds);
+        Ok(())
     }
 
     /// Whether the scenario keeps a trip of the feed: no row removes it or its route.
@@ -79,18 +154,4 @@ impl Scenario {
     {
         shift_at(&self.shifts, trip)
     }
-}
-
-/// The flag at a place, which is not set past the end.
-fn flag_at(flags: &[bool], place: u32) -> bool
-    ensures { result ≡ slice_index_or flags.now place false }
-{
-    flags.get(place as usize).copied().unwrap_or(false)
-}
-
-/// The shift at a place, which is none past the end.
-fn shift_at(shifts: &[i64], place: u32) -> i64
-    ensures { result ≡ slice_index_or shifts.now place (pos 0) }
-{
-    shifts.get(place as usize).copied().unwrap_or(0)
 }

@@ -45,7 +45,7 @@ T1,08:29:00,08:29:00,A,29
 ";
 
 // Two trips on Mondays in May 2026, and one on Sundays that runs past midnight.
-fn mondays() -> FeedBytes<'static> {
+pub(crate) fn mondays() -> FeedBytes<'static> {
     FeedBytes {
         stops: Some(STOPS),
         routes: Some(ROUTES),
@@ -58,7 +58,7 @@ fn mondays() -> FeedBytes<'static> {
     }
 }
 
-fn expect_read(rt: &impl Abort, alloc: Global, files: FeedBytes<'_>) -> Feed {
+pub(crate) fn expect_read(rt: &impl Abort, alloc: Global, files: FeedBytes<'_>) -> Feed {
     assert!(rt; files.fits());
     match read_feed(alloc, &files) {
         Ok(feed) => feed,

@@ -1,10 +1,9 @@
 pub mod FillFacts
 pub mod EventFacts
-pub mod HeaderFacts
 pub mod OneOrder
 pub mod SortedFacts
 pub mod StampFacts
-pub mod StopFacts
+pub mod NewIds
 pub mod TimeFacts
 pub mod ServiceFacts
 pub mod CalendarFacts

@@ -15,7 +15,7 @@ use Rattle.table_files.specs.declared.places.PlaceList.{PlaceList}
 use Rattle.table_files.specs.Children.{IsPlace, children_of}
 use Rattle.table_files.specs.Places.{ArePlaces, IsPlaceList, IsPlaced, PlaceRow, checks, is_station, is_stop, kind_of, names_of, parents_of, place_at, places_after, places_in, stations_of, stops_of, with_id}
 use Rattle.table_files.proofs.ChildrenFacts.{are_children, length-children_of}
-use Rattle.table_files.proofs.StopFacts.{distinct_push, neither}
+use Rattle.table_files.proofs.NewIds.{distinct_push, neither}
 
 -- no records yet
 pub no_places : (l : PlaceList) → l.names ≡ [] → l.stops ≡ [] → l.stations ≡ [] → l.places.items ≡ [] → l.parents.items ≡ [] → IsPlaceList l []

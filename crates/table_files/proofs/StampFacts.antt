@@ -3,6 +3,7 @@ use Rattle.std.proofs.Common.{◌≡◌, ◌≢◌, ◌<◌, ◌≤◌, ◌+◌,
 use Rattle.std.proofs.lemmas.Bool.Decides.{nat_tests}
 use Rattle.std.specs.Prelude.{None, nat_lt}
 use Rattle.std.specs.List.{list_any}
+use Rattle.std.specs.List.Sorted.{IsNonDecreasingBy}
 use Rattle.table_files.specs.Stamps.{FitsAt, IsAscending, insert_in_order}
 use Rattle.table_files.specs.declared.stamps.Stamp.{Stamp}
 
@@ -27,12 +28,6 @@ above low n (s ∷ rest) lt up =
     let here : (s.sequence == n) ≡ false = differs _ _ (λ e. absurd (omega (arith, e, le))) in
     rw (here, above (s.sequence + 1) n rest (omega (arith, le)) up.1) refl
 
--- a record between those below its number and those above it
-pub record Fits (low : ℕ) (xs : List Stamp) (p : ℕ) (x : Stamp) : Type 0 where
-  pub absent : list_any (has x.sequence) xs ≡ false
-  pub ascending : IsAscending low (insert xs p x)
-  pub placed : insert xs p x ≡ insert_in_order x xs
-
 -- each record has at least the first number
 at_least : (k low : ℕ) (xs : List Stamp) (d : Stamp) → IsAscending low xs → k < length xs → low ≤ (get_or xs k d).sequence
 at_least zero low [] d up lt = absurd (omega arith)
@@ -42,6 +37,20 @@ at_least (suc k) low (s ∷ rest) d up lt =
     let le = up.0 in
     let more = at_least k (s.sequence + 1) rest d up.1 (omega arith) in
     omega (arith, le, more)
+
+-- the sequence numbers rise
+pub rises : (low : ℕ) (xs : List Stamp) → IsAscending low xs → IsNonDecreasingBy (λ (s : Stamp). s.sequence) xs
+rises low [] up i j d le lt = absurd (omega arith)
+rises low (s ∷ rest) up zero zero d le lt = omega arith
+rises low (s ∷ rest) up zero (suc j) d le lt = let more = at_least j (s.sequence + 1) rest d up.1 (omega arith) in omega (arith, more)
+rises low (s ∷ rest) up (suc i) zero d le lt = absurd (omega arith)
+rises low (s ∷ rest) up (suc i) (suc j) d le lt = rises (s.sequence + 1) rest up.1 i j d (omega arith) (omega arith)
+
+-- a record between those below its number and those above it
+pub record Fits (low : ℕ) (xs : List Stamp) (p : ℕ) (x : Stamp) : Type 0 where
+  pub absent : list_any (has x.sequence) xs ≡ false
+  pub ascending : IsAscending low (insert xs p x)
+  pub placed : insert xs p x ≡ insert_in_order x xs
 
 pub fits_at : (p low : ℕ) (xs : List Stamp) (x : Stamp) → IsAscending low xs → low ≤ x.sequence → p ≤ length xs
     → ((m : ℕ) → p ≡ suc m → (get_or xs m x).sequence < x.sequence) → (p < length xs → x.sequence < (get_or xs p x).sequence)

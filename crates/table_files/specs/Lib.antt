@@ -1,8 +1,6 @@
-pub mod Columns
 pub mod Order
 pub mod Stamps
 pub mod Fill
-pub mod Stops
 pub mod StopTimes
 pub mod WholeTrips
 pub mod Routes

@@ -14,9 +14,9 @@ use Rattle.table_records.specs.declared.fault.FileName.TheVariants as file
 use Rattle.table_records.specs.declared.fault.What.{What}
 use Rattle.table_records.specs.declared.fault.What.TheVariants as what
 use Rattle.timetable.specs.declared.trips.Event.{Event}
+use Rattle.table_files.specs.Children.{is_number}
 use Rattle.table_files.specs.Services.{number_in}
 use Rattle.table_files.specs.Stamps.{IsSound, has_number, in_order}
-use Rattle.table_files.specs.Stops.{is_number}
 use Rattle.table_files.specs.WholeTrips.{events_of, whole_trip_faults}
 use Rattle.table_files.specs.declared.stamps.Stamp.{Stamp}
 use Rattle.table_files.specs.declared.stamps.Times.{Times}

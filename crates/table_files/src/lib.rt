@@ -1,15 +1,15 @@
 //! The files of a feed, one module for each: what their records say, or the first fault among them.
-//! (GTFS Schedule reference: `stops.txt`, `routes.txt`, `calendar.txt`, `calendar_dates.txt`, `trips.txt`, `stop_times.txt`, `frequencies.txt`.)
+//! (GTFS Schedule reference: `stops.txt`, `routes.txt`, `calendar.txt`, `calendar_dates.txt`, `trips.txt`, `stop_times.txt`, `frequencies.txt`,
+//! `transfers.txt`.)
 //!
-//! - [`read_stops`] gives the identifiers of all places, and those of the stops among them.
+//! - [`read_places`] gives the stops, stations and other places, and the stops of each station.
 //! - [`read_routes`] gives the identifiers of the routes, and [`read_feed_trips`] the trips with their routes and services.
 //! - [`read_calendar`] and [`read_calendar_dates`] give the days of the services.
 //! - [`read_stop_times`] gives the events of each trip, in the order in which the vehicle makes them, with the times that the file leaves open.
 //! - [`read_frequencies`] gives the departures of the trips that run at a headway.
-//! - [`read_places`] gives the stops, stations and other places, and the stops of each station, and [`read_transfers`] the
-//!   walks between them. The feed doesn't use these two yet.
+//! - [`read_transfers`] gives the walks between stops and stations.
 //!
-//! Beside the readers stand `columns` (where the fields of a record of `stops.txt` stand), `stamps` (the records of one
+//! Beside the readers stand `children` and `ends` (the stops for which a place stands), `stamps` (the records of one
 //! trip, in order), `whole_trips` (what is checked once all records of a trip are known) and `fill` (the times of events that have none).
 //! `specs/` has one module per file, with its checks in their order.
 #![tactic(auto)]
@@ -17,7 +17,6 @@
 mod calendar;
 mod calendar_dates;
 mod children;
-mod columns;
 mod days;
 mod ends;
 mod feed_trips;
@@ -28,12 +27,12 @@ mod place;
 mod places;
 mod routes;
 mod services;
+#[cfg(test)]
+mod size_tests;
 mod stamps;
-mod stop_list;
 #[cfg(test)]
 mod stop_time_tests;
 mod stop_times;
-mod stops;
 mod transfers;
 mod whole_trips;
 
@@ -48,8 +47,6 @@ pub use place::Place;
 pub use places::{Places, read_places};
 pub use routes::read_routes;
 pub use stamps::{Stamp, Times};
-pub use stop_list::StopList;
 pub use stop_times::read_stop_times;
-pub use stops::read_stops;
 pub use transfers::{Link, Transfers, read_transfers};
 pub use whole_trips::StopTimes;

@@ -1,9 +1,11 @@
 //! The records of one trip: when it calls at which stop, in ascending order of `stop_sequence`.
 
-ghost use Rattle.std.specs.Prelude.{◌≡◌, [], true, false, IfNone, IfSome, OnErr, OnOk};
+ghost use Rattle.std.specs.Prelude.{◌≡◌, ◌<◌, ◌≤◌, ℕ, [], true, false, length, slice_index_or, IfNone, IfSome, OnErr, OnOk};
+ghost use Rattle.table_files.specs.declared.stamps.Stamp.{Stamp};
 ghost use Rattle.table_files.specs.Stamps.{FitsAt, IsAscending, has_number, insert_in_order};
 
 use std::alloc::{AllocError, Global};
+use std::collections::VecDeque;
 use std::marker::Model;
 
 /// When a vehicle arrives at a stop and when it departs, in seconds of its service day.
@@ -31,9 +33,11 @@ pub struct Stamp {
 }
 
 /// The records of one trip in ascending order, each sequence number once. Contracts see the list.
+///
+/// Room for a record is made from the nearer end, so that records which ascend take as little time as those which descend.
 #[derive(Drop)]
 pub struct Stamps {
-    items: Vec<Stamp>,
+    items: VecDeque<Stamp>,
 }
 
 impl Model for Stamps {
@@ -55,7 +59,7 @@ impl Stamps {
         ensures { result ≡ [] }
     {
         Stamps {
-            items: Vec::new(alloc),
+            items: VecDeque::new(alloc),
         }
     }
 
@@ -63,7 +67,7 @@ impl Stamps {
     pub fn has(&self, sequence: u32) -> bool
         ensures { result ≡ has_number sequence self.now }
     {
-        place_of(self.items.as_slice(), sequence).is_none()
+        place_of(&self.items, sequence).is_none()
     }
 
     /// Puts a record where its sequence number belongs, which none of the others has.
@@ -75,22 +79,23 @@ impl Stamps {
         insert_stamp(&mut self.items, stamp)
     }
 
-    /// The records, to read.
-    pub fn as_slice(&self) -> &[Stamp]
-        ensures { result.now ≡ self.now }
+    /// The records, in a vector.
+    pub fn into_vec(self) -> Vec<Stamp>
+        ensures { result.items ≡ self }
     {
-        self.items.as_slice()
+        let Stamps { items } = self;
+        Vec::from(items)
     }
 }
 
-fn insert_stamp(stamps: &mut Vec<Stamp>, stamp: Stamp) -> Result<(), AllocError>
+fn insert_stamp(stamps: &mut VecDeque<Stamp>, stamp: Stamp) -> Result<(), AllocError>
     requires ascending { IsAscending 0 stamps.old.items }
     requires new { has_number stamp.sequence stamps.old.items ≡ false }
     ensures put { OnOk result (stamps.new.items ≡ insert_in_order stamp stamps.old.items) }
     ensures ascending { IsAscending 0 stamps.new.items }
     ensures err { OnErr result (stamps.new.items ≡ stamps.old.items) }
 {
-    let Some(i) = place_of(stamps.as_slice(), stamp.sequence) else {
+    let Some(i) = place_of(stamps, stamp.sequence) else {
         unreachable!();
     };
     stamps.insert(i, stamp)?;
@@ -98,18 +103,24 @@ fn insert_stamp(stamps: &mut Vec<Stamp>, stamp: Stamp) -> Result<(), AllocError>
 }
 
 // Where a record with this sequence number belongs, none where there is one already.
-// Looks from the back, since the records of most files ascend.
-fn place_of(stamps: &[Stamp], sequence: u32) -> Option<usize>
-    requires { IsAscending 0 stamps.now }
-    ensures taken { IfNone result (has_number sequence stamps.now ≡ true) }
-    ensures free { IfSome result (λ i. FitsAt i sequence stamps.now) }
+fn place_of(stamps: &VecDeque<Stamp>, sequence: u32) -> Option<usize>
+    requires { IsAscending 0 stamps.now.items }
+    ensures taken { IfNone result (has_number sequence stamps.now.items ≡ true) }
+    ensures free { IfSome result (λ i. FitsAt i sequence stamps.now.items) }
 {
-    let mut i = stamps.len();
-    while i > 0 && stamps[i - 1].sequence > sequence {
-        i -= 1;
-    }
-    if i > 0 && stamps[i - 1].sequence == sequence {
+    let i = count_below(stamps, sequence);
+    if i < stamps.len() && stamps[i].sequence == sequence {
         return None;
     }
     Some(i)
+}
+
+// How many records have a lesser sequence number. In most files that is all of them.
+fn count_below(stamps: &VecDeque<Stamp>, sequence: u32) -> usize
+    requires { IsAscending 0 stamps.now.items }
+    ensures within { result ≤ length stamps.now.items }
+    ensures below { (k : ℕ) (d : Stamp) → k < result → (slice_index_or stamps.now.items k d).sequence < sequence }
+    ensures from { (k : ℕ) (d : Stamp) → result ≤ k → k < length stamps.now.items → sequence ≤ (slice_index_or stamps.now.items k d).sequence }
+{
+    stamps.partition_point(|stamp| stamp.sequence < sequence)
 }

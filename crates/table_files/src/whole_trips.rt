@@ -30,8 +30,9 @@ pub fn events_of_trips(alloc: Global, trips: Vec<Stamps>) -> Result<StopTimes, F
     let mut all = Vec::with_capacity(alloc, trips.len())?;
     let mut aside = 0;
     for stamps in trips {
-        let is_aside = is_aside(stamps.as_slice());
-        let events = events_of_trip(alloc, stamps.as_slice(), is_aside)?;
+        let records = stamps.into_vec();
+        let is_aside = is_aside(records.as_slice());
+        let events = events_of_trip(alloc, records.as_slice(), is_aside)?;
         all.push(events)?;
         aside += u32::from(is_aside);
     }

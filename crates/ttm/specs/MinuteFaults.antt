@@ -23,3 +23,4 @@ minute_faults files origin = feed_faults files ++ origin_faults (feed_of files) 
 abbrev pub Tells : StudyFault → List FeedFault → Type 0
 Tells (Feed fault) faults = feed.Tells fault faults
 Tells Memory faults = ⊤
+Tells _ faults = ⊥

@@ -1,43 +1,61 @@
 //! `ttm`: an analyst's travel time matrices over GTFS timetables.
 //!
-//! Today the program prints one line: the least durations from stop A of the small feed that it carries, at 08:00,
-//! by at most one ride. `minute` makes the line, `once` the network it is about, `output` puts it out.
+//! With words the program makes the study that they ask for; with none, a study of the small feed that it carries.
+//!
+//! - `program`: the whole way, from words to a printed matrix. `words` and `window` read the command line into a `task`; `disk`,
+//!   `files` and `paths` read what it names; `telling` and `lines` tell a fault, with its exit status.
+//! - `study`: `run_study`, from the bytes of the files (`inputs`) and the `settings` to the text of the matrix, or the first
+//!   `fault`. Its parts: `names`, `tables`, `scenario_files`, `networks`; `laws` says that a study has one text.
+//! - `minute`: `minute_line`, the durations of one minute over each trip of a feed once (`once`, `line`).
+//!
+//! `specs/Study` says what the inputs mean and which fault comes first, `specs/Words` what the words ask for, `specs/Lines` which
+//! line tells a fault.
 #![tactic(auto)]
 
+mod disk;
 mod example;
 mod fault;
+#[cfg(test)]
+mod file_tests;
+mod files;
+mod inputs;
+mod laws;
 mod line;
+#[cfg(test)]
+mod line_tests;
+mod lines;
 mod minute;
+mod named_file;
+mod names;
+mod networks;
 mod once;
-mod output;
+mod parts;
+mod paths;
+mod program;
+#[cfg(test)]
+mod refusal_tests;
+#[cfg(test)]
+mod row_feeds;
+#[cfg(test)]
+mod row_tests;
+mod scenario_files;
+mod settings;
+mod study;
+#[cfg(test)]
+mod study_tests;
+mod tables;
+mod task;
+mod telling;
 #[cfg(test)]
 mod tests;
+mod window;
+#[cfg(test)]
+mod word_tests;
+mod words;
 
-use crate::example::example_feed;
-use crate::fault::StudyFault;
-use crate::minute::minute_line;
-use crate::output::put_all;
-use std::io;
+use crate::program::run;
 use std::process::ExitCode;
 
-/// The exit status where memory is short.
-const NO_MEMORY: u8 = 3;
-
-/// The exit status where the output can't be written.
-const NOT_WRITTEN: u8 = 5;
-
-/// Says on the error stream why there is no answer, as far as that can be said, and gives the status.
-fn tell(rt: &impl Eprint, words: &str, status: u8) -> ExitCode {
-    let _ = eprintln!(rt; "ttm: {words}");
-    ExitCode::from(status)
-}
-
 fn main(rt: HostRuntime) -> ExitCode {
-    match minute_line(rt.alloc(), &example_feed(), b"A", 480, 1) {
-        Ok(line) => match put_all(&line, &mut io::writer(&rt)) {
-            Ok(()) => ExitCode::SUCCESS,
-            Err(_) => tell(&rt, "write fault", NOT_WRITTEN),
-        },
-        Err(_) => tell(&rt, "out of memory", NO_MEMORY),
-    }
+    run(&rt, &mut rt.stdout(), &mut rt.stderr())
 }

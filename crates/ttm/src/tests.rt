@@ -1,12 +1,10 @@
-//! The line of the small feed, of feeds with one thing changed, and bytes put out by poor writers.
+//! The line of the small feed, and of feeds with one thing changed.
 
 use crate::example::example_feed;
 use crate::fault::StudyFault;
 use crate::minute::minute_line;
-use crate::output::put_all;
 use gtfs_tables::{FeedBytes, FeedFault, FileName, What};
 use std::alloc::Global;
-use std::io::Write;
 
 /// T2 leaves B when T1 arrives there.
 const JUST_IN_TIME: &[u8] = b"trip_id,arrival_time,departure_time,stop_id,stop_sequence
@@ -114,47 +112,4 @@ fn refuses_the_tables_before_the_origin(rt: HostRuntime) {
     assert!(rt; fault_of(rt.alloc(), &files, b"a") == Some(StudyFault::Feed(unknown_origin)));
     assert!(rt; fault_of(rt.alloc(), &files, b"") == Some(StudyFault::Feed(unknown_origin)));
     assert!(rt; fault_of(rt.alloc(), &cut, b"Z") == Some(StudyFault::Feed(no_stop_times)));
-}
-
-/// Takes at most so many bytes at a call, and so many calls.
-#[derive(Drop)]
-struct Slow {
-    taken: Vec<u8>,
-    at_once: usize,
-    calls: usize,
-}
-
-impl Write for Slow {
-    fn write(&mut self, bytes: &[u8]) -> std::io::Result<usize> {
-        if self.calls == 0 {
-            return Err(std::io::Error::from(std::io::ErrorKind::BrokenPipe));
-        }
-        self.calls -= 1;
-        let count = bytes.len().min(self.at_once);
-        self.taken.extend_from_slice(&bytes[..count])?;
-        Ok(count)
-    }
-
-    fn flush(&mut self) -> std::io::Result<()> {
-        Ok(())
-    }
-}
-
-#[test]
-fn puts_out_all_bytes_or_a_prefix(rt: HostRuntime) {
-    let cases: [(usize, usize, bool, &[u8]); 4] = [
-        (3, 9, true, b"0,600,1800\n"),
-        (3, 2, false, b"0,600,"),
-        (0, 9, false, b""),
-        (99, 1, true, b"0,600,1800\n"),
-    ];
-    for (at_once, calls, whole, want) in &cases {
-        let mut writer = Slow {
-            taken: Vec::new(rt.alloc()),
-            at_once: *at_once,
-            calls: *calls,
-        };
-        assert_eq!(rt; put_all(b"0,600,1800\n", &mut writer).is_ok(), *whole);
-        assert_eq!(rt; writer.taken.as_slice(), *want);
-    }
 }

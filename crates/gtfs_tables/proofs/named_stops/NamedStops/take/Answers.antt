@@ -2,7 +2,7 @@ use Rattle.std.proofs.Common.{◌≡◌, ◌∙◌, true, false, Some, position,
 use Rattle.std.specs.List.{list_any}
 use Rattle.std.specs.Str.{bytes_eq}
 use Rattle.table_records.specs.Fields.{is_empty}
-use Rattle.table_files.proofs.StopFacts.{empty_length}
+use Rattle.table_files.proofs.NewIds.{empty_length}
 use Rattle.gtfs_tables.proofs.MarkFacts.{fresh, mark_is, marked_more, repeated}
 use Rattle.gtfs_tables.proofs.named_stops.NamedStops.take.Goals as goal
 

@@ -6,7 +6,7 @@ use Rattle.table_records.specs.Fields.{is_empty}
 use Rattle.table_files.specs.Calendar.{ServiceRow, row_at}
 use Rattle.table_files.specs.Days.{date_of, day_number}
 use Rattle.table_files.proofs.CalendarFacts.{calendar_more, date_is, no_fault}
-use Rattle.table_files.proofs.StopFacts.{empty_length, is_new}
+use Rattle.table_files.proofs.NewIds.{empty_length, is_new}
 use Rattle.table_files.proofs.calendar.CalendarColumnsRecordReader.add.Goals as goal
 
 pub returns-clause-good : goal.returns-clause-good

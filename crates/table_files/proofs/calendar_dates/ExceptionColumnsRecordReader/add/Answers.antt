@@ -5,7 +5,7 @@ use Rattle.table_files.specs.CalendarDates.{DateRow, row_at}
 use Rattle.table_files.specs.Days.{adds_of, date_of, day_number}
 use Rattle.table_files.proofs.CalendarFacts.{date_is}
 use Rattle.table_files.proofs.CalendarDateFacts.{exceptions_more, no_fault}
-use Rattle.table_files.proofs.StopFacts.{empty_length}
+use Rattle.table_files.proofs.NewIds.{empty_length}
 use Rattle.table_files.proofs.calendar_dates.ExceptionColumnsRecordReader.add.Goals as goal
 
 pub returns-clause-good : goal.returns-clause-good

@@ -5,7 +5,7 @@ use Rattle.csv.specs.Records.{fields_of}
 use Rattle.table_records.specs.Fields.{is_empty}
 use Rattle.table_files.specs.FeedTrips.{TripRow, row_at}
 use Rattle.table_files.proofs.FeedTripFacts.{no_fault, trips_more}
-use Rattle.table_files.proofs.StopFacts.{empty_length, is_new}
+use Rattle.table_files.proofs.NewIds.{empty_length, is_new}
 use Rattle.table_files.proofs.feed_trips.TripReaderRecordReader.add.Goals as goal
 
 pub returns-clause-good : goal.returns-clause-good

@@ -6,7 +6,7 @@ use Rattle.table_files.specs.Frequencies.{FrequencyRow, headway_of, row_at}
 use Rattle.table_files.specs.declared.frequencies.Departures.{Departures}
 use Rattle.table_files.proofs.FrequencyFacts.{departures_more, no_fault}
 use Rattle.table_files.proofs.ServiceFacts.{found}
-use Rattle.table_files.proofs.StopFacts.{empty_length}
+use Rattle.table_files.proofs.NewIds.{empty_length}
 use Rattle.table_files.proofs.frequencies.FrequencyReaderRecordReader.add.Goals as goal
 
 pub returns-clause-good : goal.returns-clause-good

@@ -5,7 +5,7 @@ use Rattle.csv.specs.Records.{fields_of}
 use Rattle.table_records.specs.Fields.{is_empty}
 use Rattle.table_files.specs.Places.{PlaceRow, kind_of, row_at}
 use Rattle.table_files.proofs.PlaceFacts.{no_fault, places_more}
-use Rattle.table_files.proofs.StopFacts.{empty_length, is_new}
+use Rattle.table_files.proofs.NewIds.{empty_length, is_new}
 use Rattle.table_files.proofs.places.PlaceColumnsRecordReader.add.Goals as goal
 
 pub returns-clause-good : goal.returns-clause-good

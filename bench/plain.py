@@ -1,0 +1,208 @@
+#!/usr/bin/env python3
+"""A plain second program: the same matrix as `ttm`, from the definitions, without any of its code or its speed.
+
+It takes the options of `ttm` (workers and tries are ignored) and prints the matrix, so that both can be compared byte by byte
+on a feed of a town's size:
+
+    plain.py --feed DIR --date 20260504 --from 08:00 --to 08:04 --trips 3 --walk 300 --share 50 --within 1800 \\
+        --origins origins.csv --footpaths walks.csv cut.csv late.csv | cmp - matrix.csv
+
+It checks nothing and refuses nothing: feeds are taken to be right. Standard library only.
+"""
+import argparse
+import collections
+import csv
+import datetime
+import heapq
+import os
+import sys
+
+NEVER = 10**9
+DAY = 86400
+WEEKDAYS = ["monday", "tuesday", "wednesday", "thursday", "friday", "saturday", "sunday"]
+Event = collections.namedtuple("Event", "stop arrive depart board alight")
+
+
+def rows(path):
+    if not os.path.exists(path):
+        return []
+    with open(path, newline="", encoding="utf-8-sig") as file:
+        return list(csv.DictReader(file))
+
+
+def seconds(text):
+    hours, minutes, rest = text.strip().split(":")
+    return int(hours) * 3600 + int(minutes) * 60 + int(rest)
+
+
+def number(row, column):
+    return int((row.get(column) or "").strip() or 0)
+
+
+class Feed:
+    def __init__(self, folder):
+        self.folder = folder
+        places = rows(self.path("stops.txt"))
+        self.kind = {r["stop_id"]: number(r, "location_type") for r in places}
+        self.stops = [r["stop_id"] for r in places if self.kind[r["stop_id"]] == 0]
+        self.stop_no = {stop: n for n, stop in enumerate(self.stops)}
+        self.children = collections.defaultdict(list)
+        for r in places:
+            if self.kind[r["stop_id"]] == 0 and self.kind.get(r.get("parent_station") or "") == 1:
+                self.children[r["parent_station"]].append(r["stop_id"])
+        self.calendar = rows(self.path("calendar.txt"))
+        self.exceptions = rows(self.path("calendar_dates.txt"))
+        self.trips = rows(self.path("trips.txt"))
+        self.events = collections.defaultdict(list)
+        for r in sorted(rows(self.path("stop_times.txt")), key=lambda r: int(r["stop_sequence"])):
+            self.events[r["trip_id"]].append(
+                Event(self.stop_no[r["stop_id"]], seconds(r["arrival_time"]), seconds(r["departure_time"]),
+                      number(r, "pickup_type") != 1, number(r, "drop_off_type") != 1))
+        self.headways = collections.defaultdict(list)
+        for r in rows(self.path("frequencies.txt")):
+            self.headways[r["trip_id"]].append((seconds(r["start_time"]), seconds(r["end_time"]), int(r["headway_secs"])))
+
+    def path(self, name):
+        return os.path.join(self.folder, name)
+
+    def runs_on(self, service, date):
+        """Whether a service runs on a date: it is added; or a row covers the date on its weekday, and it isn't removed."""
+        text = date.strftime("%Y%m%d")
+        said = [int(r["exception_type"]) for r in self.exceptions if (r["service_id"], r["date"]) == (service, text)]
+        covered = any(r["service_id"] == service and r["start_date"] <= text <= r["end_date"]
+                      and int(r[WEEKDAYS[date.weekday()]]) == 1 for r in self.calendar)
+        return 1 in said or (covered and 2 not in said)
+
+    def ends(self, place):
+        """The stops that an end of a walk stands for."""
+        return {0: [place], 1: self.children[place]}.get(self.kind[place], [])
+
+    def direct_footpaths(self, own):
+        """The least seconds of each pair of different stops that a row gives."""
+        least = {}
+        walks = [(r["from_stop_id"], r["to_stop_id"], r["min_transfer_time"]) for r in rows(self.path("transfers.txt"))
+                 if number(r, "transfer_type") <= 2 and (r.get("min_transfer_time") or "").strip()]
+        walks += [(r["from_stop_id"], r["to_stop_id"], r["seconds"]) for r in (rows(own) if own else [])]
+        for origin, target, time in walks:
+            for a in self.ends(origin):
+                for b in self.ends(target):
+                    if a != b:
+                        pair = (self.stop_no[a], self.stop_no[b])
+                        least[pair] = min(least.get(pair, NEVER), int(time))
+        return least
+
+
+def closed_footpaths(stops, direct, limit):
+    """For each stop the others within the limit, each with the least sum over chains."""
+    leaving = collections.defaultdict(list)
+    for (a, b), time in direct.items():
+        leaving[a].append((b, time))
+    closed = []
+    for source in range(stops):
+        best, heap = {source: 0}, [(0, source)]
+        while heap:
+            time, stop = heapq.heappop(heap)
+            for target, more in leaving[stop] if time == best[stop] else []:
+                if time + more <= limit and time + more < best.get(target, NEVER):
+                    best[target] = time + more
+                    heapq.heappush(heap, (time + more, target))
+        closed.append([(stop, time) for stop, time in best.items() if stop != source])
+    return closed
+
+
+def network(feed, options, scenario):
+    """The events of each run that the scenario keeps, on the axis of times."""
+    removed, shifts = set(), collections.Counter()
+    for r in rows(scenario) if scenario else []:
+        if r["action"] == "shift_trip":
+            shifts[r["id"]] += int(r["seconds"])
+        else:
+            removed.add((r["action"], r["id"]))
+    runs = []
+    for day in range(-options.back, options.ahead + 1):
+        date = options.date + datetime.timedelta(days=day)
+        running = {s: feed.runs_on(s, date) for s in {t["service_id"] for t in feed.trips}}
+        for trip in feed.trips:
+            name, events = trip["trip_id"], feed.events[trip["trip_id"]]
+            gone = ("remove_route", trip["route_id"]) in removed or ("remove_trip", name) in removed
+            if not events or gone or not running[trip["service_id"]]:
+                continue
+            moved = DAY * (options.back + day) + shifts[name]
+            if name not in feed.headways:
+                runs.append([e._replace(arrive=e.arrive + moved, depart=e.depart + moved) for e in events])
+            for start, end, headway in feed.headways.get(name, []):
+                for departure in range(start, end, headway):
+                    by = departure - events[0].depart + moved
+                    run = [e._replace(arrive=e.arrive + by, depart=e.depart + by) for e in events]
+                    run[0] = run[0]._replace(arrive=run[0].depart)
+                    runs.append(run)
+    return runs
+
+
+def walked(ride, feet):
+    ready = ride[:]
+    for stop, time in enumerate(ride):
+        if time < NEVER:
+            for target, more in feet[stop]:
+                ready[target] = min(ready[target], time + more)
+    return ready
+
+
+def durations(runs, feet, origin, departure, rides):
+    """The least duration to each stop over journeys of at most so many rides."""
+    ride = [NEVER] * len(feet)
+    ride[origin] = departure
+    for _ in range(rides):
+        ready, arrived = walked(ride, feet), ride[:]
+        for run in runs:
+            aboard = False
+            for event in run:
+                if aboard and event.alight:
+                    arrived[event.stop] = min(arrived[event.stop], event.arrive)
+                aboard = aboard or (event.board and ready[event.stop] <= event.depart)
+        ride = arrived
+    return [time - departure if time < NEVER else None for time in walked(ride, feet)]
+
+
+def cell(times, share):
+    """The least duration that the share of all minutes attains."""
+    reached = sorted(t for t in times if t is not None)
+    rank = -(-share * len(times) // 100)
+    return reached[rank - 1] if rank <= len(reached) else None
+
+
+def options():
+    parser = argparse.ArgumentParser(usage=__doc__)
+    for name in ["feed", "date", "from", "to", "trips", "walk", "share", "within", "workers", "tries", "back", "ahead",
+                 "origins", "opportunities", "footpaths"]:
+        parser.add_argument("--" + name, default="1" if name in ("back", "ahead") else None)
+    parser.add_argument("scenario", nargs="*")
+    chosen = parser.parse_args()
+    for name in ["trips", "walk", "share", "within", "back", "ahead"]:
+        setattr(chosen, name, int(getattr(chosen, name)))
+    chosen.date = datetime.datetime.strptime(chosen.date, "%Y%m%d").date()
+    first, last = (int(t[:2]) * 60 + int(t[3:]) for t in (getattr(chosen, "from"), chosen.to))
+    chosen.departures = [DAY * chosen.back + 60 * minute for minute in range(first, last + 1)]
+    return chosen
+
+
+def main():
+    asked = options()
+    feed = Feed(asked.feed)
+    feet = closed_footpaths(len(feed.stops), feed.direct_footpaths(asked.footpaths), asked.walk)
+    origins = [r["stop_id"] for r in rows(asked.origins)] if asked.origins else feed.stops
+    counts = {r["stop_id"]: int(r["opportunities"]) for r in rows(asked.opportunities)} if asked.opportunities else None
+    out = csv.writer(sys.stdout, lineterminator="\n")
+    out.writerow(["scenario", "origin", "access"] + feed.stops)
+    for scenario in [None] + asked.scenario:
+        name = os.path.basename(scenario).removesuffix(".csv") if scenario else "base"
+        runs = network(feed, asked, scenario)
+        for origin in origins:
+            table = [durations(runs, feet, feed.stop_no[origin], d, asked.trips) for d in asked.departures]
+            cells = [cell([times[stop] for times in table], asked.share) for stop in range(len(feed.stops))]
+            near = [s for s, c in zip(feed.stops, cells) if c is not None and c <= asked.within]
+            access = len(near) if counts is None else sum(counts.get(s, 0) for s in near)
+            out.writerow([name, origin, access] + ["" if c is None else c for c in cells])
+
+
+main()

@@ -1,0 +1,116 @@
+//! The places of a feed and the walks between them: `location_type`, `parent_station` and `transfers.txt`.
+
+use crate::test_feeds::{expect_fault, expect_read, small_feed, station_feed};
+use crate::{Feed, FeedBytes, FileName, Link, Place, What};
+use timetable::StopNo;
+
+// A file whose third record names a stop that `stops.txt` hasn't.
+const UNKNOWN: &[u8] =
+    b"from_stop_id,to_stop_id,transfer_type,min_transfer_time\nA,B,2,60\nA,Z,2,60\n";
+
+// Whether an identifier is that of a station with these children.
+fn has_children(feed: &Feed, id: &[u8], stops: &[StopNo]) -> bool {
+    match feed.place(id) {
+        Some(Place::Station(station)) => feed.children(station) == stops,
+        _ => false,
+    }
+}
+
+// Whether a place stands for these stops.
+fn stands_for(feed: &Feed, id: &[u8], stops: &[StopNo]) -> bool {
+    match feed.place(id) {
+        Some(place) => feed.stops_at(place).as_slice() == stops,
+        None => false,
+    }
+}
+
+#[test]
+fn a_place_is_a_stop_a_station_or_another(rt: HostRuntime) {
+    let feed = expect_read(&rt, rt.alloc(), station_feed());
+    assert_eq!(rt; feed.place(b"A"), Some(Place::Stop(StopNo(0))));
+    assert_eq!(rt; feed.place(b"B"), Some(Place::Stop(StopNo(1))));
+    assert_eq!(rt; feed.place(b"S"), Some(Place::Station(0)));
+    assert_eq!(rt; feed.place(b"T"), Some(Place::Station(1)));
+    assert_eq!(rt; feed.place(b"E"), Some(Place::Other));
+    assert_eq!(rt; feed.place(b"Z"), None);
+}
+
+#[test]
+fn a_station_between_its_children_has_both(rt: HostRuntime) {
+    let feed = expect_read(&rt, rt.alloc(), station_feed());
+    assert!(rt; has_children(&feed, b"S", &[StopNo(0), StopNo(1)]));
+    assert!(rt; has_children(&feed, b"T", &[]));
+    assert!(rt; !has_children(&feed, b"A", &[]));
+}
+
+#[test]
+fn a_place_stands_for_its_stops(rt: HostRuntime) {
+    let feed = expect_read(&rt, rt.alloc(), station_feed());
+    assert!(rt; stands_for(&feed, b"S", &[StopNo(0), StopNo(1)]));
+    assert!(rt; stands_for(&feed, b"C", &[StopNo(2)]));
+    assert!(rt; stands_for(&feed, b"E", &[]));
+}
+
+#[test]
+fn links_are_the_rows_that_give_a_walk(rt: HostRuntime) {
+    let feed = expect_read(&rt, rt.alloc(), station_feed());
+    let walk = Link {
+        origin: Place::Stop(StopNo(0)),
+        target: Place::Stop(StopNo(1)),
+        seconds: 60,
+        at: 2,
+    };
+    let change = Link {
+        origin: Place::Station(0),
+        target: Place::Stop(StopNo(2)),
+        seconds: 120,
+        at: 4,
+    };
+    assert_eq!(rt; feed.links(), [walk, change].as_slice());
+}
+
+#[test]
+fn rows_without_a_walk_are_counted(rt: HostRuntime) {
+    let feed = expect_read(&rt, rt.alloc(), station_feed());
+    assert_eq!(rt; feed.unused_transfers(), 3);
+}
+
+#[test]
+fn a_feed_without_transfers_has_no_links(rt: HostRuntime) {
+    let feed = expect_read(&rt, rt.alloc(), small_feed());
+    assert!(rt; feed.links().is_empty());
+    assert_eq!(rt; feed.unused_transfers(), 0);
+}
+
+#[test]
+fn an_unknown_stop_of_transfers_is_refused_at_its_record(rt: HostRuntime) {
+    let files = FeedBytes {
+        transfers: Some(UNKNOWN),
+        ..small_feed()
+    };
+    expect_fault(
+        &rt,
+        rt.alloc(),
+        files,
+        FileName::Transfers,
+        3,
+        What::UnknownStop,
+    );
+}
+
+#[test]
+fn a_fault_of_frequencies_comes_before_one_of_transfers(rt: HostRuntime) {
+    let files = FeedBytes {
+        frequencies: Some(b"trip_id,start_time,end_time,headway_secs\nT9,08:00:00,09:00:00,600\n"),
+        transfers: Some(UNKNOWN),
+        ..small_feed()
+    };
+    expect_fault(
+        &rt,
+        rt.alloc(),
+        files,
+        FileName::Frequencies,
+        2,
+        What::UnknownTrip,
+    );
+}

@@ -1,0 +1,72 @@
+-- The first fault of a scenario's file, and the trips that its edits shift.
+use Rattle.std.proofs.Common.{◌≡◌, ◌<◌, ◌++◌, ℕ, ℤ, false, List, [], ◌∷◌, Option, Some, None, length, map, refl, subst, inl, inr, arith}
+use Rattle.std.specs.Prelude.{All, option_and_then, option_map, slice_get}
+use Rattle.std.proofs.lemmas.List.{length-map}
+use Rattle.std.proofs.lemmas.List.Elements.{All-cons, All-nil}
+use Rattle.std.proofs.lemmas.List.Quantifiers.{position-Some}
+use Rattle.std.proofs.lemmas.Option.{same_Some}
+use Rattle.std.specs.List.{cons_option}
+use Rattle.std.specs.Str.{bytes_eq}
+use Rattle.table_records.specs.Reading.{lacks_column}
+use Rattle.table_records.specs.Table.{records_of}
+use Rattle.gtfs_tables.specs.Feed.{FeedData}
+use Rattle.gtfs_tables.specs.declared.trip.FeedTrip.{FeedTrip}
+use Rattle.scenarios.specs.EditRows.{EditRow, edit_by, edit_of, route_no, row_at, seconds_of, trip_no}
+use Rattle.scenarios.specs.Faults.{Tells}
+use Rattle.scenarios.specs.Files.{edits_of, faults_from, required, rows_in, scenario_faults}
+use Rattle.scenarios.specs.ShiftedTimes.{NamesTrip, range_faults}
+use Rattle.scenarios.specs.declared.edit_rows.Action.{Action}
+use Rattle.scenarios.specs.declared.edit_rows.Action.TheVariants as action
+use Rattle.scenarios.specs.declared.edit_rows.EditColumns.{EditColumns}
+use Rattle.scenarios.specs.declared.edits.Edit.{Edit}
+use Rattle.scenarios.specs.declared.edits.Edit.TheVariants as edit
+use Rattle.scenarios.specs.declared.faults.ScenarioFault.{ScenarioFault}
+
+first_append : {X : Type 0} (xs ys : List X) (x : X) → slice_get xs 0 ≡ Some x → slice_get (xs ++ ys) 0 ≡ Some x
+first_append [] ys x h = cc h
+first_append (z ∷ xs) ys x h = h
+
+tells_more : (e : ScenarioFault) (xs ys : List ScenarioFault) → Tells e xs → Tells e (xs ++ ys)
+tells_more e xs ys t = elim t [ inl m ↦ inl m | inr h ↦ inr (first_append xs ys e h) ]
+
+-- the first fault of the records is that of the file
+pub record_told : (bytes : List ℕ) (feed : FeedData) (columns : EditColumns) (rows : List (List (List ℕ))) (e : ScenarioFault) → lacks_column required (records_of bytes) ≡ false
+    → rows_in bytes ≡ map (row_at columns) rows → Tells e (faults_from feed 2 (map (row_at columns) rows)) → Tells e (scenario_faults bytes feed)
+record_told bytes feed columns rows e has are told =
+    rw has (tells_more e (faults_from feed 2 (rows_in bytes)) (range_faults feed (edits_of feed (rows_in bytes)) 2 (edits_of feed (rows_in bytes)))
+    (rw are told))
+
+shift_named : (feed : FeedData) (r : EditRow) (e : Edit) (trip : Option ℕ) → trip_no feed r.id ≡ trip → option_and_then (λ t. option_map (edit.Shift t) (seconds_of r.seconds)) trip ≡ Some e → NamesTrip feed e
+shift_named feed r e None is h = cc h
+shift_named feed r e (Some t) is h = by (seconds_of r.seconds) h
+  where
+    by : (o : Option ℤ) → option_map (edit.Shift t) o ≡ Some e → NamesTrip feed e
+    by None h = cc h
+    by (Some z) h =
+        let at = position-Some (bytes_eq r.id) (map (λ (t : FeedTrip). t.id) feed.trips) t [] is in
+        let same = length-map feed.trips (λ (t : FeedTrip). t.id) in
+        let within : t < length feed.trips = omega (arith, at.0, same) in
+        subst (NamesTrip feed) (same_Some (edit.Shift t z) e h) within
+
+named_by : (feed : FeedData) (r : EditRow) (e : Edit) (o : Option Action) → edit_by feed r o ≡ Some e → NamesTrip feed e
+named_by feed r e None h = cc h
+named_by feed r e (Some action.RemoveRoute) h = by (route_no feed r.id) h
+  where
+    by : (o : Option ℕ) → option_map edit.RemoveRoute o ≡ Some e → NamesTrip feed e
+    by None h = cc h
+    by (Some n) h = subst (NamesTrip feed) (same_Some (edit.RemoveRoute n) e h) tt
+named_by feed r e (Some action.RemoveTrip) h = by (trip_no feed r.id) h
+  where
+    by : (o : Option ℕ) → option_map edit.RemoveTrip o ≡ Some e → NamesTrip feed e
+    by None h = cc h
+    by (Some n) h = subst (NamesTrip feed) (same_Some (edit.RemoveTrip n) e h) tt
+named_by feed r e (Some action.ShiftTrip) h = shift_named feed r e (trip_no feed r.id) refl h
+
+-- the edits of records shift trips of the feed
+pub all_named : (feed : FeedData) (rows : List EditRow) → All (NamesTrip feed) (edits_of feed rows)
+all_named feed [] = All-nil (NamesTrip feed)
+all_named feed (r ∷ rows) = by (edit_of feed r) (λ e h. named_by feed r e _ h) (all_named feed rows)
+  where
+    by : (o : Option Edit) → ((e : Edit) → o ≡ Some e → NamesTrip feed e) → All (NamesTrip feed) (edits_of feed rows) → All (NamesTrip feed) (cons_option o (edits_of feed rows))
+    by None h rest = rest
+    by (Some e) h rest = All-cons (NamesTrip feed) e (edits_of feed rows) (h e refl) rest

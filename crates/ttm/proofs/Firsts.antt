@@ -1,0 +1,28 @@
+-- The first fault of several lists, one after another.
+use Rattle.std.proofs.Common.{◌≡◌, List, [], ◌∷◌, ◌++◌, None, slice_get, refl, inl, inr}
+use Rattle.table_records.specs.Faults.{IsFirst, Tells}
+use Rattle.table_records.specs.declared.fault.FeedFault.{FeedFault}
+
+pub first_left : {F : Type 0} (e : F) (xs ys : List F) → IsFirst e xs → IsFirst e (xs ++ ys)
+first_left e [] ys h = cc
+first_left e (x ∷ xs) ys h = h
+
+pub first_right : {F : Type 0} (e : F) (xs ys : List F) → xs ≡ [] → IsFirst e ys → IsFirst e (xs ++ ys)
+first_right e xs ys none h = rw none h
+
+pub tells_left : (e : FeedFault) (xs ys : List FeedFault) → Tells e xs → Tells e (xs ++ ys)
+tells_left e xs ys h = elim h [ inl m ↦ inl m | inr f ↦ inr (first_left e xs ys f) ]
+
+pub tells_right : (e : FeedFault) (xs ys : List FeedFault) → xs ≡ [] → Tells e ys → Tells e (xs ++ ys)
+tells_right e xs ys none h = elim h [ inl m ↦ inl m | inr f ↦ inr (first_right e xs ys none f) ]
+
+pub none_of_both : {F : Type 0} (xs ys : List F) → xs ≡ [] → ys ≡ [] → xs ++ ys ≡ []
+none_of_both xs ys none_left none_right = rw (none_left, none_right) refl
+
+-- where a list has no element it has no first one
+pub no_first : {F : Type 0} (e : F) (xs : List F) → xs ≡ [] → IsFirst e xs → ⊥
+no_first e xs none h =
+    let nothing : slice_get xs 0 ≡ None = rw none refl in
+    cc (h, nothing)
+
+pub ruleset firsts = (first_left, first_right, tells_left, tells_right, none_of_both)

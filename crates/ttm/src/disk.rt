@@ -1,0 +1,147 @@
+//! The files that a study names, read whole from the disk.
+
+use crate::files::{ReadFault, read_all};
+use crate::lines::{path_line, path_status};
+use crate::named_file::NamedFile;
+use crate::paths::{path_in, scenario_of};
+use crate::telling::{tell_made, tell_short};
+use gtfs_tables::FeedBytes;
+use std::fs;
+use std::io::{ErrorKind, Write};
+use std::process::ExitCode;
+use std::rt::Files;
+
+/// The files of a feed, read whole.
+#[derive(Drop)]
+pub struct FeedFiles {
+    stops: Option<Vec<u8>>,
+    routes: Option<Vec<u8>>,
+    calendar: Option<Vec<u8>>,
+    calendar_dates: Option<Vec<u8>>,
+    trips: Option<Vec<u8>>,
+    stop_times: Option<Vec<u8>>,
+    frequencies: Option<Vec<u8>>,
+    transfers: Option<Vec<u8>>,
+}
+
+impl FeedFiles {
+    /// Their bytes.
+    pub fn bytes(&self) -> FeedBytes<'_> {
+        FeedBytes {
+            stops: bytes_of(&self.stops),
+            routes: bytes_of(&self.routes),
+            calendar: bytes_of(&self.calendar),
+            calendar_dates: bytes_of(&self.calendar_dates),
+            trips: bytes_of(&self.trips),
+            stop_times: bytes_of(&self.stop_times),
+            frequencies: bytes_of(&self.frequencies),
+            transfers: bytes_of(&self.transfers),
+        }
+    }
+}
+
+/// The bytes of a file, if it is there.
+pub fn bytes_of(file: &Option<Vec<u8>>) -> Option<&[u8]> {
+    match file {
+        Some(bytes) => Some(bytes.as_slice()),
+        None => None,
+    }
+}
+
+/// The files of a feed. One that isn't found is absent.
+pub fn feed_files<E: Write>(
+    rt: &HostRuntime,
+    folder: &str,
+    err: &mut E,
+) -> Result<FeedFiles, ExitCode> {
+    Ok(FeedFiles {
+        stops: feed_file(rt, folder, "stops.txt", err)?,
+        routes: feed_file(rt, folder, "routes.txt", err)?,
+        calendar: feed_file(rt, folder, "calendar.txt", err)?,
+        calendar_dates: feed_file(rt, folder, "calendar_dates.txt", err)?,
+        trips: feed_file(rt, folder, "trips.txt", err)?,
+        stop_times: feed_file(rt, folder, "stop_times.txt", err)?,
+        frequencies: feed_file(rt, folder, "frequencies.txt", err)?,
+        transfers: feed_file(rt, folder, "transfers.txt", err)?,
+    })
+}
+
+/// A file of a feed, if it is found.
+fn feed_file<E: Write>(
+    rt: &HostRuntime,
+    folder: &str,
+    name: &str,
+    err: &mut E,
+) -> Result<Option<Vec<u8>>, ExitCode> {
+    match path_in(rt.alloc(), folder, name) {
+        Ok(path) => found(rt, path.as_str(), err),
+        Err(_) => Err(tell_short(err)),
+    }
+}
+
+/// A file that an option names, which has to be there.
+pub fn own_file<E: Write>(
+    rt: &HostRuntime,
+    path: &Option<String>,
+    err: &mut E,
+) -> Result<Option<Vec<u8>>, ExitCode> {
+    match path {
+        Some(path) => Ok(Some(there(rt, path.as_str(), err)?)),
+        None => Ok(None),
+    }
+}
+
+/// The scenario files, which have to be there, with the names of their scenarios.
+pub fn scenario_files<E: Write>(
+    rt: &HostRuntime,
+    paths: &[String],
+    err: &mut E,
+) -> Result<Vec<NamedFile>, ExitCode> {
+    let mut files = Vec::new(rt.alloc());
+    for path in paths {
+        let bytes = there(rt, path.as_str(), err)?;
+        let Ok(name) = Vec::from_slice(rt.alloc(), scenario_of(path.as_bytes())) else {
+            return Err(tell_short(err));
+        };
+        if files.push(NamedFile { name, bytes }).is_err() {
+            return Err(tell_short(err));
+        }
+    }
+    Ok(files)
+}
+
+/// A file that has to be there.
+fn there<E: Write>(rt: &HostRuntime, path: &str, err: &mut E) -> Result<Vec<u8>, ExitCode> {
+    match found(rt, path, err)? {
+        Some(bytes) => Ok(bytes),
+        None => Err(not_read(rt, path, &ReadFault::Read, err)),
+    }
+}
+
+/// A file, if it is found.
+fn found<E: Write>(rt: &HostRuntime, path: &str, err: &mut E) -> Result<Option<Vec<u8>>, ExitCode> {
+    match read_path(rt, path) {
+        Ok(bytes) => Ok(bytes),
+        Err(fault) => Err(not_read(rt, path, &fault, err)),
+    }
+}
+
+/// All bytes of a file, if it is found.
+fn read_path<R: Files + AllocGlobal>(rt: &R, path: &str) -> Result<Option<Vec<u8>>, ReadFault> {
+    match fs::open(rt, path) {
+        Ok(mut file) => match read_all(rt.alloc(), &mut file) {
+            Ok(bytes) => Ok(Some(bytes)),
+            Err(fault) => Err(fault),
+        },
+        Err(error) => match error.kind() {
+            ErrorKind::NotFound => Ok(None),
+            ErrorKind::OutOfMemory => Err(ReadFault::Memory),
+            _ => Err(ReadFault::Read),
+        },
+    }
+}
+
+/// Tells why a file isn't read.
+fn not_read<E: Write>(rt: &HostRuntime, path: &str, fault: &ReadFault, err: &mut E) -> ExitCode {
+    tell_made(path_line(rt.alloc(), path, fault), path_status(fault), err)
+}

@@ -1,0 +1,139 @@
+//! The program: words name files, the files and settings are a study, and its matrix goes to the standard output.
+//!
+//! A fault is told by one line on the standard error, and by the exit status. Nothing but the whole matrix is a success.
+
+use crate::disk::{bytes_of, feed_files, own_file, scenario_files};
+use crate::example::example_feed;
+use crate::fault::StudyFault;
+use crate::inputs::Inputs;
+use crate::lines::{bad_line, fault_line, status};
+use crate::settings::Settings;
+use crate::study::run_study;
+use crate::task::{Task, WordFault};
+use crate::telling::{tell, tell_made, tell_short};
+use crate::words::{task_of, word_status};
+use jiff::civil::Date;
+use matrix_text::put_all;
+use std::env;
+use std::io::{ErrorKind, Write};
+use std::process::ExitCode;
+use workers::Open;
+
+/// The exit status of words that aren't the command's.
+const WRONG_WORDS: u8 = 2;
+
+/// The exit status of a failed write.
+const NOT_WRITTEN: u8 = 5;
+
+/// The origins of the study that the program carries.
+const EXAMPLE_ORIGINS: &[u8] = b"stop_id\nA\n";
+
+/// What the program does, with the words after its name or without any.
+pub fn run<O: Write, E: Write>(rt: &HostRuntime, out: &mut O, err: &mut E) -> ExitCode {
+    let words = match env::args(rt) {
+        Ok(words) => words,
+        Err(error) if error.kind() == ErrorKind::OutOfMemory => return tell_short(err),
+        Err(_) => return tell(b"ttm: words that are not UTF-8\n", WRONG_WORDS, err),
+    };
+    match words.collect::<Vec<String>>(rt.alloc()) {
+        Ok(words) if words.len() <= 1 => example(rt, out, err),
+        Ok(words) => asked(rt, &words, out, err),
+        Err(_) => tell_short(err),
+    }
+}
+
+/// The study that the program carries: one minute from stop A of the small feed, by at most two rides.
+fn example<O: Write, E: Write>(rt: &HostRuntime, out: &mut O, err: &mut E) -> ExitCode {
+    let settings = Settings {
+        date: Date::constant(2026, 5, 4),
+        back: 1,
+        ahead: 1,
+        first: 480,
+        minutes: 1,
+        rides: 2,
+        walk: 0,
+        share: 50,
+        within: 1800,
+        workers: 1,
+        tries: 1,
+    };
+    let inputs = Inputs {
+        feed: example_feed(),
+        footpaths: None,
+        origins: Some(EXAMPLE_ORIGINS),
+        opportunities: None,
+        scenarios: &[],
+    };
+    answer(rt, &inputs, &settings, out, err)
+}
+
+/// The study that the words ask for.
+fn asked<O: Write, E: Write>(
+    rt: &HostRuntime,
+    words: &[String],
+    out: &mut O,
+    err: &mut E,
+) -> ExitCode {
+    match task_of(rt.alloc(), words) {
+        Ok(task) => match study(rt, &task, out, err) {
+            Ok(code) => code,
+            Err(code) => code,
+        },
+        Err(fault) => {
+            let code = word_status(&fault);
+            match fault {
+                // Help goes to the standard output. Where it can't be written that is no success.
+                WordFault::Words(error) => match error.print(rt) {
+                    Ok(()) => ExitCode::from(code),
+                    Err(_) => tell(b"ttm: write fault\n", NOT_WRITTEN, err),
+                },
+                WordFault::Bad(option) => tell(bad_line(option), code, err),
+                WordFault::Memory => tell_short(err),
+            }
+        }
+    }
+}
+
+/// The study of a task: its files are read in the order in which they are looked at, then the scenarios.
+fn study<O: Write, E: Write>(
+    rt: &HostRuntime,
+    task: &Task,
+    out: &mut O,
+    err: &mut E,
+) -> Result<ExitCode, ExitCode> {
+    let feed = feed_files(rt, task.feed.as_str(), err)?;
+    let footpaths = own_file(rt, &task.footpaths, err)?;
+    let origins = own_file(rt, &task.origins, err)?;
+    let opportunities = own_file(rt, &task.opportunities, err)?;
+    let scenarios = scenario_files(rt, task.scenarios.as_slice(), err)?;
+    let inputs = Inputs {
+        feed: feed.bytes(),
+        footpaths: bytes_of(&footpaths),
+        origins: bytes_of(&origins),
+        opportunities: bytes_of(&opportunities),
+        scenarios: scenarios.as_slice(),
+    };
+    Ok(answer(rt, &inputs, &task.settings, out, err))
+}
+
+/// Puts out the matrix of a study, or tells why there is none.
+fn answer<O: Write, E: Write>(
+    rt: &HostRuntime,
+    inputs: &Inputs<'_>,
+    settings: &Settings,
+    out: &mut O,
+    err: &mut E,
+) -> ExitCode {
+    // `read_all` and `task_of` have seen to both; the test is what the condition of `run_study` is proved by.
+    if !inputs.fits() || !settings.fits() {
+        return tell(b"ttm: too long\n", WRONG_WORDS, err);
+    }
+    let fault = match run_study(rt.alloc(), inputs, settings, &Open) {
+        Ok(text) => match put_all(&text, out) {
+            Ok(()) => return ExitCode::SUCCESS,
+            Err(fault) => StudyFault::Text(fault),
+        },
+        Err(fault) => fault,
+    };
+    tell_made(fault_line(rt.alloc(), &fault, inputs), status(&fault), err)
+}

@@ -1,0 +1,391 @@
+//! Studies that are refused: the line that tells each fault.
+
+use crate::example::example_feed;
+use crate::inputs::Inputs;
+use crate::lines::fault_line;
+use crate::named_file::NamedFile;
+use crate::row_feeds::{CUT_OFF, NO_HEADWAY};
+use crate::settings::Settings;
+use crate::study::run_study;
+use gtfs_tables::{FeedBytes, read_date};
+use std::alloc::{AllocError, Global};
+use std::test::Fail;
+use workers::Open;
+
+// Whether the study of these inputs on a date, with walks of at most 120 seconds, is refused by this line.
+fn tells(alloc: Global, inputs: &Inputs<'_>, date: &[u8], line: &[u8]) -> bool {
+    let Some(date) = read_date(date) else {
+        return false;
+    };
+    let settings = Settings {
+        date,
+        back: 0,
+        ahead: 1,
+        first: 480,
+        minutes: 1,
+        rides: 2,
+        walk: 120,
+        share: 50,
+        within: 1800,
+        workers: 1,
+        tries: 1,
+    };
+    if !inputs.fits() || !settings.fits() {
+        return false;
+    }
+    match run_study(alloc, inputs, &settings, &Open) {
+        Ok(_) => false,
+        Err(fault) => match fault_line(alloc, &fault, inputs) {
+            Ok(told) => told.as_slice() == line,
+            Err(_) => false,
+        },
+    }
+}
+
+// The small feed with these files in place of its own.
+fn inputs_of<'a>(feed: FeedBytes<'a>) -> Inputs<'a> {
+    Inputs {
+        feed,
+        footpaths: None,
+        origins: None,
+        opportunities: None,
+        scenarios: &[],
+    }
+}
+
+// Whether the small feed with these bytes as a file is refused by this line on a Monday.
+fn stops_tell(alloc: Global, stops: Option<&'static [u8]>, line: &[u8]) -> bool {
+    let inputs = inputs_of(FeedBytes {
+        stops,
+        ..example_feed()
+    });
+    tells(alloc, &inputs, b"20260504", line)
+}
+
+fn trips_tell(alloc: Global, trips: &'static [u8], line: &[u8]) -> bool {
+    let inputs = inputs_of(FeedBytes {
+        trips: Some(trips),
+        ..example_feed()
+    });
+    tells(alloc, &inputs, b"20260504", line)
+}
+
+fn times_tell(alloc: Global, times: &'static [u8], line: &[u8]) -> bool {
+    let inputs = inputs_of(FeedBytes {
+        stop_times: Some(times),
+        ..example_feed()
+    });
+    tells(alloc, &inputs, b"20260504", line)
+}
+
+#[test]
+fn faults_of_stops_and_trips(rt: HostRuntime) {
+    let alloc = rt.alloc();
+    assert!(rt; stops_tell(alloc, None, b"ttm: stops.txt: missing file\n"));
+    assert!(rt;
+        stops_tell(
+            alloc,
+            Some(b"stop\nA\n"),
+            b"ttm: stops.txt: record 1: missing column\n"
+        )
+    );
+    assert!(rt;
+        stops_tell(
+            alloc,
+            Some(b"stop_id,x\nA,\n,y\n"),
+            b"ttm: stops.txt: record 3: empty id\n"
+        )
+    );
+    assert!(rt;
+        stops_tell(
+            alloc,
+            Some(b"stop_id\nA\nA\n"),
+            b"ttm: stops.txt: record 3: duplicate id\n"
+        )
+    );
+    assert!(rt;
+        trips_tell(
+            alloc,
+            b"route_id,service_id,trip_id\nR9,MON,T1\n",
+            b"ttm: trips.txt: record 2: unknown route\n"
+        )
+    );
+}
+
+#[test]
+fn faults_of_stop_times(rt: HostRuntime) {
+    let alloc = rt.alloc();
+    assert!(rt;
+        times_tell(
+            alloc,
+            CUT_OFF,
+            b"ttm: stop_times.txt: record 5: bad number\n"
+        )
+    );
+    assert!(rt;
+        times_tell(
+            alloc,
+            b"trip_id,stop_id,stop_sequence\nT1,Z,1\n",
+            b"ttm: stop_times.txt: record 2: unknown stop\n"
+        )
+    );
+    assert!(rt;
+        times_tell(
+            alloc,
+            b"trip_id,stop_id,stop_sequence\nT9,A,1\n",
+            b"ttm: stop_times.txt: record 2: unknown trip\n"
+        )
+    );
+    assert!(rt;
+        times_tell(
+            alloc,
+            b"trip_id,stop_id,stop_sequence\nT1,A,1\n",
+            b"ttm: stop_times.txt: record 2: no time\n"
+        )
+    );
+    assert!(rt;
+        times_tell(
+            alloc,
+            b"trip_id,stop_id,stop_sequence,arrival_time\nT1,A,1,8:0\n",
+            b"ttm: stop_times.txt: record 2: bad time\n"
+        )
+    );
+    assert!(rt;
+        times_tell(
+            alloc,
+            b"trip_id,stop_id,stop_sequence,arrival_time\nT1,A,1,8:00:00\nT1,B,2,7:00:00\n",
+            b"ttm: stop_times.txt: record 3: times go back\n"
+        )
+    );
+}
+
+#[test]
+fn faults_of_days(rt: HostRuntime) {
+    let alloc = rt.alloc();
+    let headway = inputs_of(FeedBytes {
+        frequencies: Some(NO_HEADWAY),
+        ..example_feed()
+    });
+    assert!(rt;
+        tells(
+            alloc,
+            &headway,
+            b"20260504",
+            b"ttm: frequencies.txt: record 2: bad number\n"
+        )
+    );
+    let dates = inputs_of(FeedBytes {
+        calendar_dates: Some(b"service_id,date,exception_type\nMON,20261301,1\n"),
+        ..example_feed()
+    });
+    assert!(rt;
+        tells(
+            alloc,
+            &dates,
+            b"20260504",
+            b"ttm: calendar_dates.txt: record 2: bad date\n"
+        )
+    );
+    assert!(rt;
+        tells(
+            alloc,
+            &inputs_of(example_feed()),
+            b"99991231",
+            b"ttm: date out of range\n"
+        )
+    );
+    let runs = inputs_of(FeedBytes {
+        frequencies: Some(
+            b"trip_id,start_time,end_time,headway_secs\nT1,00:00:00,167:59:59,1\nT2,00:00:00,167:59:59,1\n",
+        ),
+        ..example_feed()
+    });
+    assert!(rt; tells(alloc, &runs, b"20260504", b"ttm: too many runs\n"));
+}
+
+#[test]
+fn faults_of_the_files_of_an_analysis(rt: HostRuntime) {
+    let alloc = rt.alloc();
+    let walks = Inputs {
+        footpaths: Some(b"from_stop_id,to_stop_id,seconds\nA,B,60\nA,Z,60\n"),
+        ..inputs_of(example_feed())
+    };
+    assert!(rt;
+        tells(
+            alloc,
+            &walks,
+            b"20260504",
+            b"ttm: footpaths.csv: record 3: unknown stop\n"
+        )
+    );
+    let origins = Inputs {
+        origins: Some(b"stop_id\nA\nA\n"),
+        ..inputs_of(example_feed())
+    };
+    assert!(rt;
+        tells(
+            alloc,
+            &origins,
+            b"20260504",
+            b"ttm: origins: record 3: duplicate id\n"
+        )
+    );
+    let opportunities = Inputs {
+        opportunities: Some(b"stop_id,opportunities\nA,many\n"),
+        ..inputs_of(example_feed())
+    };
+    assert!(rt;
+        tells(
+            alloc,
+            &opportunities,
+            b"20260504",
+            b"ttm: opportunities: record 2: bad number\n"
+        )
+    );
+}
+
+// Scenario files with these names, all with the same bytes.
+fn named(alloc: Global, names: &[&[u8]], bytes: &[u8]) -> Result<Vec<NamedFile>, AllocError> {
+    let mut files = Vec::new(alloc);
+    for name in names {
+        let file = NamedFile {
+            name: Vec::from_slice(alloc, name)?,
+            bytes: Vec::from_slice(alloc, bytes)?,
+        };
+        if files.push(file).is_err() {
+            return Err(AllocError);
+        }
+    }
+    Ok(files)
+}
+
+// Whether the small feed with scenario files of these names is refused by this line.
+fn scenarios_tell(
+    alloc: Global,
+    names: &[&[u8]],
+    bytes: &[u8],
+    line: &[u8],
+) -> Result<bool, AllocError> {
+    let files = named(alloc, names, bytes)?;
+    let inputs = Inputs {
+        scenarios: &files,
+        ..inputs_of(example_feed())
+    };
+    Ok(tells(alloc, &inputs, b"20260504", line))
+}
+
+#[test]
+fn faults_of_scenarios(rt: HostRuntime) -> Result<(), Fail> {
+    let alloc = rt.alloc();
+    assert!(rt;
+        scenarios_tell(
+            alloc,
+            &[
+                b"a", b"b", b"c", b"d", b"e", b"f", b"g", b"h", b"i", b"j", b"k", b"l", b"m", b"n",
+                b"o", b"p"
+            ],
+            b"",
+            b"ttm: too many scenarios\n"
+        )?
+    );
+    assert!(rt; scenarios_tell(alloc, &[b"cut", b"cut"], b"", b"ttm: scenario name: cut\n")?);
+    assert!(rt;
+        scenarios_tell(
+            alloc,
+            &[b"cut"],
+            b"action,id\nstop_trip,T1\n",
+            b"ttm: scenario cut: record 2: unknown action\n"
+        )?
+    );
+    assert!(rt;
+        scenarios_tell(
+            alloc,
+            &[b"late"],
+            b"action,id,seconds\nshift_trip,T1,-30000\n",
+            b"ttm: scenario late: record 2: shift out of range\n"
+        )?
+    );
+    Ok(())
+}
+
+// A hub and so many other stops around it.
+fn hub_stops(alloc: Global, others: u32) -> Result<Vec<u8>, AllocError> {
+    let mut bytes = Vec::from_slice(alloc, b"stop_id\nA\nB\nC\nHUB\n")?;
+    for other in 0..others {
+        let line = format!(in alloc; "S{other}\n")?;
+        bytes.extend_from_slice(line.as_bytes())?;
+    }
+    Ok(bytes)
+}
+
+// A walk of a minute from the hub to each of the others, and back.
+fn hub_walks(alloc: Global, others: u32) -> Result<Vec<u8>, AllocError> {
+    let mut bytes = Vec::from_slice(alloc, b"from_stop_id,to_stop_id,seconds\n")?;
+    for other in 0..others {
+        let lines = format!(in alloc; "HUB,S{other},60\nS{other},HUB,60\n")?;
+        bytes.extend_from_slice(lines.as_bytes())?;
+    }
+    Ok(bytes)
+}
+
+// The small feed with these stops and stop times.
+fn feed_of<'a>(stops: &'a [u8], stop_times: &'a [u8], frequencies: &'a [u8]) -> FeedBytes<'a> {
+    let example = example_feed();
+    FeedBytes {
+        stops: Some(stops),
+        routes: example.routes,
+        calendar: example.calendar,
+        calendar_dates: None,
+        trips: example.trips,
+        stop_times: Some(stop_times),
+        frequencies: Some(frequencies),
+        transfers: None,
+    }
+}
+
+const NO_TIMES: &[u8] = b"trip_id,stop_id,stop_sequence\n";
+
+const NO_ROWS: &[u8] = b"trip_id,start_time,end_time,headway_secs\n";
+
+// Whether the small feed with these stops and walks, and no times, is refused by this line.
+fn walks_tell<'a>(alloc: Global, stops: &'a [u8], walks: &'a [u8], line: &[u8]) -> bool {
+    let inputs = Inputs {
+        footpaths: Some(walks),
+        ..inputs_of(feed_of(stops, NO_TIMES, NO_ROWS))
+    };
+    tells(alloc, &inputs, b"20260504", line)
+}
+
+#[test]
+fn closed_footpaths_that_are_too_many(rt: HostRuntime) -> Result<(), Fail> {
+    let stops = hub_stops(rt.alloc(), 2000)?;
+    let walks = hub_walks(rt.alloc(), 2000)?;
+    assert!(rt; walks_tell(rt.alloc(), &stops, &walks, b"ttm: too many footpaths\n"));
+    Ok(())
+}
+
+// A trip that calls at A at each minute from 00:10 to 00:29.
+fn twenty_times(alloc: Global) -> Result<Vec<u8>, AllocError> {
+    let mut bytes = Vec::from_slice(alloc, b"trip_id,stop_id,stop_sequence,arrival_time\n")?;
+    for minute in 10..30 {
+        let line = format!(in alloc; "T1,A,{minute},00:{minute}:00\n")?;
+        bytes.extend_from_slice(line.as_bytes())?;
+    }
+    Ok(bytes)
+}
+
+#[test]
+fn a_network_of_nine_million_events(rt: HostRuntime) -> Result<(), Fail> {
+    let times = twenty_times(rt.alloc())?;
+    let row = b"trip_id,start_time,end_time,headway_secs\nT1,00:00:00,125:00:00,1\n";
+    let inputs = inputs_of(feed_of(b"stop_id\nA\n", &times, row));
+    assert!(rt;
+        tells(
+            rt.alloc(),
+            &inputs,
+            b"20260504",
+            b"ttm: scenario base: network too large\n"
+        )
+    );
+    Ok(())
+}

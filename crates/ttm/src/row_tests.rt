@@ -1,0 +1,565 @@
+//! Worked examples: whole studies, from the bytes of their files to the text of their matrix.
+
+use crate::example::example_feed;
+use crate::inputs::Inputs;
+use crate::row_feeds::*;
+use crate::settings::Settings;
+use crate::study::run_study;
+use gtfs_tables::{FeedBytes, read_date};
+use std::alloc::Global;
+use workers::Open;
+
+/// What an example asks for. Times are in seconds, minutes of the day from midnight.
+#[derive(Clone, Copy)]
+struct Asked {
+    back: u32,
+    first: u32,
+    minutes: u32,
+    rides: u32,
+    walk: u32,
+    share: u32,
+    within: u32,
+}
+
+/// From 08:00 to 08:00 with two trips, no walks, half of the minutes, and half an hour.
+const EIGHT: Asked = Asked {
+    back: 1,
+    first: 480,
+    minutes: 1,
+    rides: 2,
+    walk: 0,
+    share: 50,
+    within: 1800,
+};
+
+const FROM_A: &[u8] = b"stop_id\nA\n";
+
+// Whether the study of these inputs on 4 May 2026 has this text.
+fn gives(alloc: Global, inputs: &Inputs<'_>, asked: Asked, text: &[u8]) -> bool {
+    let Some(date) = read_date(b"20260504") else {
+        return false;
+    };
+    let settings = Settings {
+        date,
+        back: asked.back,
+        ahead: 1,
+        first: asked.first,
+        minutes: asked.minutes,
+        rides: asked.rides,
+        walk: asked.walk,
+        share: asked.share,
+        within: asked.within,
+        workers: 1,
+        tries: 1,
+    };
+    if !inputs.fits() || !settings.fits() {
+        return false;
+    }
+    match run_study(alloc, inputs, &settings, &Open) {
+        Ok(matrix) => matrix.as_slice() == text,
+        Err(_) => false,
+    }
+}
+
+// The small feed with these files in place of its own.
+fn inputs_of(feed: FeedBytes<'static>) -> Inputs<'static> {
+    Inputs {
+        feed,
+        footpaths: None,
+        origins: Some(FROM_A),
+        opportunities: None,
+        scenarios: &[],
+    }
+}
+
+#[test]
+fn two_rides_reach_c(rt: HostRuntime) {
+    let inputs = inputs_of(example_feed());
+    assert!(rt;
+        gives(
+            rt.alloc(),
+            &inputs,
+            EIGHT,
+            b"scenario,origin,access,A,B,C\nbase,A,3,0,600,1800\n"
+        )
+    );
+    let one_ride = Asked { rides: 1, ..EIGHT };
+    assert!(rt;
+        gives(
+            rt.alloc(),
+            &inputs,
+            one_ride,
+            b"scenario,origin,access,A,B,C\nbase,A,2,0,600,\n"
+        )
+    );
+}
+
+#[test]
+fn a_change_takes_no_time(rt: HostRuntime) {
+    let inputs = inputs_of(FeedBytes {
+        stop_times: Some(T2_AT_ONCE),
+        ..example_feed()
+    });
+    assert!(rt;
+        gives(
+            rt.alloc(),
+            &inputs,
+            EIGHT,
+            b"scenario,origin,access,A,B,C\nbase,A,3,0,600,1800\n"
+        )
+    );
+}
+
+#[test]
+fn nobody_boards_where_pickup_is_forbidden(rt: HostRuntime) {
+    let inputs = inputs_of(FeedBytes {
+        stop_times: Some(NO_PICKUP),
+        ..example_feed()
+    });
+    assert!(rt;
+        gives(
+            rt.alloc(),
+            &inputs,
+            EIGHT,
+            b"scenario,origin,access,A,B,C\nbase,A,2,0,600,\n"
+        )
+    );
+}
+
+#[test]
+fn a_trip_of_the_day_before_runs_after_midnight(rt: HostRuntime) {
+    let inputs = inputs_of(FeedBytes {
+        calendar: Some(SUNDAYS_TOO),
+        trips: Some(SUNDAY_TRIP),
+        stop_times: Some(AFTER_MIDNIGHT),
+        ..example_feed()
+    });
+    let midnight = Asked { first: 0, ..EIGHT };
+    assert!(rt;
+        gives(
+            rt.alloc(),
+            &inputs,
+            midnight,
+            b"scenario,origin,access,A,B,C\nbase,A,2,0,1200,30600\n"
+        )
+    );
+    let alone = Asked {
+        back: 0,
+        ..midnight
+    };
+    assert!(rt;
+        gives(
+            rt.alloc(),
+            &inputs,
+            alone,
+            b"scenario,origin,access,A,B,C\nbase,A,1,0,29400,30600\n"
+        )
+    );
+}
+
+#[test]
+fn exceptions_take_out_and_put_in(rt: HostRuntime) {
+    let removed = inputs_of(FeedBytes {
+        calendar_dates: Some(REMOVED),
+        ..example_feed()
+    });
+    assert!(rt;
+        gives(
+            rt.alloc(),
+            &removed,
+            EIGHT,
+            b"scenario,origin,access,A,B,C\nbase,A,1,0,,\n"
+        )
+    );
+    let added = inputs_of(FeedBytes {
+        calendar: None,
+        calendar_dates: Some(ADDED),
+        ..example_feed()
+    });
+    assert!(rt;
+        gives(
+            rt.alloc(),
+            &added,
+            EIGHT,
+            b"scenario,origin,access,A,B,C\nbase,A,3,0,600,1800\n"
+        )
+    );
+}
+
+#[test]
+fn chains_of_walks_end_at_the_limit(rt: HostRuntime) {
+    let inputs = Inputs {
+        footpaths: Some(b"from_stop_id,to_stop_id,seconds\nA,B,60\nB,C,60\n"),
+        ..inputs_of(example_feed())
+    };
+    let short = Asked {
+        first: 540,
+        walk: 100,
+        ..EIGHT
+    };
+    assert!(rt;
+        gives(
+            rt.alloc(),
+            &inputs,
+            short,
+            b"scenario,origin,access,A,B,C\nbase,A,2,0,60,\n"
+        )
+    );
+    let long = Asked { walk: 120, ..short };
+    assert!(rt;
+        gives(
+            rt.alloc(),
+            &inputs,
+            long,
+            b"scenario,origin,access,A,B,C\nbase,A,3,0,60,120\n"
+        )
+    );
+}
+
+#[test]
+fn two_walks_never_follow_one_another(rt: HostRuntime) {
+    let inputs = Inputs {
+        footpaths: Some(b"from_stop_id,to_stop_id,seconds\nA,B,100\nB,C,100\n"),
+        ..inputs_of(example_feed())
+    };
+    let walk = Asked {
+        first: 540,
+        walk: 150,
+        ..EIGHT
+    };
+    assert!(rt;
+        gives(
+            rt.alloc(),
+            &inputs,
+            walk,
+            b"scenario,origin,access,A,B,C\nbase,A,2,0,100,\n"
+        )
+    );
+}
+
+#[test]
+fn a_stop_without_service_has_an_empty_cell(rt: HostRuntime) {
+    let inputs = inputs_of(FeedBytes {
+        stops: Some(STOP_D),
+        ..example_feed()
+    });
+    for share in [1, 50, 100] {
+        let asked = Asked { share, ..EIGHT };
+        assert!(rt;
+            gives(
+                rt.alloc(),
+                &inputs,
+                asked,
+                b"scenario,origin,access,A,B,C,D\nbase,A,3,0,600,1800,\n"
+            )
+        );
+    }
+}
+
+#[test]
+fn shares_of_four_minutes(rt: HostRuntime) {
+    let inputs = inputs_of(example_feed());
+    let four = Asked {
+        first: 478,
+        minutes: 4,
+        share: 1,
+        ..EIGHT
+    };
+    assert!(rt;
+        gives(
+            rt.alloc(),
+            &inputs,
+            four,
+            b"scenario,origin,access,A,B,C\nbase,A,3,0,600,1800\n"
+        )
+    );
+    let quarter = Asked { share: 25, ..four };
+    assert!(rt;
+        gives(
+            rt.alloc(),
+            &inputs,
+            quarter,
+            b"scenario,origin,access,A,B,C\nbase,A,3,0,600,1800\n"
+        )
+    );
+    let half = Asked { share: 50, ..four };
+    assert!(rt;
+        gives(
+            rt.alloc(),
+            &inputs,
+            half,
+            b"scenario,origin,access,A,B,C\nbase,A,2,0,660,1860\n"
+        )
+    );
+    let most = Asked { share: 75, ..four };
+    assert!(rt;
+        gives(
+            rt.alloc(),
+            &inputs,
+            most,
+            b"scenario,origin,access,A,B,C\nbase,A,2,0,720,1920\n"
+        )
+    );
+    let all = Asked { share: 100, ..four };
+    assert!(rt;
+        gives(
+            rt.alloc(),
+            &inputs,
+            all,
+            b"scenario,origin,access,A,B,C\nbase,A,1,0,,\n"
+        )
+    );
+}
+
+#[test]
+fn shares_of_seventeen_and_thirty_three_minutes(rt: HostRuntime) {
+    let inputs = inputs_of(example_feed());
+    let all = Asked {
+        first: 464,
+        minutes: 17,
+        share: 100,
+        ..EIGHT
+    };
+    assert!(rt;
+        gives(
+            rt.alloc(),
+            &inputs,
+            all,
+            b"scenario,origin,access,A,B,C\nbase,A,2,0,1560,2760\n"
+        )
+    );
+    let some = Asked { share: 1, ..all };
+    assert!(rt;
+        gives(
+            rt.alloc(),
+            &inputs,
+            some,
+            b"scenario,origin,access,A,B,C\nbase,A,3,0,600,1800\n"
+        )
+    );
+    let half = Asked {
+        first: 448,
+        minutes: 33,
+        ..EIGHT
+    };
+    assert!(rt;
+        gives(
+            rt.alloc(),
+            &inputs,
+            half,
+            b"scenario,origin,access,A,B,C\nbase,A,2,0,1560,2760\n"
+        )
+    );
+}
+
+#[test]
+fn a_headway_departs_before_its_end(rt: HostRuntime) {
+    let inputs = inputs_of(FeedBytes {
+        frequencies: Some(EVERY_TEN_MINUTES),
+        ..example_feed()
+    });
+    assert!(rt;
+        gives(
+            rt.alloc(),
+            &inputs,
+            EIGHT,
+            b"scenario,origin,access,A,B,C\nbase,A,3,0,600,1800\n"
+        )
+    );
+    let second = Asked {
+        first: 485,
+        ..EIGHT
+    };
+    assert!(rt;
+        gives(
+            rt.alloc(),
+            &inputs,
+            second,
+            b"scenario,origin,access,A,B,C\nbase,A,2,0,900,\n"
+        )
+    );
+    let late = Asked {
+        first: 491,
+        ..EIGHT
+    };
+    assert!(rt;
+        gives(
+            rt.alloc(),
+            &inputs,
+            late,
+            b"scenario,origin,access,A,B,C\nbase,A,1,0,,\n"
+        )
+    );
+}
+
+#[test]
+fn a_feed_of_headers_gives_a_header(rt: HostRuntime) {
+    let inputs = Inputs {
+        origins: None,
+        ..inputs_of(FeedBytes {
+            stops: Some(b"stop_id\n"),
+            trips: Some(b"route_id,service_id,trip_id\n"),
+            stop_times: Some(b"trip_id,stop_id,stop_sequence\n"),
+            ..example_feed()
+        })
+    };
+    assert!(rt; gives(rt.alloc(), &inputs, EIGHT, b"scenario,origin,access\n"));
+}
+
+#[test]
+fn a_trip_may_overtake_another(rt: HostRuntime) {
+    let inputs = inputs_of(FeedBytes {
+        trips: Some(OVERTAKING_TRIP),
+        stop_times: Some(OVERTAKING),
+        ..example_feed()
+    });
+    assert!(rt;
+        gives(
+            rt.alloc(),
+            &inputs,
+            EIGHT,
+            b"scenario,origin,access,A,B,C\nbase,A,3,0,360,1800\n"
+        )
+    );
+}
+
+#[test]
+fn walks_come_first_and_last(rt: HostRuntime) {
+    let inputs = Inputs {
+        footpaths: Some(b"from_stop_id,to_stop_id,seconds\nW,A,120\nC,X,90\n"),
+        origins: Some(b"stop_id\nW\n"),
+        ..inputs_of(FeedBytes {
+            stops: Some(STOPS_W_X),
+            ..example_feed()
+        })
+    };
+    let early = Asked {
+        first: 478,
+        walk: 300,
+        ..EIGHT
+    };
+    assert!(rt;
+        gives(
+            rt.alloc(),
+            &inputs,
+            early,
+            b"scenario,origin,access,A,B,C,W,X\nbase,W,3,120,720,1920,0,2010\n"
+        )
+    );
+    let late = Asked {
+        first: 479,
+        ..early
+    };
+    assert!(rt;
+        gives(
+            rt.alloc(),
+            &inputs,
+            late,
+            b"scenario,origin,access,A,B,C,W,X\nbase,W,2,120,,,0,\n"
+        )
+    );
+}
+
+#[test]
+fn a_change_within_a_station_is_a_walk(rt: HostRuntime) {
+    let inputs = inputs_of(FeedBytes {
+        stops: Some(STATION),
+        stop_times: Some(FROM_B2),
+        transfers: Some(CHANGE_AT_S),
+        ..example_feed()
+    });
+    let enough = Asked { walk: 60, ..EIGHT };
+    assert!(rt;
+        gives(
+            rt.alloc(),
+            &inputs,
+            enough,
+            b"scenario,origin,access,A,B,C,B2\nbase,A,4,0,600,1800,660\n"
+        )
+    );
+    let short = Asked { walk: 59, ..EIGHT };
+    assert!(rt;
+        gives(
+            rt.alloc(),
+            &inputs,
+            short,
+            b"scenario,origin,access,A,B,C,B2\nbase,A,2,0,600,,\n"
+        )
+    );
+}
+
+#[test]
+fn commas_are_quoted(rt: HostRuntime) {
+    let inputs = Inputs {
+        origins: Some(b"stop_id\n\"A,1\"\n"),
+        ..inputs_of(FeedBytes {
+            stops: Some(COMMA_STOPS),
+            stop_times: Some(COMMA_TIMES),
+            ..example_feed()
+        })
+    };
+    assert!(rt;
+        gives(
+            rt.alloc(),
+            &inputs,
+            EIGHT,
+            b"scenario,origin,access,\"A,1\",B,C\nbase,\"A,1\",3,0,600,1800\n"
+        )
+    );
+}
+
+#[test]
+fn both_ends_of_a_calendar_are_included(rt: HostRuntime) {
+    let last_day = inputs_of(FeedBytes {
+        calendar: Some(LAST_DAY),
+        ..example_feed()
+    });
+    assert!(rt;
+        gives(
+            rt.alloc(),
+            &last_day,
+            EIGHT,
+            b"scenario,origin,access,A,B,C\nbase,A,3,0,600,1800\n"
+        )
+    );
+    let before = inputs_of(FeedBytes {
+        calendar: Some(WEEK_BEFORE),
+        ..example_feed()
+    });
+    assert!(rt;
+        gives(
+            rt.alloc(),
+            &before,
+            EIGHT,
+            b"scenario,origin,access,A,B,C\nbase,A,1,0,,\n"
+        )
+    );
+}
+
+#[test]
+fn opportunities_count_where_the_cell_is_within(rt: HostRuntime) {
+    let inputs = Inputs {
+        opportunities: Some(b"stop_id,opportunities\nB,10\nC,5\n"),
+        ..inputs_of(example_feed())
+    };
+    assert!(rt;
+        gives(
+            rt.alloc(),
+            &inputs,
+            EIGHT,
+            b"scenario,origin,access,A,B,C\nbase,A,15,0,600,1800\n"
+        )
+    );
+    let less = Asked {
+        within: 1799,
+        ..EIGHT
+    };
+    assert!(rt;
+        gives(
+            rt.alloc(),
+            &inputs,
+            less,
+            b"scenario,origin,access,A,B,C\nbase,A,10,0,600,1800\n"
+        )
+    );
+}

@@ -1,0 +1,43 @@
+//! What the words of the command line ask for, or what is wrong with them.
+
+use crate::settings::Settings;
+
+/// The options whose texts have a kind and limits, in the order in which they are looked at.
+/// `Window` is `--from` with `--to`; the others are the options of these names.
+#[derive(Clone, Copy, Debug, PartialEq, Eq)]
+pub enum Opt {
+    Date,
+    Window,
+    Trips,
+    Walk,
+    Share,
+    Within,
+    Workers,
+    Tries,
+    Back,
+    Ahead,
+}
+
+/// A study that the words ask for: its settings, and the paths of its files.
+#[derive(Drop)]
+pub struct Task {
+    /// The folder of the feed's files.
+    pub feed: String,
+    pub settings: Settings,
+    pub footpaths: Option<String>,
+    pub origins: Option<String>,
+    pub opportunities: Option<String>,
+    /// The scenario files, in their order.
+    pub scenarios: Vec<String>,
+}
+
+/// Why the words ask for no study.
+#[derive(Debug, Drop)]
+pub enum WordFault {
+    /// The words aren't those of the command, or they ask for its help; the error has the text to show.
+    Words(clap::Error),
+    /// The first option whose text isn't of its kind or within its limits.
+    Bad(Opt),
+    /// A growth of memory was refused.
+    Memory,
+}

@@ -1,0 +1,31 @@
+//! Telling a fault: one line on the error stream, and the exit status.
+
+use matrix_text::put_all;
+use std::alloc::AllocError;
+use std::io::Write;
+use std::process::ExitCode;
+
+/// The line where memory is short, which takes no memory.
+const NO_MEMORY: &[u8] = b"ttm: out of memory\n";
+
+/// The exit status where memory is short.
+const SHORT: u8 = 3;
+
+/// Tells that memory is short.
+pub fn tell_short<E: Write>(err: &mut E) -> ExitCode {
+    tell(NO_MEMORY, SHORT, err)
+}
+
+/// Tells by a line, or that there was no memory for it; the status stays.
+pub fn tell_made<E: Write>(line: Result<Vec<u8>, AllocError>, status: u8, err: &mut E) -> ExitCode {
+    match line {
+        Ok(line) => tell(&line, status, err),
+        Err(_) => tell(NO_MEMORY, status, err),
+    }
+}
+
+/// Tells by a line, as far as it can be put out.
+pub fn tell<E: Write>(line: &[u8], status: u8, err: &mut E) -> ExitCode {
+    let _ = put_all(line, err);
+    ExitCode::from(status)
+}
