@@ -1,5 +1,5 @@
 //! A line of the text, formed whole before it is put out.
-ghost use Rattle.std.specs.Prelude.{◌≡◌, ◌++◌, ◌∷◌, [], decimal, OnOk, OnErr, IfOk};
+ghost use Rattle.std.specs.Prelude.{◌≡◌, ◌++◌, ◌∷◌, [], decimal, OnOk, OnErr, IfOk, IfErr};
 ghost use Rattle.std.specs.Io.KnownBytes.{Appends};
 ghost use Rattle.csv.specs.Records.{fields_of};
 ghost use Rattle.matrix_text.specs.Text.{line_text, cell_field};
@@ -87,6 +87,7 @@ impl Line {
     pub fn put<W: Write>(&mut self, w: &mut W) -> Result<(), TextFault>
         ensures ok { OnOk result (Appends (W.contents w.old) (W.contents w.new) (line_text self.old)) }
         ensures err { OnErr result (PutsPrefix (W.contents w.old) (W.contents w.new) (line_text self.old)) }
+        ensures memory { IfErr result (λ fault. fault ≡ TextFault.Memory → W.contents w.new ≡ W.contents w.old) }
         ensures same { self.new ≡ self.old }
     {
         let room = mem::replace(&mut self.text, Vec::new(self.alloc));

@@ -9,6 +9,7 @@ pub mod Stages
 pub mod Study
 pub mod Laws
 pub mod Files
+pub mod Disk
 pub mod Window
 pub mod Lines
 pub mod Paths

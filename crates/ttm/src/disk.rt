@@ -1,6 +1,12 @@
 //! The files that a study names, read whole from the disk.
 
+ghost use Rattle.std.specs.Prelude.{◌≡◌, option_map};
+ghost use Rattle.gtfs_tables.specs.Files as files;
+ghost use Rattle.ttm.specs.Disk.{files_read};
+ghost use Rattle.ttm.specs.Inputs.{inputs_of};
+
 use crate::files::{ReadFault, read_all};
+use crate::inputs::Inputs;
 use crate::lines::{path_line, path_status};
 use crate::named_file::NamedFile;
 use crate::paths::{path_in, scenario_of};
@@ -26,7 +32,9 @@ pub struct FeedFiles {
 
 impl FeedFiles {
     /// Their bytes.
-    pub fn bytes(&self) -> FeedBytes<'_> {
+    pub fn bytes(&self) -> FeedBytes<'_>
+        ensures { files.files_of result ≡ files_read self.now }
+    {
         FeedBytes {
             stops: bytes_of(&self.stops),
             routes: bytes_of(&self.routes),
@@ -40,8 +48,33 @@ impl FeedFiles {
     }
 }
 
+/// What goes into a study, of files that were read.
+pub fn inputs_from<'a>(
+    feed: &'a FeedFiles,
+    footpaths: &'a Option<Vec<u8>>,
+    origins: &'a Option<Vec<u8>>,
+    opportunities: &'a Option<Vec<u8>>,
+    scenarios: &'a [NamedFile],
+) -> Inputs<'a>
+    ensures feed { (inputs_of result).feed ≡ files_read feed.now }
+    ensures footpaths { (inputs_of result).footpaths ≡ option_map (λ bytes. bytes.items) footpaths.now }
+    ensures origins { (inputs_of result).origins ≡ option_map (λ bytes. bytes.items) origins.now }
+    ensures opportunities { (inputs_of result).opportunities ≡ option_map (λ bytes. bytes.items) opportunities.now }
+    ensures scenarios { (inputs_of result).scenarios ≡ scenarios.now }
+{
+    Inputs {
+        feed: feed.bytes(),
+        footpaths: bytes_of(footpaths),
+        origins: bytes_of(origins),
+        opportunities: bytes_of(opportunities),
+        scenarios,
+    }
+}
+
 /// The bytes of a file, if it is there.
-pub fn bytes_of(file: &Option<Vec<u8>>) -> Option<&[u8]> {
+pub fn bytes_of(file: &Option<Vec<u8>>) -> Option<&[u8]>
+    ensures { files.bytes_of result ≡ option_map (λ bytes. bytes.items) file.now }
+{
     match file {
         Some(bytes) => Some(bytes.as_slice()),
         None => None,

@@ -1,6 +1,6 @@
 //! The lines that tell why there is no answer, and the exit statuses of the program.
 
-ghost use Rattle.std.specs.Prelude.{◌≡◌, ◌++◌, ◌∷◌, [], IfOk, codes, decimal, map};
+ghost use Rattle.std.specs.Prelude.{◌≡◌, ◌≤◌, ◌++◌, ◌∷◌, [], IfOk, codes, decimal, map};
 ghost use Rattle.ttm.specs.NamedFile.{NamedBytes};
 ghost use Rattle.ttm.specs.Lines as spec;
 
@@ -51,7 +51,8 @@ pub fn fault_line(
 
 /// The exit status of a study that isn't made.
 pub fn status(fault: &StudyFault) -> u8
-    ensures { result ≡ spec.status_of fault.now }
+    ensures status { result ≡ spec.status_of fault.now }
+    ensures no_success { 1 ≤ result }
 {
     match fault {
         StudyFault::Scenarios | StudyFault::Name(_) => REFUSED,
@@ -318,7 +319,8 @@ fn run_text(alloc: Global, fault: RunFault) -> Result<Vec<u8>, AllocError>
 
 /// The status where a file of the feed is refused.
 fn feed_status(what: What) -> u8
-    ensures { result ≡ spec.feed_status what }
+    ensures status { result ≡ spec.feed_status what }
+    ensures no_success { 1 ≤ result }
 {
     match what {
         What::Memory => NO_ROOM,
@@ -328,7 +330,8 @@ fn feed_status(what: What) -> u8
 
 /// The status where a scenario file is refused.
 fn edit_status(what: ScenarioWhat) -> u8
-    ensures { result ≡ spec.edit_status what }
+    ensures status { result ≡ spec.edit_status what }
+    ensures no_success { 1 ≤ result }
 {
     match what {
         ScenarioWhat::Memory => NO_ROOM,

@@ -13,6 +13,8 @@
 #![tactic(auto)]
 
 mod disk;
+#[cfg(test)]
+mod disk_tests;
 mod example;
 mod fault;
 #[cfg(test)]

@@ -2,7 +2,13 @@
 //!
 //! A fault is told by one line on the standard error, and by the exit status. Nothing but the whole matrix is a success.
 
-use crate::disk::{bytes_of, feed_files, own_file, scenario_files};
+ghost use Rattle.std.specs.Prelude.{◌≡◌, ℕ, List};
+ghost use Rattle.std.specs.Io.KnownBytes.{Appends};
+ghost use Rattle.std.specs.Process.{exit_status};
+ghost use Rattle.ttm.specs.Inputs.{inputs_of};
+ghost use Rattle.ttm.specs.Study.{IsStudyText};
+
+use crate::disk::{feed_files, inputs_from, own_file, scenario_files};
 use crate::example::example_feed;
 use crate::fault::StudyFault;
 use crate::inputs::Inputs;
@@ -106,13 +112,13 @@ fn study<O: Write, E: Write>(
     let origins = own_file(rt, &task.origins, err)?;
     let opportunities = own_file(rt, &task.opportunities, err)?;
     let scenarios = scenario_files(rt, task.scenarios.as_slice(), err)?;
-    let inputs = Inputs {
-        feed: feed.bytes(),
-        footpaths: bytes_of(&footpaths),
-        origins: bytes_of(&origins),
-        opportunities: bytes_of(&opportunities),
-        scenarios: scenarios.as_slice(),
-    };
+    let inputs = inputs_from(
+        &feed,
+        &footpaths,
+        &origins,
+        &opportunities,
+        scenarios.as_slice(),
+    );
     Ok(answer(rt, &inputs, &task.settings, out, err))
 }
 
@@ -123,7 +129,9 @@ fn answer<O: Write, E: Write>(
     settings: &Settings,
     out: &mut O,
     err: &mut E,
-) -> ExitCode {
+) -> ExitCode
+    ensures success { exit_status result ≡ 0 → (text : List ℕ) × IsStudyText (inputs_of inputs.now) settings.now text × Appends (O.contents out.old) (O.contents out.new) text }
+{
     // `read_all` and `task_of` have seen to both; the test is what the condition of `run_study` is proved by.
     if !inputs.fits() || !settings.fits() {
         return tell(b"ttm: too long\n", WRONG_WORDS, err);

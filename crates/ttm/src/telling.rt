@@ -1,5 +1,9 @@
 //! Telling a fault: one line on the error stream, and the exit status.
 
+ghost use Rattle.std.specs.Prelude.{◌≡◌};
+ghost use Rattle.std.specs.Process.{exit_status};
+ghost use Rattle.matrix_text.specs.Prefixes.{PutsPrefix};
+
 use matrix_text::put_all;
 use std::alloc::AllocError;
 use std::io::Write;
@@ -12,12 +16,16 @@ const NO_MEMORY: &[u8] = b"ttm: out of memory\n";
 const SHORT: u8 = 3;
 
 /// Tells that memory is short.
-pub fn tell_short<E: Write>(err: &mut E) -> ExitCode {
+pub fn tell_short<E: Write>(err: &mut E) -> ExitCode
+    ensures { exit_status result ≡ 3 }
+{
     tell(NO_MEMORY, SHORT, err)
 }
 
 /// Tells by a line, or that there was no memory for it; the status stays.
-pub fn tell_made<E: Write>(line: Result<Vec<u8>, AllocError>, status: u8, err: &mut E) -> ExitCode {
+pub fn tell_made<E: Write>(line: Result<Vec<u8>, AllocError>, status: u8, err: &mut E) -> ExitCode
+    ensures { exit_status result ≡ status }
+{
     match line {
         Ok(line) => tell(&line, status, err),
         Err(_) => tell(NO_MEMORY, status, err),
@@ -25,7 +33,10 @@ pub fn tell_made<E: Write>(line: Result<Vec<u8>, AllocError>, status: u8, err: &
 }
 
 /// Tells by a line, as far as it can be put out.
-pub fn tell<E: Write>(line: &[u8], status: u8, err: &mut E) -> ExitCode {
+pub fn tell<E: Write>(line: &[u8], status: u8, err: &mut E) -> ExitCode
+    ensures status { exit_status result ≡ status }
+    ensures line { PutsPrefix (E.contents err.old) (E.contents err.new) line.now }
+{
     let _ = put_all(line, err);
     ExitCode::from(status)
 }

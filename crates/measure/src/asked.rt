@@ -1,0 +1,36 @@
+//! What is asked of the files of a study.
+ghost use Rattle.std.specs.Prelude.{◌≡◌, length};
+
+use gtfs_tables::{read_date, read_time};
+use jiff::civil::Date;
+use rounds::Window;
+use table_records::number;
+
+/// The service day of a study, its departures, and how far its journeys go.
+#[derive(Clone, Copy)]
+pub(crate) struct Asked {
+    /// The one service day whose trips run.
+    pub date: Date,
+    /// The departures.
+    pub window: Window,
+    /// The most rides of a journey.
+    pub rides: u32,
+    /// The longest walk between two rides, in seconds.
+    pub walk: u32,
+}
+
+/// What five words ask for: the date, the time of the first departure, how many minutes have one, the most rides, and the
+/// longest walk in seconds. None where one of them isn't a date, a time or a number.
+pub(crate) fn read(words: &[String]) -> Option<Asked>
+    requires { length words.now ≡ 5 }
+{
+    Some(Asked {
+        date: read_date(words[0].as_bytes())?,
+        window: Window {
+            first: read_time(words[1].as_bytes())?,
+            minutes: number(words[2].as_bytes())?,
+        },
+        rides: number(words[3].as_bytes())?,
+        walk: number(words[4].as_bytes())?,
+    })
+}

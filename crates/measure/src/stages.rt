@@ -1,0 +1,249 @@
+//! A study, stage after stage: reading, days, walks, networks, durations with their cells, and text.
+//! Each stage hands what it made to the next, which first prints how long that took and how much it is.
+ghost use Rattle.std.specs.Prelude.{◌≤◌, All, length};
+ghost use Rattle.service_days.specs.Instances.{IsRun};
+
+use crate::asked::Asked;
+use crate::feed_files::FeedFiles;
+use crate::figures::per_second;
+use crate::networks::make_networks;
+use crate::own_files::{ScenarioFile, read_all, read_own};
+use crate::sizes::{event_count, pair_count};
+use crate::tables::{Tables, names_of, read_tables};
+use crate::telling::{refuse, tell, tell_stage};
+use collector::Matrix;
+use footpaths::{close, limit_fits};
+use gtfs_tables::{Feed, FeedBytes, read_feed};
+use matrix_text::{Labels, write_matrix};
+use service_days::{Run, active};
+use std::io;
+use std::time::Instant;
+use timetable::{Feet, Network};
+use workers::{Study, one_thread};
+
+/// Of a hundred minutes, for how many a cell's travel time must suffice.
+const SHARE: u32 = 50;
+
+/// The longest travel time, in seconds, at which a stop counts for access.
+const WITHIN: u32 = 1800;
+
+/// Times the stages of a study over the feed of a folder. The own files are that of footpaths, that of origins, and those of
+/// scenarios.
+pub(crate) fn time_study(
+    rt: &HostRuntime,
+    asked: Asked,
+    folder: &str,
+    own: &[String],
+) -> io::Result<()>
+    requires { 2 ≤ length own.now }
+{
+    let footpaths = read_own(rt, own[0].as_str())?;
+    let origins = read_own(rt, own[1].as_str())?;
+    let scenarios = read_all(rt, &own[2..])?;
+    time_files(
+        rt,
+        asked,
+        folder,
+        footpaths.as_deref(),
+        origins.as_deref(),
+        scenarios.as_slice(),
+    )
+}
+
+// The own files are in memory: the feed's are read.
+fn time_files(
+    rt: &HostRuntime,
+    asked: Asked,
+    folder: &str,
+    footpaths: Option<&[u8]>,
+    origins: Option<&[u8]>,
+    scenarios: &[ScenarioFile],
+) -> io::Result<()> {
+    let files = FeedFiles::read(rt, folder)?;
+    time_reading(rt, asked, &files.bytes(), footpaths, origins, scenarios)
+}
+
+// All files are in memory: the feed is read from them.
+fn time_reading(
+    rt: &HostRuntime,
+    asked: Asked,
+    files: &FeedBytes<'_>,
+    footpaths: Option<&[u8]>,
+    origins: Option<&[u8]>,
+    scenarios: &[ScenarioFile],
+) -> io::Result<()> {
+    if !files.fits() {
+        return refuse(rt, "a file is too long");
+    }
+    let start = Instant::now(rt)?;
+    match read_feed(rt.alloc(), files) {
+        Ok(feed) => time_tables(rt, asked, &feed, footpaths, origins, scenarios, start),
+        Err(fault) => println!(rt; "refused: {fault:?}"),
+    }
+}
+
+// The feed is read: the own files are too.
+fn time_tables(
+    rt: &HostRuntime,
+    asked: Asked,
+    feed: &Feed,
+    footpaths: Option<&[u8]>,
+    origins: Option<&[u8]>,
+    scenarios: &[ScenarioFile],
+    start: Instant,
+) -> io::Result<()> {
+    match read_tables(rt.alloc(), feed, footpaths, origins, scenarios) {
+        Ok(tables) => time_days(rt, asked, feed, &tables, start),
+        Err(fault) => println!(rt; "refused: {fault:?}"),
+    }
+}
+
+// All is read: the runs are listed.
+fn time_days(
+    rt: &HostRuntime,
+    asked: Asked,
+    feed: &Feed,
+    tables: &Tables,
+    start: Instant,
+) -> io::Result<()> {
+    let time = tell_stage(rt, "reading", start)?;
+    tell_feed(rt, feed, time)?;
+    tell(rt, "direct footpaths", tables.direct.pairs().len() as u64)?;
+    let start = Instant::now(rt)?;
+    match active(rt.alloc(), feed, asked.date, 0, 0) {
+        Ok(runs) => time_walks(rt, asked, feed, tables, runs.as_slice(), start),
+        Err(fault) => println!(rt; "refused: {fault:?}"),
+    }
+}
+
+fn tell_feed(rt: &HostRuntime, feed: &Feed, time: u64) -> io::Result<()> {
+    let events = event_count(feed);
+    tell(rt, "stops", u64::from(feed.stop_count()))?;
+    tell(rt, "trips", u64::from(feed.trip_count()))?;
+    tell(rt, "stop events", events)?;
+    tell(rt, "stop events per second", per_second(events, time))
+}
+
+// The runs are listed: the footpaths are closed.
+fn time_walks(
+    rt: &HostRuntime,
+    asked: Asked,
+    feed: &Feed,
+    tables: &Tables,
+    runs: &[Run],
+    start: Instant,
+) -> io::Result<()>
+    requires { All (IsRun feed.now) runs.now }
+{
+    tell_stage(rt, "days", start)?;
+    tell(rt, "runs", runs.len() as u64)?;
+    if !limit_fits(asked.walk) {
+        return refuse(rt, "the walk is too long");
+    }
+    let start = Instant::now(rt)?;
+    match close(rt.alloc(), &tables.direct, asked.walk) {
+        Ok(feet) => time_networks(rt, asked, feed, tables, runs, &feet, start),
+        Err(fault) => println!(rt; "refused: {fault:?}"),
+    }
+}
+
+// The footpaths are closed: the networks are made.
+fn time_networks(
+    rt: &HostRuntime,
+    asked: Asked,
+    feed: &Feed,
+    tables: &Tables,
+    runs: &[Run],
+    feet: &Feet,
+    start: Instant,
+) -> io::Result<()>
+    requires { All (IsRun feed.now) runs.now }
+{
+    tell_stage(rt, "walks", start)?;
+    tell(rt, "closed pairs", pair_count(feet))?;
+    if feet.stops() != feed.stop_count() {
+        return refuse(rt, "the footpaths are of other stops");
+    }
+    let start = Instant::now(rt)?;
+    match make_networks(rt.alloc(), feed, &tables.scenarios, runs, feet) {
+        Ok(networks) => time_durations(rt, asked, feed, tables, &networks, start),
+        Err(fault) => println!(rt; "refused: {fault:?}"),
+    }
+}
+
+// The networks are made: the durations are computed, with their cells.
+fn time_durations(
+    rt: &HostRuntime,
+    asked: Asked,
+    feed: &Feed,
+    tables: &Tables,
+    networks: &[Network],
+    start: Instant,
+) -> io::Result<()> {
+    tell_stage(rt, "networks", start)?;
+    let opportunities = vec![in rt.alloc(); 1; feed.stop_count() as usize]?;
+    let study = Study {
+        number: 0,
+        networks,
+        origins: tables.origins.as_slice(),
+        opportunities: opportunities.as_slice(),
+        window: asked.window,
+        rides: asked.rides,
+        share: SHARE,
+        within: WITHIN,
+    };
+    time_rows(rt, feed, tables, &study)
+}
+
+// The study is put together: its matrix is computed.
+fn time_rows(rt: &HostRuntime, feed: &Feed, tables: &Tables, study: &Study<'_>) -> io::Result<()> {
+    if !study.fits() {
+        return refuse(rt, "the study is past its limits");
+    }
+    let start = Instant::now(rt)?;
+    match one_thread(rt.alloc(), study) {
+        Ok(matrix) => time_text(rt, feed, tables, &matrix, start),
+        Err(fault) => println!(rt; "refused: {fault:?}"),
+    }
+}
+
+// The matrix is computed: the names of its rows are listed.
+fn time_text(
+    rt: &HostRuntime,
+    feed: &Feed,
+    tables: &Tables,
+    matrix: &Matrix,
+    start: Instant,
+) -> io::Result<()> {
+    tell_stage(rt, "durations", start)?;
+    let rows = u64::from(matrix.scenarios()).saturating_mul(u64::from(matrix.origins()));
+    tell(rt, "rows", rows)?;
+    let start = Instant::now(rt)?;
+    let names = names_of(rt.alloc(), &tables.scenarios)?;
+    let labels = Labels {
+        scenarios: names.as_slice(),
+        origins: tables.origins.as_slice(),
+        feed,
+    };
+    time_writing(rt, &labels, matrix, start)
+}
+
+// All is named: the text is written to memory.
+fn time_writing(
+    rt: &HostRuntime,
+    labels: &Labels<'_>,
+    matrix: &Matrix,
+    start: Instant,
+) -> io::Result<()> {
+    if !labels.fit(matrix) {
+        return refuse(rt, "the labels are of another matrix");
+    }
+    let mut text = Vec::new(rt.alloc());
+    match write_matrix(rt.alloc(), matrix, labels, &mut text) {
+        Ok(()) => {
+            tell_stage(rt, "text", start)?;
+            tell(rt, "bytes of text", text.len() as u64)
+        }
+        Err(fault) => println!(rt; "refused: {fault:?}"),
+    }
+}
