@@ -24,7 +24,6 @@ use Rattle.table_files.specs.declared.calendar_dates.CalendarDates.{CalendarDate
 use Rattle.table_files.specs.declared.feed_trips.FeedTrips.{FeedTrips}
 use Rattle.table_files.specs.declared.feed_trips.TripNumbers.{TripNumbers}
 use Rattle.table_files.specs.declared.frequencies.Departures.{Departures}
-use Rattle.table_files.specs.declared.transfers.Link.{Link}
 use Rattle.table_files.specs.declared.transfers.Transfers.{Transfers}
 use Rattle.timetable.specs.Trips.{EventsRise}
 use Rattle.timetable.specs.declared.trips.Event.{Event}

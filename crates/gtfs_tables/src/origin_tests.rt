@@ -1,56 +1,95 @@
 //! Origins and opportunities over the small feed.
 
-use crate::test_feeds::{expect_read, small_feed};
-use crate::{FeedFault, FileName, What, file_fits, read_opportunities, read_origins};
+use crate::test_feeds::{feed_in, small_feed};
+use crate::{Feed, FeedFault, FileName, What, file_fits, read_opportunities, read_origins};
 use std::alloc::Global;
 use std::process::Abort;
 use timetable::StopNo;
 
-fn expect_origins(rt: &impl Abort, alloc: Global, file: Option<&[u8]>, want: &[u32]) {
-    let feed = expect_read(rt, alloc, small_feed());
-    assert!(rt; file_fits(file));
-    match read_origins(alloc, file, &feed) {
-        Ok(stops) => {
-            assert_eq!(rt; stops.len(), want.len());
-            for (stop, want) in stops.iter().zip(want) {
-                assert_eq!(rt; stop.0, *want);
-            }
-        }
-        Err(fault) => panic!(rt; "{fault:?}"),
+// Whether the origins of a file are these stops of the small feed.
+fn gives_origins(alloc: Global, file: Option<&[u8]>, feed: &Feed, want: &[StopNo]) -> bool {
+    if !file_fits(file) {
+        return false;
     }
+    match read_origins(alloc, file, feed).ok() {
+        Some(stops) => stops.as_slice() == want,
+        None => false,
+    }
+}
+
+// Whether the opportunities of a file are these at the stops of the small feed.
+fn gives_opportunities(alloc: Global, file: Option<&[u8]>, feed: &Feed, want: &[u32]) -> bool {
+    if !file_fits(file) {
+        return false;
+    }
+    match read_opportunities(alloc, file, feed) {
+        Ok(counts) => counts.as_slice() == want,
+        Err(_) => false,
+    }
+}
+
+fn expect_origins(rt: &impl Abort, alloc: Global, file: Option<&[u8]>, want: &[StopNo]) {
+    let feed = feed_in(alloc, small_feed());
+    assert!(rt; feed.is_some_and(|feed| gives_origins(alloc, file, &feed, want)));
 }
 
 fn expect_opportunities(rt: &impl Abort, alloc: Global, file: Option<&[u8]>, want: &[u32]) {
-    let feed = expect_read(rt, alloc, small_feed());
-    assert!(rt; file_fits(file));
-    match read_opportunities(alloc, file, &feed) {
-        Ok(counts) => assert_eq!(rt; counts.as_slice(), want),
-        Err(fault) => panic!(rt; "{fault:?}"),
+    let feed = feed_in(alloc, small_feed());
+    assert!(rt; feed.is_some_and(|feed| gives_opportunities(alloc, file, &feed, want)));
+}
+
+// The fault of a file of origins, none where it has none.
+fn origins_fault(alloc: Global, file: &[u8], feed: &Feed) -> Option<FeedFault> {
+    if !file_fits(Some(file)) {
+        return None;
     }
+    read_origins(alloc, Some(file), feed).err()
 }
 
-fn origins_fault(rt: &impl Abort, alloc: Global, file: &[u8]) -> Option<FeedFault> {
-    let feed = expect_read(rt, alloc, small_feed());
-    assert!(rt; file_fits(Some(file)));
-    read_origins(alloc, Some(file), &feed).err()
+// The fault of a file of opportunities, none where it has none.
+fn opportunities_fault(alloc: Global, file: &[u8], feed: &Feed) -> Option<FeedFault> {
+    if !file_fits(Some(file)) {
+        return None;
+    }
+    read_opportunities(alloc, Some(file), feed).err()
 }
 
-fn opportunities_fault(rt: &impl Abort, alloc: Global, file: &[u8]) -> Option<FeedFault> {
-    let feed = expect_read(rt, alloc, small_feed());
-    assert!(rt; file_fits(Some(file)));
-    read_opportunities(alloc, Some(file), &feed).err()
+fn expect_origins_fault(rt: &impl Abort, alloc: Global, file: &'static [u8], at: u64, what: What) {
+    let feed = feed_in(alloc, small_feed());
+    let fault = feed.and_then(|feed| origins_fault(alloc, file, &feed));
+    assert_eq!(rt; fault, Some(FeedFault::at(FileName::Origins, at, what)));
+}
+
+fn expect_opportunities_fault(
+    rt: &impl Abort,
+    alloc: Global,
+    file: &'static [u8],
+    at: u64,
+    what: What,
+) {
+    let feed = feed_in(alloc, small_feed());
+    let fault = feed.and_then(|feed| opportunities_fault(alloc, file, &feed));
+    assert_eq!(rt;
+        fault,
+        Some(FeedFault::at(FileName::Opportunities, at, what))
+    );
 }
 
 #[test]
 fn origins_in_file_order(rt: HostRuntime) {
     let alloc = rt.alloc();
-    expect_origins(&rt, alloc, None, &[0, 1, 2]);
-    expect_origins(&rt, alloc, Some(b"stop_id\nC\nA\n"), &[2, 0]);
+    expect_origins(&rt, alloc, None, &[StopNo(0), StopNo(1), StopNo(2)]);
+    expect_origins(
+        &rt,
+        alloc,
+        Some(b"stop_id\nC\nA\n"),
+        &[StopNo(2), StopNo(0)],
+    );
     expect_origins(
         &rt,
         alloc,
         Some(b"\xef\xbb\xbfname,stop_id\r\nx,B\r\n"),
-        &[1],
+        &[StopNo(1)],
     );
     expect_origins(&rt, alloc, Some(b"stop_id\n"), &[]);
 }
@@ -70,41 +109,45 @@ fn opportunities_at_each_stop(rt: HostRuntime) {
 
 #[test]
 fn origins_are_refused(rt: HostRuntime) {
-    for (file, at, what) in [
-        (b"stop_id\nA\n\"\"\n".as_slice(), 3, What::EmptyId),
-        (b"stop_id\nA\nZ\n", 3, What::UnknownStop),
-        (b"stop_id\nA\nB\nA\n", 4, What::DuplicateId),
-        (b"stop\nA\n", 1, What::MissingColumn),
-        (b"", 1, What::MissingColumn),
-    ] {
-        assert_eq!(rt;
-            origins_fault(&rt, rt.alloc(), file),
-            Some(FeedFault {
-                file: FileName::Origins,
-                at,
-                what,
-            })
-        );
-    }
+    let alloc = rt.alloc();
+    expect_origins_fault(&rt, alloc, b"stop_id\nA\n\"\"\n", 3, What::EmptyId);
+    expect_origins_fault(&rt, alloc, b"stop_id\nA\nZ\n", 3, What::UnknownStop);
+    expect_origins_fault(&rt, alloc, b"stop_id\nA\nB\nA\n", 4, What::DuplicateId);
+    expect_origins_fault(&rt, alloc, b"stop\nA\n", 1, What::MissingColumn);
+    expect_origins_fault(&rt, alloc, b"", 1, What::MissingColumn);
 }
 
 #[test]
 fn opportunities_are_refused(rt: HostRuntime) {
-    for (file, at, what) in [
-        (b"stop_id,opportunities\n,1\n".as_slice(), 2, What::EmptyId),
-        (b"stop_id,opportunities\nA,1\nZ,x\n", 3, What::UnknownStop),
-        (b"stop_id,opportunities\nA,1\nA,x\n", 3, What::DuplicateId),
-        (b"stop_id,opportunities\nA,1\nB,-1\n", 3, What::BadNumber),
-        (b"stop_id,opportunities\nA,4294967296\n", 2, What::BadNumber),
-        (b"stop_id\nA\n", 1, What::MissingColumn),
-    ] {
-        assert_eq!(rt;
-            opportunities_fault(&rt, rt.alloc(), file),
-            Some(FeedFault {
-                file: FileName::Opportunities,
-                at,
-                what,
-            })
-        );
-    }
+    let alloc = rt.alloc();
+    expect_opportunities_fault(&rt, alloc, b"stop_id,opportunities\n,1\n", 2, What::EmptyId);
+    expect_opportunities_fault(
+        &rt,
+        alloc,
+        b"stop_id,opportunities\nA,1\nZ,x\n",
+        3,
+        What::UnknownStop,
+    );
+    expect_opportunities_fault(
+        &rt,
+        alloc,
+        b"stop_id,opportunities\nA,1\nA,x\n",
+        3,
+        What::DuplicateId,
+    );
+    expect_opportunities_fault(
+        &rt,
+        alloc,
+        b"stop_id,opportunities\nA,1\nB,-1\n",
+        3,
+        What::BadNumber,
+    );
+    expect_opportunities_fault(
+        &rt,
+        alloc,
+        b"stop_id,opportunities\nA,4294967296\n",
+        2,
+        What::BadNumber,
+    );
+    expect_opportunities_fault(&rt, alloc, b"stop_id\nA\n", 1, What::MissingColumn);
 }

@@ -1,6 +1,6 @@
 //! The places of a feed and the walks between them: `location_type`, `parent_station` and `transfers.txt`.
 
-use crate::test_feeds::{expect_fault, expect_read, small_feed, station_feed};
+use crate::test_feeds::{expect_fault, feed_in, small_feed, station_feed};
 use crate::{Feed, FeedBytes, FileName, Link, Place, What};
 use timetable::StopNo;
 
@@ -24,36 +24,50 @@ fn stands_for(feed: &Feed, id: &[u8], stops: &[StopNo]) -> bool {
     }
 }
 
+// Whether each of six identifiers is that of its place.
+fn has_places(feed: &Feed) -> bool {
+    feed.place(b"A") == Some(Place::Stop(StopNo(0)))
+        && feed.place(b"B") == Some(Place::Stop(StopNo(1)))
+        && feed.place(b"S") == Some(Place::Station(0))
+        && feed.place(b"T") == Some(Place::Station(1))
+        && feed.place(b"E") == Some(Place::Other)
+        && feed.place(b"Z") == None
+}
+
 #[test]
 fn a_place_is_a_stop_a_station_or_another(rt: HostRuntime) {
-    let feed = expect_read(&rt, rt.alloc(), station_feed());
-    assert_eq!(rt; feed.place(b"A"), Some(Place::Stop(StopNo(0))));
-    assert_eq!(rt; feed.place(b"B"), Some(Place::Stop(StopNo(1))));
-    assert_eq!(rt; feed.place(b"S"), Some(Place::Station(0)));
-    assert_eq!(rt; feed.place(b"T"), Some(Place::Station(1)));
-    assert_eq!(rt; feed.place(b"E"), Some(Place::Other));
-    assert_eq!(rt; feed.place(b"Z"), None);
+    let feed = feed_in(rt.alloc(), station_feed());
+    assert!(rt; feed.is_some_and(|feed| has_places(&feed)));
+}
+
+// Whether the station S has the children A and B, T has none, and A is no station.
+fn has_stations(feed: &Feed) -> bool {
+    has_children(feed, b"S", &[StopNo(0), StopNo(1)])
+        && has_children(feed, b"T", &[])
+        && !has_children(feed, b"A", &[])
 }
 
 #[test]
 fn a_station_between_its_children_has_both(rt: HostRuntime) {
-    let feed = expect_read(&rt, rt.alloc(), station_feed());
-    assert!(rt; has_children(&feed, b"S", &[StopNo(0), StopNo(1)]));
-    assert!(rt; has_children(&feed, b"T", &[]));
-    assert!(rt; !has_children(&feed, b"A", &[]));
+    let feed = feed_in(rt.alloc(), station_feed());
+    assert!(rt; feed.is_some_and(|feed| has_stations(&feed)));
+}
+
+// Whether the station S, the stop C and the entrance E stand for their stops.
+fn has_stops_of_places(feed: &Feed) -> bool {
+    stands_for(feed, b"S", &[StopNo(0), StopNo(1)])
+        && stands_for(feed, b"C", &[StopNo(2)])
+        && stands_for(feed, b"E", &[])
 }
 
 #[test]
 fn a_place_stands_for_its_stops(rt: HostRuntime) {
-    let feed = expect_read(&rt, rt.alloc(), station_feed());
-    assert!(rt; stands_for(&feed, b"S", &[StopNo(0), StopNo(1)]));
-    assert!(rt; stands_for(&feed, b"C", &[StopNo(2)]));
-    assert!(rt; stands_for(&feed, b"E", &[]));
+    let feed = feed_in(rt.alloc(), station_feed());
+    assert!(rt; feed.is_some_and(|feed| has_stops_of_places(&feed)));
 }
 
-#[test]
-fn links_are_the_rows_that_give_a_walk(rt: HostRuntime) {
-    let feed = expect_read(&rt, rt.alloc(), station_feed());
+// Whether a walk leads from A to B, and one from the station S to C.
+fn has_two_links(feed: &Feed) -> bool {
     let walk = Link {
         origin: Place::Stop(StopNo(0)),
         target: Place::Stop(StopNo(1)),
@@ -66,20 +80,30 @@ fn links_are_the_rows_that_give_a_walk(rt: HostRuntime) {
         seconds: 120,
         at: 4,
     };
-    assert_eq!(rt; feed.links(), [walk, change].as_slice());
+    feed.links() == [walk, change].as_slice()
+}
+
+#[test]
+fn links_are_the_rows_that_give_a_walk(rt: HostRuntime) {
+    let feed = feed_in(rt.alloc(), station_feed());
+    assert!(rt; feed.is_some_and(|feed| has_two_links(&feed)));
 }
 
 #[test]
 fn rows_without_a_walk_are_counted(rt: HostRuntime) {
-    let feed = expect_read(&rt, rt.alloc(), station_feed());
-    assert_eq!(rt; feed.unused_transfers(), 3);
+    let feed = feed_in(rt.alloc(), station_feed());
+    assert!(rt; feed.is_some_and(|feed| feed.unused_transfers() == 3));
+}
+
+// Whether a feed has no walk, and no row of transfers without one.
+fn has_no_transfers(feed: &Feed) -> bool {
+    feed.links().is_empty() && feed.unused_transfers() == 0
 }
 
 #[test]
 fn a_feed_without_transfers_has_no_links(rt: HostRuntime) {
-    let feed = expect_read(&rt, rt.alloc(), small_feed());
-    assert!(rt; feed.links().is_empty());
-    assert_eq!(rt; feed.unused_transfers(), 0);
+    let feed = feed_in(rt.alloc(), small_feed());
+    assert!(rt; feed.is_some_and(|feed| has_no_transfers(&feed)));
 }
 
 #[test]

@@ -1,6 +1,6 @@
 //! A feed of three stops and two trips for the tests, with and without stations, and what is asserted of feeds and of refusals.
 
-use crate::{Feed, FeedBytes, FileName, What, read_feed};
+use crate::{Feed, FeedBytes, FeedFault, FileName, What, read_feed};
 use std::alloc::Global;
 use std::process::Abort;
 
@@ -60,13 +60,20 @@ pub fn feed_of(
     }
 }
 
-/// The feed of the files, which have no fault.
-pub fn expect_read(rt: &impl Abort, alloc: Global, files: FeedBytes<'_>) -> Feed {
-    assert!(rt; files.fits());
-    match read_feed(alloc, &files) {
-        Ok(feed) => feed,
-        Err(fault) => panic!(rt; "{fault:?}"),
+/// The feed of the files, none where they have a fault.
+pub fn feed_in(alloc: Global, files: FeedBytes<'_>) -> Option<Feed> {
+    if !files.fits() {
+        return None;
     }
+    read_feed(alloc, &files).ok()
+}
+
+/// The fault of the files, none where they have none.
+pub fn fault_of(alloc: Global, files: FeedBytes<'_>) -> Option<FeedFault> {
+    if !files.fits() {
+        return None;
+    }
+    read_feed(alloc, &files).err()
 }
 
 /// The files are refused for this fault.
@@ -78,13 +85,6 @@ pub fn expect_fault(
     at: u64,
     what: What,
 ) {
-    assert!(rt; files.fits());
-    match read_feed(alloc, &files) {
-        Ok(_) => panic!(rt; "no fault, where {file:?} {at} {what:?} was expected"),
-        Err(fault) => {
-            assert_eq!(rt; fault.file, file);
-            assert_eq!(rt; fault.at, at);
-            assert_eq!(rt; fault.what, what);
-        }
-    }
+    let fault = fault_of(alloc, files);
+    assert_eq!(rt; fault, Some(FeedFault::at(file, at, what)));
 }

@@ -1,66 +1,94 @@
 //! What is read of a feed: its stops, routes, services, calendars and trips.
 
-use crate::test_feeds::{STOPS, TIMES, TRIPS, expect_read, feed_of, small_feed};
-use crate::{Departures, Feed, FeedBytes, read_date, read_time};
-use std::process::Abort;
-use timetable::StopNo;
+use crate::test_feeds::{STOPS, TIMES, TRIPS, feed_in, feed_of, small_feed};
+use crate::{
+    CalendarRow, Departures, ExceptionRow, Feed, FeedBytes, FeedTrip, read_date, read_time,
+};
+use timetable::{Event, StopNo};
 
-// The stops, routes, services and the two trips of the small feed, in seconds.
-fn expect_small(rt: &impl Abort, feed: &Feed) {
-    feed.known();
-    assert_eq!(rt; feed.stop_count(), 3);
-    assert_eq!(rt; feed.stop_id(StopNo(0)), b"A".as_slice());
-    assert_eq!(rt; feed.stop_id(StopNo(2)), b"C".as_slice());
-    assert!(rt; feed.stop_no(b"B") == Some(StopNo(1)));
-    assert!(rt; feed.stop_no(b"Z") == None);
-    assert_eq!(rt; feed.route_no(b"R2"), Some(1));
-    assert_eq!(rt; feed.route_no(b"R3"), None);
-    assert_eq!(rt; feed.service_count(), 1);
-    assert_eq!(rt; feed.service_no(b"MON"), Some(0));
-    assert_eq!(rt; feed.service_no(b"mon"), None);
-    assert_eq!(rt; feed.aside(), 0);
-    expect_trips(rt, feed);
+// Whether a feed has the stops, routes, services and the two trips of the small feed, in seconds.
+fn is_small(feed: &Feed) -> bool {
+    has_three_stops(feed)
+        && feed.route_no(b"R2") == Some(1)
+        && feed.route_no(b"R3") == None
+        && feed.service_count() == 1
+        && feed.service_no(b"MON") == Some(0)
+        && feed.service_no(b"mon") == None
+        && feed.aside() == 0
+        && has_two_trips(feed)
 }
 
-fn expect_trips(rt: &impl Abort, feed: &Feed) {
-    assert_eq!(rt; feed.trip_count(), 2);
-    assert_eq!(rt; feed.trip_no(b"T1"), Some(0));
-    assert_eq!(rt; feed.trip_no(b"T2"), Some(1));
-    assert_eq!(rt; feed.trip_no(b"T3"), None);
-    for (number, id, on, off) in [
-        (0, b"T1", (0, 28_800), (1, 29_400)),
-        (1, b"T2", (1, 29_700), (2, 30_600)),
-    ] {
-        let trip = feed.trip(number);
-        assert_eq!(rt; trip.id.as_slice(), id.as_slice());
-        assert_eq!(rt; trip.route, number);
-        assert_eq!(rt; trip.service, 0);
-        let events = trip.events.as_slice();
-        assert_eq!(rt; events.len(), 2);
-        for (event, (stop, time)) in [(events[0], on), (events[1], off)] {
-            assert_eq!(rt; event.stop, StopNo(stop));
-            assert_eq!(rt; event.arrive, time);
-            assert_eq!(rt; event.depart, time);
-            assert!(rt; event.board && event.alight);
-        }
+fn has_three_stops(feed: &Feed) -> bool {
+    feed.stop_count() == 3
+        && has_stop(feed, 0, b"A")
+        && has_stop(feed, 2, b"C")
+        && feed.stop_no(b"B") == Some(StopNo(1))
+        && feed.stop_no(b"Z") == None
+}
+
+// Whether the stop of a number has this identifier.
+fn has_stop(feed: &Feed, stop: u32, id: &[u8]) -> bool {
+    stop < feed.stop_count() && feed.stop_id(StopNo(stop)) == id
+}
+
+fn has_two_trips(feed: &Feed) -> bool {
+    feed.trip_count() == 2
+        && feed.trip_no(b"T1") == Some(0)
+        && feed.trip_no(b"T2") == Some(1)
+        && feed.trip_no(b"T3") == None
+        && is_trip(feed.trip(0), b"T1", 0, &[at(0, 28_800), at(1, 29_400)])
+        && is_trip(feed.trip(1), b"T2", 1, &[at(1, 29_700), at(2, 30_600)])
+}
+
+// Whether a trip of the first service has this identifier, route and events.
+fn is_trip(trip: &FeedTrip, id: &[u8], route: u32, events: &[Event]) -> bool {
+    trip.id.as_slice() == id
+        && trip.route == route
+        && trip.service == 0
+        && trip.events.as_slice() == events
+}
+
+// A stay of no length at a stop, where travellers may board and alight.
+fn at(stop: u32, time: u32) -> Event {
+    Event {
+        stop: StopNo(stop),
+        arrive: time,
+        depart: time,
+        board: true,
+        alight: true,
     }
+}
+
+// Whether a feed has the calendar of the small feed, no exceptions, and a first trip without departures of its own.
+fn runs_on_mondays(feed: &Feed) -> bool {
+    let rows = feed.calendar();
+    feed.trip_count() > 0
+        && feed.trip(0).departures.as_slice().is_empty()
+        && feed.exceptions().is_empty()
+        && rows.len() == 1
+        && is_every_monday(&rows[0])
+}
+
+// Whether a row is that of the first service on Mondays in May 2026.
+fn is_every_monday(row: &CalendarRow) -> bool {
+    row.service == 0
+        && row.days == [true, false, false, false, false, false, false]
+        && Some(row.first) == read_date(b"20260504")
+        && Some(row.last) == read_date(b" 20260531 ")
 }
 
 #[test]
 fn reads_a_feed(rt: HostRuntime) {
-    let feed = expect_read(&rt, rt.alloc(), small_feed());
-    expect_small(&rt, &feed);
-    assert!(rt; feed.trip_count() > 0 && feed.trip(0).departures.as_slice().is_empty());
-    assert!(rt; feed.exceptions().is_empty());
-    let rows = feed.calendar();
-    assert_eq!(rt; rows.len(), 1);
-    assert_eq!(rt; rows[0].service, 0);
-    assert_eq!(rt;
-        rows[0].days,
-        [true, false, false, false, false, false, false]
-    );
-    assert!(rt; Some(rows[0].first) == read_date(b"20260504"));
-    assert!(rt; Some(rows[0].last) == read_date(b" 20260531 "));
+    let feed = feed_in(rt.alloc(), small_feed());
+    assert!(rt; feed.is_some_and(|feed| is_small(&feed) && runs_on_mondays(&feed)));
+}
+
+// Whether a feed has one row of each calendar, and its second trip one row of departures.
+fn has_calendars_and_departures(feed: &Feed) -> bool {
+    feed.calendar().len() == 1
+        && feed.exceptions().len() == 1
+        && feed.trip_count() == 2
+        && feed.trip(1).departures.as_slice().len() == 1
 }
 
 #[test]
@@ -81,26 +109,23 @@ fn takes_byte_order_marks_and_carriage_returns(rt: HostRuntime) {
         ),
         transfers: None,
     };
-    let feed = expect_read(&rt, rt.alloc(), files);
-    expect_small(&rt, &feed);
-    assert_eq!(rt; feed.calendar().len(), 1);
-    assert_eq!(rt; feed.exceptions().len(), 1);
-    assert!(rt; feed.trip_count() == 2 && feed.trip(1).departures.as_slice().len() == 1);
+    let feed = feed_in(rt.alloc(), files);
+    assert!(rt; feed.is_some_and(|feed| is_small(&feed) && has_calendars_and_departures(&feed)));
 }
 
 #[test]
 fn puts_records_in_order_of_sequence(rt: HostRuntime) {
     let times =
         b"stop_sequence,stop_id,departure_time,arrival_time,trip_id\n 12 ,C, 8:30:00,08:30:00 ,T2\n0010,B,08:10:00,8:10:00,T1\n3,B,08:15:00,08:15:00,T2\n9,A,08:00:00,08:00:00,T1\n";
-    let feed = expect_read(&rt, rt.alloc(), feed_of(STOPS, TRIPS, times));
-    expect_small(&rt, &feed);
+    let feed = feed_in(rt.alloc(), feed_of(STOPS, TRIPS, times));
+    assert!(rt; feed.is_some_and(|feed| is_small(&feed)));
 }
 
 #[test]
 fn counts_stops_alone(rt: HostRuntime) {
     let stops = b"location_type,stop_id\n1,S\n,A\n0,B\n2,E\n00,C\n";
-    let feed = expect_read(&rt, rt.alloc(), feed_of(stops, TRIPS, TIMES));
-    expect_small(&rt, &feed);
+    let feed = feed_in(rt.alloc(), feed_of(stops, TRIPS, TIMES));
+    assert!(rt; feed.is_some_and(|feed| is_small(&feed)));
 }
 
 // The small feed with services that calendar_dates.txt and trips.txt name.
@@ -112,32 +137,59 @@ fn three_services() -> FeedBytes<'static> {
     }
 }
 
+fn has_three_services(feed: &Feed) -> bool {
+    feed.service_count() == 3
+        && feed.service_no(b"MON") == Some(0)
+        && feed.service_no(b"SAT") == Some(1)
+        && feed.service_no(b"NEW") == Some(2)
+}
+
 #[test]
 fn services_are_numbered_as_first_named(rt: HostRuntime) {
-    let feed = expect_read(&rt, rt.alloc(), three_services());
-    assert_eq!(rt; feed.service_count(), 3);
-    assert_eq!(rt; feed.service_no(b"MON"), Some(0));
-    assert_eq!(rt; feed.service_no(b"SAT"), Some(1));
-    assert_eq!(rt; feed.service_no(b"NEW"), Some(2));
+    let feed = feed_in(rt.alloc(), three_services());
+    assert!(rt; feed.is_some_and(|feed| has_three_services(&feed)));
+}
+
+// Whether two trips of the second route run on the third and the second service.
+fn has_trips_of_services(feed: &Feed) -> bool {
+    feed.trip_count() == 2 && runs_on(feed, 0, 1, 2) && runs_on(feed, 1, 1, 1)
+}
+
+// Whether a trip is of this route and runs on this service.
+fn runs_on(feed: &Feed, trip: u32, route: u32, service: u32) -> bool {
+    if trip >= feed.trip_count() {
+        return false;
+    }
+    let trip = feed.trip(trip);
+    trip.route == route && trip.service == service
 }
 
 #[test]
 fn trips_have_routes_and_services(rt: HostRuntime) {
-    let feed = expect_read(&rt, rt.alloc(), three_services());
-    assert_eq!(rt; feed.trip_count(), 2);
-    let first = feed.trip(0);
-    assert_eq!(rt; (first.route, first.service), (1, 2));
-    let second = feed.trip(1);
-    assert_eq!(rt; (second.route, second.service), (1, 1));
+    let feed = feed_in(rt.alloc(), three_services());
+    assert!(rt; feed.is_some_and(|feed| has_trips_of_services(&feed)));
+}
+
+// Whether a date is added to the second service, and then one removed from the first.
+fn has_two_exceptions(feed: &Feed) -> bool {
+    let rows = feed.exceptions();
+    rows.len() == 2 && is_exception(&rows[0], 1, true) && is_exception(&rows[1], 0, false)
+}
+
+// Whether a row adds its date to this service, or removes it from it.
+fn is_exception(row: &ExceptionRow, service: u32, adds: bool) -> bool {
+    row.service == service && row.adds == adds
 }
 
 #[test]
 fn exceptions_have_services(rt: HostRuntime) {
-    let feed = expect_read(&rt, rt.alloc(), three_services());
-    let rows = feed.exceptions();
-    assert_eq!(rt; rows.len(), 2);
-    assert_eq!(rt; (rows[0].service, rows[0].adds), (1, true));
-    assert_eq!(rt; (rows[1].service, rows[1].adds), (0, false));
+    let feed = feed_in(rt.alloc(), three_services());
+    assert!(rt; feed.is_some_and(|feed| has_two_exceptions(&feed)));
+}
+
+// Whether a feed has no row of the first calendar, and one exception.
+fn has_one_exception(feed: &Feed) -> bool {
+    feed.calendar().is_empty() && feed.exceptions().len() == 1
 }
 
 #[test]
@@ -147,24 +199,12 @@ fn one_calendar_is_enough(rt: HostRuntime) {
         calendar_dates: Some(b"service_id,date,exception_type\nMON,20260504,1\n"),
         ..small_feed()
     };
-    let feed = expect_read(&rt, rt.alloc(), files);
-    expect_small(&rt, &feed);
-    assert!(rt; feed.calendar().is_empty());
-    assert_eq!(rt; feed.exceptions().len(), 1);
+    let feed = feed_in(rt.alloc(), files);
+    assert!(rt; feed.is_some_and(|feed| is_small(&feed) && has_one_exception(&feed)));
 }
 
-#[test]
-fn departures_of_each_trip(rt: HostRuntime) {
-    let files = FeedBytes {
-        frequencies: Some(
-            b"trip_id,start_time,end_time,headway_secs,exact_times\nT2,08:00:00,09:00:00,600,1\nT2,12:00:00,11:00:00,1,0\n",
-        ),
-        ..small_feed()
-    };
-    let feed = expect_read(&rt, rt.alloc(), files);
-    expect_small(&rt, &feed);
-    assert_eq!(rt; feed.trip_count(), 2);
-    assert!(rt; feed.trip(0).departures.as_slice().is_empty());
+// Whether the second of two trips departs every ten minutes from eight to nine, and then never, and the first has no departures.
+fn has_departures(feed: &Feed) -> bool {
     let early = Departures {
         start: 28_800,
         end: 32_400,
@@ -175,10 +215,28 @@ fn departures_of_each_trip(rt: HostRuntime) {
         end: 39_600,
         headway: 1,
     };
-    assert_eq!(rt;
-        feed.trip(1).departures.as_slice(),
-        [early, never].as_slice()
-    );
+    feed.trip_count() == 2 && departs(feed, 0, &[]) && departs(feed, 1, &[early, never])
+}
+
+// Whether a trip has these rows of departures.
+fn departs(feed: &Feed, trip: u32, rows: &[Departures]) -> bool {
+    trip < feed.trip_count() && feed.trip(trip).departures.as_slice() == rows
+}
+
+#[test]
+fn departures_of_each_trip(rt: HostRuntime) {
+    let files = FeedBytes {
+        frequencies: Some(
+            b"trip_id,start_time,end_time,headway_secs,exact_times\nT2,08:00:00,09:00:00,600,1\nT2,12:00:00,11:00:00,1,0\n",
+        ),
+        ..small_feed()
+    };
+    let feed = feed_in(rt.alloc(), files);
+    assert!(rt; feed.is_some_and(|feed| is_small(&feed) && has_departures(&feed)));
+}
+
+fn is_empty(feed: &Feed) -> bool {
+    feed.stop_count() == 0 && feed.service_count() == 0 && feed.trip_count() == 0
 }
 
 #[test]
@@ -194,44 +252,52 @@ fn an_empty_feed(rt: HostRuntime) {
             b"trip_id,stop_id,stop_sequence\n",
         )
     };
-    let feed = expect_read(&rt, rt.alloc(), files);
-    assert_eq!(rt; feed.stop_count(), 0);
-    assert_eq!(rt; feed.service_count(), 0);
-    assert_eq!(rt; feed.trip_count(), 0);
+    let feed = feed_in(rt.alloc(), files);
+    assert!(rt; feed.is_some_and(|feed| is_empty(&feed)));
+}
+
+#[test]
+fn times_and_dates_of_texts(rt: HostRuntime) {
     assert!(rt; read_time(b" 167:59:59 ") == Some(604_799));
     assert!(rt; read_date(b"20260230").is_none());
+}
+
+// Whether the first of two trips is set aside, and has no events, and the second has two.
+fn has_one_aside(feed: &Feed) -> bool {
+    feed.aside() == 1
+        && feed.trip_count() == 2
+        && has_events(feed, 0, &[])
+        && has_events(feed, 1, &[at(1, 29_700), at(2, 30_600)])
+}
+
+// Whether a trip has these events.
+fn has_events(feed: &Feed, trip: u32, events: &[Event]) -> bool {
+    trip < feed.trip_count() && feed.trip(trip).events.as_slice() == events
 }
 
 #[test]
 fn trips_with_a_record_of_no_stop_are_set_aside(rt: HostRuntime) {
     let times =
         b"trip_id,arrival_time,departure_time,stop_id,stop_sequence\nT1,08:00:00,08:00:00,A,1\nT1,,,,2\nT2,08:15:00,08:15:00,B,1\nT2,08:30:00,08:30:00,C,2\n";
-    let feed = expect_read(&rt, rt.alloc(), feed_of(STOPS, TRIPS, times));
-    assert_eq!(rt; feed.aside(), 1);
-    assert_eq!(rt; feed.trip_count(), 2);
-    if feed.trip_count() == 2 {
-        assert!(rt; feed.trip(0).events.as_slice().is_empty());
-        assert_eq!(rt; feed.trip(1).events.as_slice().len(), 2);
-    }
+    let feed = feed_in(rt.alloc(), feed_of(STOPS, TRIPS, times));
+    assert!(rt; feed.is_some_and(|feed| has_one_aside(&feed)));
+}
+
+// Whether the first of two trips has three events, with a time between, of which each forbids boarding or alighting.
+fn has_open_times(feed: &Feed) -> bool {
+    let mut first = at(0, 32_400);
+    first.alight = false;
+    let mut second = at(1, 32_700);
+    second.board = false;
+    let mut third = at(2, 33_000);
+    third.alight = false;
+    feed.trip_count() == 2 && has_events(feed, 0, &[first, second, third])
 }
 
 #[test]
 fn open_times_and_pickups(rt: HostRuntime) {
     let times =
         b"trip_id,arrival_time,departure_time,stop_id,stop_sequence,pickup_type,drop_off_type\nT1,09:00:00,,A,1,,1\nT1,,,B,2,1,0\nT1,,09:10:00,C,3,2,01\n";
-    let feed = expect_read(&rt, rt.alloc(), feed_of(STOPS, TRIPS, times));
-    if feed.trip_count() != 2 || feed.trip(0).events.as_slice().len() != 3 {
-        panic!(rt; "a trip of three events");
-    }
-    let events = feed.trip(0).events.as_slice();
-    for (event, time, board, alight) in [
-        (events[0], 32_400, true, false),
-        (events[1], 32_700, false, true),
-        (events[2], 33_000, true, false),
-    ] {
-        assert_eq!(rt; event.arrive, time);
-        assert_eq!(rt; event.depart, time);
-        assert_eq!(rt; event.board, board);
-        assert_eq!(rt; event.alight, alight);
-    }
+    let feed = feed_in(rt.alloc(), feed_of(STOPS, TRIPS, times));
+    assert!(rt; feed.is_some_and(|feed| has_open_times(&feed)));
 }

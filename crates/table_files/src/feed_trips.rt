@@ -150,27 +150,12 @@ pub fn read_feed_trips(
 #[cfg(test)]
 mod tests {
     use super::*;
+    use std::alloc::AllocError;
+    use std::process::Abort;
     use std::test::Fail;
 
-    #[test]
-    fn trips_have_routes_and_services(rt: HostRuntime) -> Result<(), Fail> {
-        let alloc = rt.alloc();
-        let mut routes = Identifiers::new(alloc);
-        routes.push(alloc, b"R1")?;
-        routes.push(alloc, b"R2")?;
-        let mut services = Identifiers::new(alloc);
-        services.push(alloc, b"MON")?;
-        if routes.len() > 2 || services.len() > 1 {
-            return Ok(());
-        }
-        let trips = read_feed_trips(
-            alloc,
-            b"route_id,service_id,trip_id\nR1,MON,T1\nR2,NEW,T2\nR1,NEW,T3\n",
-            &routes,
-            services,
-        )?;
-        assert_eq!(rt; trips.ids.number(b"T3"), Some(2));
-        assert_eq!(rt; trips.services.number(b"NEW"), Some(1));
+    // Whether the trips T1, T2 and T3 have their routes and services, of which NEW is the second.
+    fn has_three_trips(trips: &FeedTrips) -> bool {
         let first = TripNumbers {
             route: 0,
             service: 0,
@@ -183,59 +168,99 @@ mod tests {
             route: 0,
             service: 1,
         };
-        assert_eq!(rt; trips.numbers.as_slice(), [first, second, third].as_slice());
-        Ok(())
+        trips.ids.number(b"T3") == Some(2)
+            && trips.services.number(b"NEW") == Some(1)
+            && trips.numbers.as_slice() == [first, second, third].as_slice()
+    }
+
+    // The identifiers of two routes.
+    fn two_routes(alloc: Global) -> Result<Identifiers, AllocError> {
+        let mut routes = Identifiers::new(alloc);
+        routes.push(alloc, b"R1")?;
+        routes.push(alloc, b"R2")?;
+        Ok(routes)
+    }
+
+    // Whether three trips of two routes, with a service that no calendar names, are read as such.
+    fn reads_three_trips(alloc: Global) -> Result<bool, FeedFault> {
+        let routes = two_routes(alloc)?;
+        let mut services = Identifiers::new(alloc);
+        services.push(alloc, b"MON")?;
+        if routes.len() > 2 || services.len() > 1 {
+            return Ok(false);
+        }
+        let trips = read_feed_trips(
+            alloc,
+            b"route_id,service_id,trip_id\nR1,MON,T1\nR2,NEW,T2\nR1,NEW,T3\n",
+            &routes,
+            services,
+        )?;
+        Ok(has_three_trips(&trips))
     }
 
     #[test]
-    fn refusals(rt: HostRuntime) -> Result<(), Fail> {
-        let alloc = rt.alloc();
+    fn trips_have_routes_and_services(rt: HostRuntime) -> Result<(), Fail> {
+        assert!(rt; reads_three_trips(rt.alloc())?);
+        Ok(())
+    }
+
+    // The fault of a file beside the route R1, none where it has none.
+    fn fault_of(alloc: Global, bytes: &[u8]) -> Option<FeedFault>
+        requires { length bytes.now ≤ 1073741824 }
+    {
         let mut routes = Identifiers::new(alloc);
-        routes.push(alloc, b"R1")?;
+        routes.push(alloc, b"R1").ok()?;
         if routes.len() > 1 {
-            return Ok(());
+            return None;
         }
-        let file = FileName::Trips;
-        let route = read_feed_trips(
+        read_feed_trips(alloc, bytes, &routes, Identifiers::new(alloc)).err()
+    }
+
+    // A file is refused for this fault.
+    fn expect_fault(rt: &impl Abort, alloc: Global, bytes: &'static [u8], at: u64, what: What)
+        requires { length bytes.now ≤ 1073741824 }
+    {
+        let fault = fault_of(alloc, bytes);
+        assert_eq!(rt; fault, Some(FeedFault::at(FileName::Trips, at, what)));
+    }
+
+    #[test]
+    fn refusals(rt: HostRuntime) {
+        let alloc = rt.alloc();
+        expect_fault(
+            &rt,
             alloc,
             b"route_id,service_id,trip_id\nR1,MON,T1\nR3,,\n",
-            &routes,
-            Identifiers::new(alloc),
-        )
-        .err();
-        assert_eq!(rt; route, Some(FeedFault::at(file, 3, What::UnknownRoute)));
-        let twice = read_feed_trips(
+            3,
+            What::UnknownRoute,
+        );
+        expect_fault(
+            &rt,
             alloc,
             b"route_id,service_id,trip_id\nR1,MON,T1\nR1,MON,T1\n",
-            &routes,
-            Identifiers::new(alloc),
-        )
-        .err();
-        assert_eq!(rt; twice, Some(FeedFault::at(file, 3, What::DuplicateId)));
-        let service = read_feed_trips(
+            3,
+            What::DuplicateId,
+        );
+        expect_fault(
+            &rt,
             alloc,
             b"route_id,service_id,trip_id\nR1,,T1\n",
-            &routes,
-            Identifiers::new(alloc),
-        )
-        .err();
-        assert_eq!(rt; service, Some(FeedFault::at(file, 2, What::EmptyId)));
-        let trip = read_feed_trips(
+            2,
+            What::EmptyId,
+        );
+        expect_fault(
+            &rt,
             alloc,
             b"route_id,service_id,trip_id\nR1,MON,\n",
-            &routes,
-            Identifiers::new(alloc),
-        )
-        .err();
-        assert_eq!(rt; trip, Some(FeedFault::at(file, 2, What::EmptyId)));
-        let column = read_feed_trips(
+            2,
+            What::EmptyId,
+        );
+        expect_fault(
+            &rt,
             alloc,
             b"route_id,trip_id\nR1,T1\n",
-            &routes,
-            Identifiers::new(alloc),
-        )
-        .err();
-        assert_eq!(rt; column, Some(FeedFault::at(file, 1, What::MissingColumn)));
-        Ok(())
+            1,
+            What::MissingColumn,
+        );
     }
 }

@@ -175,6 +175,7 @@ pub fn read_frequencies(
 #[cfg(test)]
 mod tests {
     use super::*;
+    use std::process::Abort;
     use std::test::Fail;
 
     fn two_trips(alloc: Global) -> Result<Identifiers, AllocError> {
@@ -184,17 +185,22 @@ mod tests {
         Ok(trips)
     }
 
+    // Whether the second of two trips has these departures, and the first has none.
+    fn has_departures(rows: &[Vec<Departures>], second: &[Departures]) -> bool {
+        rows.len() == 2 && rows[0].len() == 0 && rows[1].as_slice() == second
+    }
+
+    // Whether the rows of a file are the departures of the second of two trips.
+    fn gives(alloc: Global, bytes: &[u8], second: &[Departures]) -> Result<bool, FeedFault>
+        requires { length bytes.now ≤ 1073741824 }
+    {
+        let trips = two_trips(alloc)?;
+        let rows = read_frequencies(alloc, bytes, &trips)?;
+        Ok(has_departures(rows.as_slice(), second))
+    }
+
     #[test]
     fn rows_of_each_trip(rt: HostRuntime) -> Result<(), Fail> {
-        let trips = two_trips(rt.alloc())?;
-        let rows = read_frequencies(
-            rt.alloc(),
-            b"trip_id,start_time,end_time,headway_secs\nT2,08:00:00,08:20:00,600\nT2,10:00:00,09:00:00,1\n",
-            &trips,
-        )?;
-        assert_eq!(rt; rows.len(), 2);
-        assert_eq!(rt; rows[0].len(), 0);
-        assert_eq!(rt; rows[1].len(), 2);
         let early = Departures {
             start: 28_800,
             end: 30_000,
@@ -205,57 +211,75 @@ mod tests {
             end: 32_400,
             headway: 1,
         };
-        assert_eq!(rt; rows[1].as_slice(), [early, none].as_slice());
+        let holds = gives(
+            rt.alloc(),
+            b"trip_id,start_time,end_time,headway_secs\nT2,08:00:00,08:20:00,600\nT2,10:00:00,09:00:00,1\n",
+            &[early, none],
+        )?;
+        assert!(rt; holds);
         Ok(())
     }
 
+    // The fault of a file beside two trips, none where it has none.
+    fn fault_of(alloc: Global, bytes: &[u8]) -> Option<FeedFault>
+        requires { length bytes.now ≤ 1073741824 }
+    {
+        let trips = two_trips(alloc).ok()?;
+        read_frequencies(alloc, bytes, &trips).err()
+    }
+
+    // A file is refused for this fault.
+    fn expect_fault(rt: &impl Abort, alloc: Global, bytes: &'static [u8], at: u64, what: What)
+        requires { length bytes.now ≤ 1073741824 }
+    {
+        let fault = fault_of(alloc, bytes);
+        assert_eq!(rt; fault, Some(FeedFault::at(FileName::Frequencies, at, what)));
+    }
+
     #[test]
-    fn refusals(rt: HostRuntime) -> Result<(), Fail> {
+    fn refusals(rt: HostRuntime) {
         let alloc = rt.alloc();
-        let trips = two_trips(alloc)?;
-        let file = FileName::Frequencies;
-        let headway = read_frequencies(
+        expect_fault(
+            &rt,
             alloc,
             b"trip_id,start_time,end_time,headway_secs\nT1,08:00:00,08:20:00,0\n",
-            &trips,
-        )
-        .err();
-        assert_eq!(rt; headway, Some(FeedFault::at(file, 2, What::BadNumber)));
-        let trip = read_frequencies(
+            2,
+            What::BadNumber,
+        );
+        expect_fault(
+            &rt,
             alloc,
             b"trip_id,start_time,end_time,headway_secs\nT9,,,\n",
-            &trips,
-        )
-        .err();
-        assert_eq!(rt; trip, Some(FeedFault::at(file, 2, What::UnknownTrip)));
-        let empty = read_frequencies(
+            2,
+            What::UnknownTrip,
+        );
+        expect_fault(
+            &rt,
             alloc,
             b"trip_id,start_time,end_time,headway_secs\nT1,08:00:00,08:20:00,1\n,,,\n",
-            &trips,
-        )
-        .err();
-        assert_eq!(rt; empty, Some(FeedFault::at(file, 3, What::EmptyId)));
-        let start = read_frequencies(
+            3,
+            What::EmptyId,
+        );
+        expect_fault(
+            &rt,
             alloc,
             b"trip_id,start_time,end_time,headway_secs\nT1,,08:20:00,1\n",
-            &trips,
-        )
-        .err();
-        assert_eq!(rt; start, Some(FeedFault::at(file, 2, What::BadTime)));
-        let end = read_frequencies(
+            2,
+            What::BadTime,
+        );
+        expect_fault(
+            &rt,
             alloc,
             b"trip_id,start_time,end_time,headway_secs\nT1,08:00:00,168:00:00,1\n",
-            &trips,
-        )
-        .err();
-        assert_eq!(rt; end, Some(FeedFault::at(file, 2, What::BadTime)));
-        let column = read_frequencies(
+            2,
+            What::BadTime,
+        );
+        expect_fault(
+            &rt,
             alloc,
             b"trip_id,start_time,end_time\nT1,08:00:00,08:20:00\n",
-            &trips,
-        )
-        .err();
-        assert_eq!(rt; column, Some(FeedFault::at(file, 1, What::MissingColumn)));
-        Ok(())
+            1,
+            What::MissingColumn,
+        );
     }
 }

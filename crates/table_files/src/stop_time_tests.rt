@@ -4,6 +4,7 @@ ghost use Rattle.std.specs.Prelude.{◌≤◌, length};
 
 use crate::{StopTimes, read_stop_times};
 use std::alloc::Global;
+use std::process::Abort;
 use std::test::Fail;
 use table_records::{FeedFault, FileName, Identifiers, What};
 use timetable::{Event, StopNo};
@@ -43,247 +44,372 @@ fn event(stop: u32, arrive: u32, depart: u32) -> Event {
     }
 }
 
-fn fault(at: u64, what: What) -> Option<FeedFault> {
-    Some(FeedFault::at(FileName::StopTimes, at, what))
+// Whether the two trips have these events, and so many trips are set aside.
+fn has_events(times: &StopTimes, first: &[Event], second: &[Event], aside: u32) -> bool {
+    times.trips.len() == 2
+        && events(times, 0) == first
+        && events(times, 1) == second
+        && times.aside == aside
+}
+
+// Whether a file gives the two trips these events, and sets so many trips aside.
+fn gives(
+    alloc: Global,
+    bytes: &[u8],
+    first: &[Event],
+    second: &[Event],
+    aside: u32,
+) -> Result<bool, FeedFault>
+    requires { length bytes.now ≤ 1073741824 }
+{
+    let times = read(alloc, bytes)?;
+    Ok(has_events(&times, first, second, aside))
+}
+
+// The fault of a file, none where it has none.
+fn fault_of(alloc: Global, bytes: &[u8]) -> Option<FeedFault>
+    requires { length bytes.now ≤ 1073741824 }
+{
+    read(alloc, bytes).err()
+}
+
+// A file is refused for this fault.
+fn expect_fault(rt: &impl Abort, alloc: Global, bytes: &'static [u8], at: u64, what: What)
+    requires { length bytes.now ≤ 1073741824 }
+{
+    let fault = fault_of(alloc, bytes);
+    assert_eq!(rt; fault, Some(FeedFault::at(FileName::StopTimes, at, what)));
 }
 
 #[test]
 fn times_between_timed_events(rt: HostRuntime) -> Result<(), Fail> {
-    let times = read(
-        rt.alloc(),
-        b"trip_id,stop_id,stop_sequence,arrival_time,departure_time\nT1,A,1,09:00:00,09:00:00\nT1,B,2,,\nT1,C,3,09:10:00,09:10:00\n",
-    )?;
     let expected = [
         event(0, NINE, NINE),
         event(1, NINE + 300, NINE + 300),
         event(2, NINE + 600, NINE + 600),
     ];
-    assert_eq!(rt; events(&times, 0), expected.as_slice());
-    assert_eq!(rt; events(&times, 1).len(), 0);
-    assert_eq!(rt; times.trips.len(), 2);
-    assert_eq!(rt; times.aside, 0);
+    let holds = gives(
+        rt.alloc(),
+        b"trip_id,stop_id,stop_sequence,arrival_time,departure_time\nT1,A,1,09:00:00,09:00:00\nT1,B,2,,\nT1,C,3,09:10:00,09:10:00\n",
+        &expected,
+        &[],
+        0,
+    )?;
+    assert!(rt; holds);
     Ok(())
 }
 
 #[test]
 fn times_between_are_rounded_down(rt: HostRuntime) -> Result<(), Fail> {
-    let times = read(
-        rt.alloc(),
-        b"trip_id,stop_id,stop_sequence,arrival_time,departure_time\nT2,C,40,09:00:10,09:00:20\nT2,A,10,08:59:00,09:00:00\nT2,B,30,,\nT2,B,20,  ,\n",
-    )?;
     let expected = [
         event(0, NINE - 60, NINE),
         event(1, NINE + 3, NINE + 3),
         event(1, NINE + 6, NINE + 6),
         event(2, NINE + 10, NINE + 20),
     ];
-    assert_eq!(rt; events(&times, 1), expected.as_slice());
-    assert_eq!(rt; events(&times, 0).len(), 0);
+    let holds = gives(
+        rt.alloc(),
+        b"trip_id,stop_id,stop_sequence,arrival_time,departure_time\nT2,C,40,09:00:10,09:00:20\nT2,A,10,08:59:00,09:00:00\nT2,B,30,,\nT2,B,20,  ,\n",
+        &[],
+        &expected,
+        0,
+    )?;
+    assert!(rt; holds);
     Ok(())
 }
 
 #[test]
 fn one_time_gives_the_other(rt: HostRuntime) -> Result<(), Fail> {
-    let times = read(
-        rt.alloc(),
-        b"trip_id,stop_id,stop_sequence,arrival_time,departure_time\nT1,A,1,,09:00:00\nT1,B,2,09:01:00\nT1,C,3, 9:02:00 ,09:03:00\n",
-    )?;
     let expected = [
         event(0, NINE, NINE),
         event(1, NINE + 60, NINE + 60),
         event(2, NINE + 120, NINE + 180),
     ];
-    assert_eq!(rt; events(&times, 0), expected.as_slice());
-    let times = read(
+    let both = gives(
+        rt.alloc(),
+        b"trip_id,stop_id,stop_sequence,arrival_time,departure_time\nT1,A,1,,09:00:00\nT1,B,2,09:01:00\nT1,C,3, 9:02:00 ,09:03:00\n",
+        &expected,
+        &[],
+        0,
+    )?;
+    assert!(rt; both);
+    let departure = gives(
         rt.alloc(),
         b"departure_time,trip_id,stop_id,stop_sequence\n09:00:00,T1,A,1\n",
+        &[event(0, NINE, NINE)],
+        &[],
+        0,
     )?;
-    assert_eq!(rt; events(&times, 0), [event(0, NINE, NINE)].as_slice());
+    assert!(rt; departure);
     Ok(())
 }
 
 #[test]
 fn one_forbids_boarding_and_alighting(rt: HostRuntime) -> Result<(), Fail> {
-    let times = read(
-        rt.alloc(),
-        b"trip_id,stop_id,stop_sequence,arrival_time,pickup_type,drop_off_type\nT1,A,1,09:00:00,1,0\nT1,A,2,09:00:00,01,2\nT1,A,3,09:00:00,,1\nT1,A,4,09:00:00,3, 001 \nT1,A,5,09:00:00, ,4294967295\n",
-    )?;
     let mut expected = [event(0, NINE, NINE); 5];
     expected[0].board = false;
     expected[1].board = false;
     expected[2].alight = false;
     expected[3].alight = false;
-    assert_eq!(rt; events(&times, 0), expected.as_slice());
+    let holds = gives(
+        rt.alloc(),
+        b"trip_id,stop_id,stop_sequence,arrival_time,pickup_type,drop_off_type\nT1,A,1,09:00:00,1,0\nT1,A,2,09:00:00,01,2\nT1,A,3,09:00:00,,1\nT1,A,4,09:00:00,3, 001 \nT1,A,5,09:00:00, ,4294967295\n",
+        &expected,
+        &[],
+        0,
+    )?;
+    assert!(rt; holds);
     Ok(())
 }
 
 #[test]
-fn ends_need_times(rt: HostRuntime) -> Result<(), Fail> {
+fn ends_need_times(rt: HostRuntime) {
     let alloc = rt.alloc();
-    let first = read(
+    expect_fault(
+        &rt,
         alloc,
         b"trip_id,stop_id,stop_sequence,arrival_time\nT1,C,3,09:00:00\nT1,B,2,09:00:00\nT1,A,1,\n",
+        4,
+        What::NoTime,
     );
-    assert_eq!(rt; first.err(), fault(4, What::NoTime));
-    let last = read(
+    expect_fault(
+        &rt,
         alloc,
         b"trip_id,stop_id,stop_sequence,arrival_time\nT1,C,3,\nT1,B,2,09:00:00\nT1,A,1,09:00:00\n",
+        2,
+        What::NoTime,
     );
-    assert_eq!(rt; last.err(), fault(2, What::NoTime));
-    let both = read(
+    expect_fault(
+        &rt,
         alloc,
         b"trip_id,stop_id,stop_sequence,arrival_time\nT1,B,2,\nT1,A,1,\n",
+        3,
+        What::NoTime,
     );
-    assert_eq!(rt; both.err(), fault(3, What::NoTime));
-    let column = read(alloc, b"trip_id,stop_id,stop_sequence\nT1,B,2\nT1,A,1\n");
-    assert_eq!(rt; column.err(), fault(3, What::NoTime));
-    Ok(())
+    expect_fault(
+        &rt,
+        alloc,
+        b"trip_id,stop_id,stop_sequence\nT1,B,2\nT1,A,1\n",
+        3,
+        What::NoTime,
+    );
 }
 
 #[test]
-fn times_that_go_back(rt: HostRuntime) -> Result<(), Fail> {
+fn times_that_go_back(rt: HostRuntime) {
     let alloc = rt.alloc();
-    let earlier = read(
+    expect_fault(
+        &rt,
         alloc,
         b"trip_id,stop_id,stop_sequence,arrival_time\nT1,A,1,09:00:00\nT1,B,2,08:59:00\nT1,C,3,09:10:00\n",
+        3,
+        What::TimesGoBack,
     );
-    assert_eq!(rt; earlier.err(), fault(3, What::TimesGoBack));
-    let beyond = read(
+    expect_fault(
+        &rt,
         alloc,
         b"trip_id,stop_id,stop_sequence,arrival_time\nT1,A,1,09:00:00\nT1,B,2,\nT1,C,3,08:59:59\n",
+        4,
+        What::TimesGoBack,
     );
-    assert_eq!(rt; beyond.err(), fault(4, What::TimesGoBack));
-    let within = read(
+    expect_fault(
+        &rt,
         alloc,
         b"trip_id,stop_id,stop_sequence,arrival_time,departure_time\nT1,A,1,09:00:01,09:00:00\n",
+        2,
+        What::TimesGoBack,
     );
-    assert_eq!(rt; within.err(), fault(2, What::TimesGoBack));
-    let second_trip = read(
+    expect_fault(
+        &rt,
         alloc,
         b"trip_id,stop_id,stop_sequence,arrival_time\nT2,A,1,\nT1,A,1,09:00:00\nT1,B,2,08:59:00\n",
+        4,
+        What::TimesGoBack,
     );
-    assert_eq!(rt; second_trip.err(), fault(4, What::TimesGoBack));
-    Ok(())
 }
 
 #[test]
 fn trips_set_aside(rt: HostRuntime) -> Result<(), Fail> {
     let alloc = rt.alloc();
-    let times = read(
+    let one = gives(
         alloc,
         b"trip_id,stop_id,stop_sequence,arrival_time\nT1,A,1,\nT1,,2,09:00:00\nT1,B,3,08:00:00\nT2,B,1,09:00:00\n",
+        &[],
+        &[event(1, NINE, NINE)],
+        1,
     )?;
-    assert_eq!(rt; events(&times, 0).len(), 0);
-    assert_eq!(rt; events(&times, 1), [event(1, NINE, NINE)].as_slice());
-    assert_eq!(rt; times.aside, 1);
-    let duplicate = read(
+    assert!(rt; one);
+    expect_fault(
+        &rt,
         alloc,
         b"trip_id,stop_id,stop_sequence,arrival_time\nT1,,2,09:00:00\nT1,A,002,\n",
+        3,
+        What::DuplicateId,
     );
-    assert_eq!(rt; duplicate.err(), fault(3, What::DuplicateId));
-    let blank = read(
+    expect_fault(
+        &rt,
         alloc,
         b"trip_id,stop_id,stop_sequence,arrival_time\nT1, ,2,09:00:00\n",
+        2,
+        What::UnknownStop,
     );
-    assert_eq!(rt; blank.err(), fault(2, What::UnknownStop));
     Ok(())
 }
 
 #[test]
 fn leading_zeros(rt: HostRuntime) -> Result<(), Fail> {
     let alloc = rt.alloc();
-    let times = read(
-        alloc,
-        b"trip_id,stop_id,stop_sequence,arrival_time,pickup_type\nT1,B,00000000000000000000000000000000000000004294967295,09:00:00,00000000000000000000000000000000000000001\nT1,A,00000000000000000000000000000000000000002,09:00:00,\n",
-    )?;
     let mut expected = [event(0, NINE, NINE), event(1, NINE, NINE)];
     expected[1].board = false;
-    assert_eq!(rt; events(&times, 0), expected.as_slice());
-    let large = read(
+    let holds = gives(
+        alloc,
+        b"trip_id,stop_id,stop_sequence,arrival_time,pickup_type\nT1,B,00000000000000000000000000000000000000004294967295,09:00:00,00000000000000000000000000000000000000001\nT1,A,00000000000000000000000000000000000000002,09:00:00,\n",
+        &expected,
+        &[],
+        0,
+    )?;
+    assert!(rt; holds);
+    expect_fault(
+        &rt,
         alloc,
         b"trip_id,stop_id,stop_sequence,arrival_time\nT1,B,4294967296,09:00:00\n",
+        2,
+        What::BadNumber,
     );
-    assert_eq!(rt; large.err(), fault(2, What::BadNumber));
     Ok(())
 }
 
 #[test]
-fn records_that_are_refused(rt: HostRuntime) -> Result<(), Fail> {
+fn records_that_are_refused(rt: HostRuntime) {
     let alloc = rt.alloc();
-    let column = read(alloc, b"trip_id,stop_id\nT1,A\n");
-    assert_eq!(rt; column.err(), fault(1, What::MissingColumn));
-    let nothing = read(alloc, b"");
-    assert_eq!(rt; nothing.err(), fault(1, What::MissingColumn));
-    let trip = read(alloc, b"trip_id,stop_id,stop_sequence\n,A,1\n");
-    assert_eq!(rt; trip.err(), fault(2, What::EmptyId));
-    let unknown = read(alloc, b"trip_id,stop_id,stop_sequence\nT3,A,1\n");
-    assert_eq!(rt; unknown.err(), fault(2, What::UnknownTrip));
-    let stop = read(alloc, b"trip_id,stop_id,stop_sequence\nT1,D,1\n");
-    assert_eq!(rt; stop.err(), fault(2, What::UnknownStop));
-    let sequence = read(alloc, b"trip_id,stop_id,stop_sequence\nT1,A,\n");
-    assert_eq!(rt; sequence.err(), fault(2, What::BadNumber));
-    let blank = read(alloc, b"trip_id,stop_id,stop_sequence\nT1,A,  \n");
-    assert_eq!(rt; blank.err(), fault(2, What::BadNumber));
-    let twice = read(
+    expect_fault(
+        &rt,
+        alloc,
+        b"trip_id,stop_id\nT1,A\n",
+        1,
+        What::MissingColumn,
+    );
+    expect_fault(&rt, alloc, b"", 1, What::MissingColumn);
+    expect_fault(
+        &rt,
+        alloc,
+        b"trip_id,stop_id,stop_sequence\n,A,1\n",
+        2,
+        What::EmptyId,
+    );
+    expect_fault(
+        &rt,
+        alloc,
+        b"trip_id,stop_id,stop_sequence\nT3,A,1\n",
+        2,
+        What::UnknownTrip,
+    );
+    expect_fault(
+        &rt,
+        alloc,
+        b"trip_id,stop_id,stop_sequence\nT1,D,1\n",
+        2,
+        What::UnknownStop,
+    );
+    expect_fault(
+        &rt,
+        alloc,
+        b"trip_id,stop_id,stop_sequence\nT1,A,\n",
+        2,
+        What::BadNumber,
+    );
+    expect_fault(
+        &rt,
+        alloc,
+        b"trip_id,stop_id,stop_sequence\nT1,A,  \n",
+        2,
+        What::BadNumber,
+    );
+    expect_fault(
+        &rt,
         alloc,
         b"trip_id,stop_id,stop_sequence,arrival_time\nT1,A,1,09:00:00\nT2,A,1,09:00:00\nT1,B, 01 ,09:00:00\n",
+        4,
+        What::DuplicateId,
     );
-    assert_eq!(rt; twice.err(), fault(4, What::DuplicateId));
-    Ok(())
 }
 
 #[test]
-fn fields_that_are_refused(rt: HostRuntime) -> Result<(), Fail> {
+fn fields_that_are_refused(rt: HostRuntime) {
     let alloc = rt.alloc();
-    let arrival = read(
+    expect_fault(
+        &rt,
         alloc,
         b"trip_id,stop_id,stop_sequence,arrival_time\nT1,A,1,09:00\n",
+        2,
+        What::BadTime,
     );
-    assert_eq!(rt; arrival.err(), fault(2, What::BadTime));
-    let departure = read(
+    expect_fault(
+        &rt,
         alloc,
         b"trip_id,stop_id,stop_sequence,departure_time\nT1,A,1,168:00:00\n",
+        2,
+        What::BadTime,
     );
-    assert_eq!(rt; departure.err(), fault(2, What::BadTime));
-    let pickup = read(
+    expect_fault(
+        &rt,
         alloc,
         b"trip_id,stop_id,stop_sequence,pickup_type\nT1,A,1,no\n",
+        2,
+        What::BadNumber,
     );
-    assert_eq!(rt; pickup.err(), fault(2, What::BadNumber));
-    let drop_off = read(
+    expect_fault(
+        &rt,
         alloc,
         b"trip_id,stop_id,stop_sequence,drop_off_type\nT1,A,1,-1\n",
+        2,
+        What::BadNumber,
     );
-    assert_eq!(rt; drop_off.err(), fault(2, What::BadNumber));
-    Ok(())
 }
 
 #[test]
-fn first_of_two_faults(rt: HostRuntime) -> Result<(), Fail> {
+fn first_of_two_faults(rt: HostRuntime) {
     let alloc = rt.alloc();
-    let trip_and_stop = read(alloc, b"trip_id,stop_id,stop_sequence\nT3,D,x\n");
-    assert_eq!(rt; trip_and_stop.err(), fault(2, What::UnknownTrip));
-    let stop_and_sequence = read(alloc, b"trip_id,stop_id,stop_sequence\nT1,D,x\n");
-    assert_eq!(rt; stop_and_sequence.err(), fault(2, What::UnknownStop));
-    let number_and_time = read(
+    expect_fault(
+        &rt,
+        alloc,
+        b"trip_id,stop_id,stop_sequence\nT3,D,x\n",
+        2,
+        What::UnknownTrip,
+    );
+    expect_fault(
+        &rt,
+        alloc,
+        b"trip_id,stop_id,stop_sequence\nT1,D,x\n",
+        2,
+        What::UnknownStop,
+    );
+    expect_fault(
+        &rt,
         alloc,
         b"trip_id,stop_id,stop_sequence,arrival_time\nT1,A,x,x\n",
+        2,
+        What::BadNumber,
     );
-    assert_eq!(rt; number_and_time.err(), fault(2, What::BadNumber));
-    let duplicate_and_time = read(
+    expect_fault(
+        &rt,
         alloc,
         b"trip_id,stop_id,stop_sequence,arrival_time\nT1,A,1,09:00:00\nT1,A,1,x\n",
+        3,
+        What::DuplicateId,
     );
-    assert_eq!(rt; duplicate_and_time.err(), fault(3, What::DuplicateId));
-    let time_and_pickup = read(
+    expect_fault(
+        &rt,
         alloc,
         b"trip_id,stop_id,stop_sequence,departure_time,pickup_type\nT1,A,1,x,x\n",
+        2,
+        What::BadTime,
     );
-    assert_eq!(rt; time_and_pickup.err(), fault(2, What::BadTime));
-    let record_and_trip = read(
+    expect_fault(
+        &rt,
         alloc,
         b"trip_id,stop_id,stop_sequence,arrival_time\nT1,A,1,\nT1,B,2,x\n",
+        3,
+        What::BadTime,
     );
-    assert_eq!(rt; record_and_trip.err(), fault(3, What::BadTime));
-    Ok(())
 }

@@ -257,6 +257,7 @@ pub fn read_transfers(alloc: Global, bytes: &[u8], places: &Places) -> Result<Tr
 mod tests {
     use super::*;
     use crate::places::read_places;
+    use std::process::Abort;
     use std::test::Fail;
     use timetable::StopNo;
 
@@ -268,14 +269,22 @@ mod tests {
         )
     }
 
+    // Whether the walks are these, and so many rows give none.
+    fn has_links(transfers: &Transfers, links: &[Link], unused: u32) -> bool {
+        transfers.links.as_slice() == links && transfers.unused == unused
+    }
+
+    // Whether a file gives these walks, and so many of its rows give none.
+    fn gives(alloc: Global, bytes: &[u8], links: &[Link], unused: u32) -> Result<bool, FeedFault>
+        requires { length bytes.now ≤ 1073741824 }
+    {
+        let places = some_places(alloc)?;
+        let transfers = read_transfers(alloc, bytes, &places)?;
+        Ok(has_links(&transfers, links, unused))
+    }
+
     #[test]
     fn stops_and_stations_are_linked(rt: HostRuntime) -> Result<(), Fail> {
-        let places = some_places(rt.alloc())?;
-        let transfers = read_transfers(
-            rt.alloc(),
-            b"from_stop_id,to_stop_id,transfer_type,min_transfer_time\nA,B,2, 60 \nS,S,,30\nB,S,1,0\n",
-            &places,
-        )?;
         let walk = Link {
             origin: Place::Stop(StopNo(0)),
             target: Place::Stop(StopNo(1)),
@@ -294,39 +303,42 @@ mod tests {
             seconds: 0,
             at: 4,
         };
-        assert_eq!(rt;
-            transfers.links.as_slice(),
-            [walk, change, short].as_slice()
-        );
-        assert_eq!(rt; transfers.unused, 0);
+        let holds = gives(
+            rt.alloc(),
+            b"from_stop_id,to_stop_id,transfer_type,min_transfer_time\nA,B,2, 60 \nS,S,,30\nB,S,1,0\n",
+            &[walk, change, short],
+            0,
+        )?;
+        assert!(rt; holds);
         Ok(())
     }
 
     #[test]
     fn rows_without_a_walk_are_counted(rt: HostRuntime) -> Result<(), Fail> {
-        let places = some_places(rt.alloc())?;
+        let walk = Link {
+            origin: Place::Stop(StopNo(0)),
+            target: Place::Stop(StopNo(1)),
+            seconds: 60,
+            at: 10,
+        };
         // A forbidden change, one of a route, one of a trip, no time, no stop, equal stops, a station without stops, an entrance.
-        let transfers = read_transfers(
+        let holds = gives(
             rt.alloc(),
             b"from_stop_id,to_stop_id,transfer_type,min_transfer_time,from_route_id,to_trip_id\n\
 A,B,3,60,,\nA,B,2,60,R1,\nA,Z,2,x,,T1\nA,B,2,  ,,\nA,,2,60,,\nA,A,2,60,,\nS,T,2,60,,\nE,A,2,60,,\nA,B,0,60,,\n",
-            &places,
+            &[walk],
+            8,
         )?;
-        assert_eq!(rt; transfers.unused, 8);
-        assert_eq!(rt; transfers.links.len(), 1);
+        assert!(rt; holds);
         Ok(())
     }
 
     #[test]
     fn no_column_and_no_record_is_needed(rt: HostRuntime) -> Result<(), Fail> {
-        let places = some_places(rt.alloc())?;
-        let empty = read_transfers(rt.alloc(), b"", &places)?;
-        assert_eq!(rt; empty.unused, 0);
-        let none = read_transfers(rt.alloc(), b"from_stop_id,to_stop_id\n", &places)?;
-        assert_eq!(rt; none.unused, 0);
-        let other = read_transfers(rt.alloc(), b"x\ny\nz\n", &places)?;
-        assert_eq!(rt; other.unused, 2);
-        assert_eq!(rt; other.links.len(), 0);
+        let alloc = rt.alloc();
+        assert!(rt; gives(alloc, b"", &[], 0)?);
+        assert!(rt; gives(alloc, b"from_stop_id,to_stop_id\n", &[], 0)?);
+        assert!(rt; gives(alloc, b"x\ny\nz\n", &[], 2)?);
         Ok(())
     }
 
@@ -339,29 +351,44 @@ A,B,3,60,,\nA,B,2,60,R1,\nA,Z,2,x,,T1\nA,B,2,  ,,\nA,,2,60,,\nA,A,2,60,,\nS,T,2,
         read_transfers(alloc, bytes, &places).err()
     }
 
+    // A file is refused for this fault.
+    fn expect_fault(rt: &impl Abort, alloc: Global, bytes: &'static [u8], at: u64, what: What)
+        requires { length bytes.now ≤ 1073741824 }
+    {
+        let fault = fault_of(alloc, bytes);
+        assert_eq!(rt; fault, Some(FeedFault::at(FileName::Transfers, at, what)));
+    }
+
     #[test]
     fn refusals(rt: HostRuntime) {
         let alloc = rt.alloc();
-        let file = FileName::Transfers;
-        let kind = fault_of(
+        expect_fault(
+            &rt,
             alloc,
             b"from_stop_id,to_stop_id,transfer_type,min_transfer_time\nA,B,2,60\n,,two,\n",
+            3,
+            What::BadNumber,
         );
-        assert_eq!(rt; kind, Some(FeedFault::at(file, 3, What::BadNumber)));
-        let from = fault_of(
+        expect_fault(
+            &rt,
             alloc,
             b"from_stop_id,to_stop_id,transfer_type,min_transfer_time\nZ,Y,2,x\n",
+            2,
+            What::UnknownStop,
         );
-        assert_eq!(rt; from, Some(FeedFault::at(file, 2, What::UnknownStop)));
-        let to = fault_of(
+        expect_fault(
+            &rt,
             alloc,
             b"from_stop_id,to_stop_id,transfer_type,min_transfer_time\nA,Y,,x\n",
+            2,
+            What::UnknownStop,
         );
-        assert_eq!(rt; to, Some(FeedFault::at(file, 2, What::UnknownStop)));
-        let time = fault_of(
+        expect_fault(
+            &rt,
             alloc,
             b"from_stop_id,to_stop_id,transfer_type,min_transfer_time\nA,B,,60\nA,A,,x\n",
+            3,
+            What::BadNumber,
         );
-        assert_eq!(rt; time, Some(FeedFault::at(file, 3, What::BadNumber)));
     }
 }
