@@ -6,9 +6,8 @@
 Each folder holds an unpacked feed. The study has 10 origins, departures from 08:00 to 08:09, journeys of at most 4 trips,
 walks of at most 600 seconds, and the one service day of the date. The origins are the first of the folder's `origins.csv`, or
 else of its stops; `footpaths.csv` and the scenarios `cut.csv` and `late.csv` are taken where the folder has them.
-Times are in milliseconds; events per second are the stop events that reading gave, by the time of reading. The peak memory
-is never told to be less than this script's own, some 14 MB.
-Standard library only.
+Times are in milliseconds, each with the most memory that the program held until the end of that stage; events per second are
+the stop events that reading gave, by the time of reading. Standard library only; Linux.
 """
 import argparse
 import csv
@@ -38,18 +37,31 @@ def write_origins(path, stops):
         out.writerows([stop] for stop in stops)
 
 
+def peak_so_far(pid):
+    """The most memory that a process held until now, in MB; none once it has ended."""
+    try:
+        with open("/proc/%d/status" % pid) as file:
+            found = [line.split()[1] for line in file if line.startswith("VmHWM:")]
+    except OSError:
+        return None
+    return int(found[0]) // 1024 if found else None
+
+
 def measured(words):
-    """What the program prints, by the words before each colon, and its peak memory in MB."""
-    with tempfile.TemporaryFile("w+") as out:
-        program = subprocess.Popen([PROGRAM] + words, stdout=out)
-        _, status, usage = os.wait4(program.pid, 0)
-        program.returncode = os.waitstatus_to_exitcode(status)
-        out.seek(0)
-        text = out.read()
-    if program.returncode != 0 or "bytes of text" not in text:
-        sys.exit("%s: no measurement (status %d)\n%s" % (words[0], program.returncode, text))
-    figures = dict(line.rsplit(": ", 1) for line in text.splitlines())
-    return figures, usage.ru_maxrss // 1024
+    """What the program prints, by the words before each colon, and the peak memory at the end of each stage, in MB."""
+    program = subprocess.Popen([PROGRAM] + words, stdout=subprocess.PIPE, text=True)
+    figures, peaks = {}, {}
+    for line in program.stdout:
+        what, _, figure = line.rstrip("\n").rpartition(": ")
+        figures[what] = figure
+        if what.endswith(", ms"):
+            peaks[what[: -len(", ms")]] = peak_so_far(program.pid)
+    _, status, usage = os.wait4(program.pid, 0)
+    program.returncode = os.waitstatus_to_exitcode(status)
+    if program.returncode != 0 or "bytes of text" not in figures:
+        sys.exit("%s: no measurement (status %d)\n%s" % (words[0], program.returncode, figures))
+    whole = usage.ru_maxrss // 1024
+    return figures, [peaks.get(stage) or whole for stage in STAGES]
 
 
 def row_of(folder, date):
@@ -60,12 +72,12 @@ def row_of(folder, date):
         origins = os.path.join(place, "origins.csv")
         write_origins(origins, first_origins(folder))
         words = [folder, date, "08:00:00", "10", "4", "600", there.pop("footpaths.csv", "-"), origins]
-        figures, peak = measured(words + list(there.values()))
-    times = [figures[stage + ", ms"] for stage in STAGES]
+        figures, peaks = measured(words + list(there.values()))
+    times = ["%s (%d MB)" % (figures[stage + ", ms"], peak) for stage, peak in zip(STAGES, peaks)]
     sizes = ["{:,}".format(int(figures[size])) for size in SIZES]
     rate = "{:,}".format(int(figures["stop events per second"]))
     events = "{:,}".format(int(figures["stop events"]))
-    return [os.path.basename(os.path.abspath(folder)), events] + times + [rate, "%d MB" % peak] + sizes
+    return [os.path.basename(os.path.abspath(folder)), events] + times + [rate] + sizes
 
 
 def main():
@@ -75,7 +87,7 @@ def main():
     asked = parser.parse_args()
     if not os.path.exists(PROGRAM):
         sys.exit("%s is not built: run 'rt run' in crates/measure first" % os.path.normpath(PROGRAM))
-    header = ["feed", "stop events"] + STAGES + ["events per second", "peak memory"] + SIZES
+    header = ["feed", "stop events"] + STAGES + ["events per second"] + SIZES
     print("| " + " | ".join(header) + " |")
     print("|" + "---|" * len(header))
     for folder in asked.folder:
