@@ -5,6 +5,7 @@ pub mod Sound
 pub mod StopIds
 pub mod EventCounts
 pub mod Told
+pub mod Times
 pub mod MarkFacts
 pub mod OriginFacts
 pub mod OpportunityFacts

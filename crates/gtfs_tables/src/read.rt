@@ -34,8 +34,8 @@ pub fn read_feed(alloc: Global, files: &FeedBytes<'_>) -> Result<Feed, FeedFault
     let catalog = read_catalog(alloc, files)?;
     let times = times_of(alloc, files, &catalog.trips.ids, catalog.places.stops())?;
     let departures = departures_of(alloc, files, &catalog.trips.ids)?;
-    let transfers = transfers_of(alloc, files, &catalog.places)?;
     let trips = trips_of(alloc, &catalog.trips, times.trips, departures)?;
+    let transfers = transfers_of(alloc, files, &catalog.places)?;
     Ok(Feed::new(catalog, trips, times.aside, transfers))
 }
 
