@@ -26,6 +26,7 @@ pub use footpaths::Feet;
 pub use least::{NEVER, least_durations_are_unique};
 pub use limits::{
     END_OF_AXIS, MOST_EVENTS, MOST_FOOT_SECONDS, MOST_FOOTPATHS, MOST_STOPS, MOST_TRIPS,
+    limits_are_as_stated,
 };
 pub use networks::Network;
 pub use trips::{Event, Events, StopNo, Trip};
