@@ -86,45 +86,30 @@ fn keeps_the_first_row_of_a_place(rt: HostRuntime) -> Result<(), Fail> {
     Ok(())
 }
 
+/// Whether a row is handed back as a stranger.
+fn is_stranger(collector: &mut Collector, row: Row) -> bool
+    requires scenarios { collector.old.scenarios ≡ 3 }
+    requires origins { collector.old.origins ≡ 3 }
+    ensures scenarios { collector.new.scenarios ≡ 3 }
+    ensures origins { collector.new.origins ≡ 3 }
+{
+    matches!(offer(collector, row), Offer::Stranger(_))
+}
+
 #[test]
 fn hands_strangers_back(rt: HostRuntime) -> Result<(), Fail> {
     let alloc = rt.alloc();
     let mut collector = three_by_three(alloc)?;
-    assert!(rt;
-        matches!(
-            offer(&mut collector, row(alloc, 9, 0, 0, 3)?),
-            Offer::Stranger(_)
-        ),
-        "another study"
-    );
-    assert!(rt;
-        matches!(
-            offer(&mut collector, row(alloc, 1, 0, 3, 3)?),
-            Offer::Stranger(_)
-        ),
-        "origin 3"
-    );
-    assert!(rt;
-        matches!(
-            offer(&mut collector, row(alloc, 1, 3, 0, 3)?),
-            Offer::Stranger(_)
-        ),
-        "scenario 3"
-    );
-    assert!(rt;
-        matches!(
-            offer(&mut collector, row(alloc, 1, 0, 0, 2)?),
-            Offer::Stranger(_)
-        ),
-        "two cells"
-    );
-    assert!(rt;
-        matches!(
-            offer(&mut collector, row(alloc, 1, 0, 0, 4)?),
-            Offer::Stranger(_)
-        ),
-        "four cells"
-    );
+    let another_study = row(alloc, 9, 0, 0, 3)?;
+    assert!(rt; is_stranger(&mut collector, another_study));
+    let fourth_origin = row(alloc, 1, 0, 3, 3)?;
+    assert!(rt; is_stranger(&mut collector, fourth_origin));
+    let fourth_scenario = row(alloc, 1, 3, 0, 3)?;
+    assert!(rt; is_stranger(&mut collector, fourth_scenario));
+    let two_cells = row(alloc, 1, 0, 0, 2)?;
+    assert!(rt; is_stranger(&mut collector, two_cells));
+    let four_cells = row(alloc, 1, 0, 0, 4)?;
+    assert!(rt; is_stranger(&mut collector, four_cells));
     assert_eq!(rt; full_places(&collector), 0);
     Ok(())
 }

@@ -34,6 +34,9 @@ module _ (e : FeedFault) (a b c d : List FeedFault) where
   pub told_last : a ≡ [] → b ≡ [] → c ≡ [] → Tells e d → Tells e (a ++ b ++ c ++ d)
   told_last no_a no_b no_c t = rw (no_a, no_b, no_c) t
 
+pub none_in_all : (a b c d : List FeedFault) → a ≡ [] → b ≡ [] → c ≡ [] → d ≡ [] → a ++ b ++ c ++ d ≡ []
+none_in_all a b c d no_a no_b no_c no_d = rw (no_a, no_b, no_c, no_d) refl
+
 none_both : (a b : List FeedFault) → a ++ b ≡ [] → (a ≡ []) × (b ≡ [])
 none_both [] b e = (refl, e)
 none_both (x ∷ a) b e = cc e

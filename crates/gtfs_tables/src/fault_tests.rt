@@ -341,15 +341,8 @@ fn faults_of_frequencies(rt: HostRuntime) {
 }
 
 #[test]
-fn faults_of_stop_times(rt: HostRuntime) {
+fn identifiers_of_stop_times(rt: HostRuntime) {
     let alloc = rt.alloc();
-    expect_times_fault(
-        &rt,
-        alloc,
-        b"trip_id,arrival_time,departure_time,stop_id,stop_sequence\nT1,08:00:00,08:00:00,A,1\nT1,08:10:00,08:10:00,B,2\nT2,08:15:00,08:15:00,B,1\nT2,08:30",
-        5,
-        What::BadNumber,
-    );
     expect_times_fault(
         &rt,
         alloc,
@@ -371,6 +364,18 @@ fn faults_of_stop_times(rt: HostRuntime) {
         3,
         What::UnknownStop,
     );
+}
+
+#[test]
+fn numbers_of_stop_times(rt: HostRuntime) {
+    let alloc = rt.alloc();
+    expect_times_fault(
+        &rt,
+        alloc,
+        b"trip_id,arrival_time,departure_time,stop_id,stop_sequence\nT1,08:00:00,08:00:00,A,1\nT1,08:10:00,08:10:00,B,2\nT2,08:15:00,08:15:00,B,1\nT2,08:30",
+        5,
+        What::BadNumber,
+    );
     expect_times_fault(
         &rt,
         alloc,
@@ -385,6 +390,11 @@ fn faults_of_stop_times(rt: HostRuntime) {
         3,
         What::DuplicateId,
     );
+}
+
+#[test]
+fn times_of_stop_times(rt: HostRuntime) {
+    let alloc = rt.alloc();
     expect_times_fault(
         &rt,
         alloc,
@@ -413,6 +423,11 @@ fn faults_of_stop_times(rt: HostRuntime) {
         3,
         What::NoTime,
     );
+}
+
+#[test]
+fn first_of_two_faults_of_stop_times(rt: HostRuntime) {
+    let alloc = rt.alloc();
     expect_times_fault(
         &rt,
         alloc,

@@ -28,14 +28,28 @@ fn gives_opportunities(alloc: Global, file: Option<&[u8]>, feed: &Feed, want: &[
     }
 }
 
+// Whether the small feed is read, and the origins of a file are these stops.
+fn has_origins(alloc: Global, file: Option<&[u8]>, want: &[StopNo]) -> bool {
+    match feed_in(alloc, small_feed()) {
+        Some(feed) => gives_origins(alloc, file, &feed, want),
+        None => false,
+    }
+}
+
 fn expect_origins(rt: &impl Abort, alloc: Global, file: Option<&[u8]>, want: &[StopNo]) {
-    let feed = feed_in(alloc, small_feed());
-    assert!(rt; feed.is_some_and(|feed| gives_origins(alloc, file, &feed, want)));
+    assert!(rt; has_origins(alloc, file, want));
+}
+
+// Whether the small feed is read, and the opportunities of a file are these.
+fn has_opportunities(alloc: Global, file: Option<&[u8]>, want: &[u32]) -> bool {
+    match feed_in(alloc, small_feed()) {
+        Some(feed) => gives_opportunities(alloc, file, &feed, want),
+        None => false,
+    }
 }
 
 fn expect_opportunities(rt: &impl Abort, alloc: Global, file: Option<&[u8]>, want: &[u32]) {
-    let feed = feed_in(alloc, small_feed());
-    assert!(rt; feed.is_some_and(|feed| gives_opportunities(alloc, file, &feed, want)));
+    assert!(rt; has_opportunities(alloc, file, want));
 }
 
 // The fault of a file of origins, none where it has none.
@@ -54,10 +68,25 @@ fn opportunities_fault(alloc: Global, file: &[u8], feed: &Feed) -> Option<FeedFa
     read_opportunities(alloc, Some(file), feed).err()
 }
 
+// The fault of a file of origins of the small feed.
+fn fault_of_origins(alloc: Global, file: &[u8]) -> Option<FeedFault> {
+    match feed_in(alloc, small_feed()) {
+        Some(feed) => origins_fault(alloc, file, &feed),
+        None => None,
+    }
+}
+
 fn expect_origins_fault(rt: &impl Abort, alloc: Global, file: &'static [u8], at: u64, what: What) {
-    let feed = feed_in(alloc, small_feed());
-    let fault = feed.and_then(|feed| origins_fault(alloc, file, &feed));
+    let fault = fault_of_origins(alloc, file);
     assert_eq!(rt; fault, Some(FeedFault::at(FileName::Origins, at, what)));
+}
+
+// The fault of a file of opportunities of the small feed.
+fn fault_of_opportunities(alloc: Global, file: &[u8]) -> Option<FeedFault> {
+    match feed_in(alloc, small_feed()) {
+        Some(feed) => opportunities_fault(alloc, file, &feed),
+        None => None,
+    }
 }
 
 fn expect_opportunities_fault(
@@ -67,8 +96,7 @@ fn expect_opportunities_fault(
     at: u64,
     what: What,
 ) {
-    let feed = feed_in(alloc, small_feed());
-    let fault = feed.and_then(|feed| opportunities_fault(alloc, file, &feed));
+    let fault = fault_of_opportunities(alloc, file);
     assert_eq!(rt;
         fault,
         Some(FeedFault::at(FileName::Opportunities, at, what))

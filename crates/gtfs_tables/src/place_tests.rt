@@ -2,6 +2,7 @@
 
 use crate::test_feeds::{expect_fault, feed_in, small_feed, station_feed};
 use crate::{Feed, FeedBytes, FileName, Link, Place, What};
+use std::alloc::Global;
 use timetable::StopNo;
 
 // A file whose third record names a stop that `stops.txt` hasn't.
@@ -34,10 +35,16 @@ fn has_places(feed: &Feed) -> bool {
         && feed.place(b"Z") == None
 }
 
+fn reads_places(alloc: Global, files: FeedBytes<'static>) -> bool {
+    match feed_in(alloc, files) {
+        Some(feed) => has_places(&feed),
+        None => false,
+    }
+}
+
 #[test]
 fn a_place_is_a_stop_a_station_or_another(rt: HostRuntime) {
-    let feed = feed_in(rt.alloc(), station_feed());
-    assert!(rt; feed.is_some_and(|feed| has_places(&feed)));
+    assert!(rt; reads_places(rt.alloc(), station_feed()));
 }
 
 // Whether the station S has the children A and B, T has none, and A is no station.
@@ -47,10 +54,16 @@ fn has_stations(feed: &Feed) -> bool {
         && !has_children(feed, b"A", &[])
 }
 
+fn reads_stations(alloc: Global, files: FeedBytes<'static>) -> bool {
+    match feed_in(alloc, files) {
+        Some(feed) => has_stations(&feed),
+        None => false,
+    }
+}
+
 #[test]
 fn a_station_between_its_children_has_both(rt: HostRuntime) {
-    let feed = feed_in(rt.alloc(), station_feed());
-    assert!(rt; feed.is_some_and(|feed| has_stations(&feed)));
+    assert!(rt; reads_stations(rt.alloc(), station_feed()));
 }
 
 // Whether the station S, the stop C and the entrance E stand for their stops.
@@ -60,10 +73,16 @@ fn has_stops_of_places(feed: &Feed) -> bool {
         && stands_for(feed, b"E", &[])
 }
 
+fn reads_stops_of_places(alloc: Global, files: FeedBytes<'static>) -> bool {
+    match feed_in(alloc, files) {
+        Some(feed) => has_stops_of_places(&feed),
+        None => false,
+    }
+}
+
 #[test]
 fn a_place_stands_for_its_stops(rt: HostRuntime) {
-    let feed = feed_in(rt.alloc(), station_feed());
-    assert!(rt; feed.is_some_and(|feed| has_stops_of_places(&feed)));
+    assert!(rt; reads_stops_of_places(rt.alloc(), station_feed()));
 }
 
 // Whether a walk leads from A to B, and one from the station S to C.
@@ -83,16 +102,33 @@ fn has_two_links(feed: &Feed) -> bool {
     feed.links() == [walk, change].as_slice()
 }
 
+fn reads_two_links(alloc: Global, files: FeedBytes<'static>) -> bool {
+    match feed_in(alloc, files) {
+        Some(feed) => has_two_links(&feed),
+        None => false,
+    }
+}
+
 #[test]
 fn links_are_the_rows_that_give_a_walk(rt: HostRuntime) {
-    let feed = feed_in(rt.alloc(), station_feed());
-    assert!(rt; feed.is_some_and(|feed| has_two_links(&feed)));
+    assert!(rt; reads_two_links(rt.alloc(), station_feed()));
+}
+
+// Whether three rows of transfers give no walk.
+fn has_three_unused(feed: &Feed) -> bool {
+    feed.unused_transfers() == 3
+}
+
+fn reads_three_unused(alloc: Global, files: FeedBytes<'static>) -> bool {
+    match feed_in(alloc, files) {
+        Some(feed) => has_three_unused(&feed),
+        None => false,
+    }
 }
 
 #[test]
 fn rows_without_a_walk_are_counted(rt: HostRuntime) {
-    let feed = feed_in(rt.alloc(), station_feed());
-    assert!(rt; feed.is_some_and(|feed| feed.unused_transfers() == 3));
+    assert!(rt; reads_three_unused(rt.alloc(), station_feed()));
 }
 
 // Whether a feed has no walk, and no row of transfers without one.
@@ -100,10 +136,16 @@ fn has_no_transfers(feed: &Feed) -> bool {
     feed.links().is_empty() && feed.unused_transfers() == 0
 }
 
+fn reads_no_transfers(alloc: Global, files: FeedBytes<'static>) -> bool {
+    match feed_in(alloc, files) {
+        Some(feed) => has_no_transfers(&feed),
+        None => false,
+    }
+}
+
 #[test]
 fn a_feed_without_transfers_has_no_links(rt: HostRuntime) {
-    let feed = feed_in(rt.alloc(), small_feed());
-    assert!(rt; feed.is_some_and(|feed| has_no_transfers(&feed)));
+    assert!(rt; reads_no_transfers(rt.alloc(), small_feed()));
 }
 
 #[test]

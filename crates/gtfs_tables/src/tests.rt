@@ -4,6 +4,7 @@ use crate::test_feeds::{STOPS, TIMES, TRIPS, feed_in, feed_of, small_feed};
 use crate::{
     CalendarRow, Departures, ExceptionRow, Feed, FeedBytes, FeedTrip, read_date, read_time,
 };
+use std::alloc::Global;
 use timetable::{Event, StopNo};
 
 // Whether a feed has the stops, routes, services and the two trips of the small feed, in seconds.
@@ -16,6 +17,13 @@ fn is_small(feed: &Feed) -> bool {
         && feed.service_no(b"mon") == None
         && feed.aside() == 0
         && has_two_trips(feed)
+}
+
+fn reads_small(alloc: Global, files: FeedBytes<'static>) -> bool {
+    match feed_in(alloc, files) {
+        Some(feed) => is_small(&feed),
+        None => false,
+    }
 }
 
 fn has_three_stops(feed: &Feed) -> bool {
@@ -77,18 +85,36 @@ fn is_every_monday(row: &CalendarRow) -> bool {
         && Some(row.last) == read_date(b" 20260531 ")
 }
 
-#[test]
-fn reads_a_feed(rt: HostRuntime) {
-    let feed = feed_in(rt.alloc(), small_feed());
-    assert!(rt; feed.is_some_and(|feed| is_small(&feed) && runs_on_mondays(&feed)));
+fn is_small_on_mondays(feed: &Feed) -> bool {
+    is_small(feed) && runs_on_mondays(feed)
 }
 
-// Whether a feed has one row of each calendar, and its second trip one row of departures.
+fn reads_small_on_mondays(alloc: Global, files: FeedBytes<'static>) -> bool {
+    match feed_in(alloc, files) {
+        Some(feed) => is_small_on_mondays(&feed),
+        None => false,
+    }
+}
+
+#[test]
+fn reads_a_feed(rt: HostRuntime) {
+    assert!(rt; reads_small_on_mondays(rt.alloc(), small_feed()));
+}
+
+// Whether a feed is the small one, with one row of each calendar, and one row of departures of its second trip.
 fn has_calendars_and_departures(feed: &Feed) -> bool {
-    feed.calendar().len() == 1
+    is_small(feed)
+        && feed.calendar().len() == 1
         && feed.exceptions().len() == 1
         && feed.trip_count() == 2
         && feed.trip(1).departures.as_slice().len() == 1
+}
+
+fn reads_calendars_and_departures(alloc: Global, files: FeedBytes<'static>) -> bool {
+    match feed_in(alloc, files) {
+        Some(feed) => has_calendars_and_departures(&feed),
+        None => false,
+    }
 }
 
 #[test]
@@ -109,23 +135,20 @@ fn takes_byte_order_marks_and_carriage_returns(rt: HostRuntime) {
         ),
         transfers: None,
     };
-    let feed = feed_in(rt.alloc(), files);
-    assert!(rt; feed.is_some_and(|feed| is_small(&feed) && has_calendars_and_departures(&feed)));
+    assert!(rt; reads_calendars_and_departures(rt.alloc(), files));
 }
 
 #[test]
 fn puts_records_in_order_of_sequence(rt: HostRuntime) {
     let times =
         b"stop_sequence,stop_id,departure_time,arrival_time,trip_id\n 12 ,C, 8:30:00,08:30:00 ,T2\n0010,B,08:10:00,8:10:00,T1\n3,B,08:15:00,08:15:00,T2\n9,A,08:00:00,08:00:00,T1\n";
-    let feed = feed_in(rt.alloc(), feed_of(STOPS, TRIPS, times));
-    assert!(rt; feed.is_some_and(|feed| is_small(&feed)));
+    assert!(rt; reads_small(rt.alloc(), feed_of(STOPS, TRIPS, times)));
 }
 
 #[test]
 fn counts_stops_alone(rt: HostRuntime) {
     let stops = b"location_type,stop_id\n1,S\n,A\n0,B\n2,E\n00,C\n";
-    let feed = feed_in(rt.alloc(), feed_of(stops, TRIPS, TIMES));
-    assert!(rt; feed.is_some_and(|feed| is_small(&feed)));
+    assert!(rt; reads_small(rt.alloc(), feed_of(stops, TRIPS, TIMES)));
 }
 
 // The small feed with services that calendar_dates.txt and trips.txt name.
@@ -144,15 +167,28 @@ fn has_three_services(feed: &Feed) -> bool {
         && feed.service_no(b"NEW") == Some(2)
 }
 
+fn reads_three_services(alloc: Global, files: FeedBytes<'static>) -> bool {
+    match feed_in(alloc, files) {
+        Some(feed) => has_three_services(&feed),
+        None => false,
+    }
+}
+
 #[test]
 fn services_are_numbered_as_first_named(rt: HostRuntime) {
-    let feed = feed_in(rt.alloc(), three_services());
-    assert!(rt; feed.is_some_and(|feed| has_three_services(&feed)));
+    assert!(rt; reads_three_services(rt.alloc(), three_services()));
 }
 
 // Whether two trips of the second route run on the third and the second service.
 fn has_trips_of_services(feed: &Feed) -> bool {
     feed.trip_count() == 2 && runs_on(feed, 0, 1, 2) && runs_on(feed, 1, 1, 1)
+}
+
+fn reads_trips_of_services(alloc: Global, files: FeedBytes<'static>) -> bool {
+    match feed_in(alloc, files) {
+        Some(feed) => has_trips_of_services(&feed),
+        None => false,
+    }
 }
 
 // Whether a trip is of this route and runs on this service.
@@ -166,14 +202,20 @@ fn runs_on(feed: &Feed, trip: u32, route: u32, service: u32) -> bool {
 
 #[test]
 fn trips_have_routes_and_services(rt: HostRuntime) {
-    let feed = feed_in(rt.alloc(), three_services());
-    assert!(rt; feed.is_some_and(|feed| has_trips_of_services(&feed)));
+    assert!(rt; reads_trips_of_services(rt.alloc(), three_services()));
 }
 
 // Whether a date is added to the second service, and then one removed from the first.
 fn has_two_exceptions(feed: &Feed) -> bool {
     let rows = feed.exceptions();
     rows.len() == 2 && is_exception(&rows[0], 1, true) && is_exception(&rows[1], 0, false)
+}
+
+fn reads_two_exceptions(alloc: Global, files: FeedBytes<'static>) -> bool {
+    match feed_in(alloc, files) {
+        Some(feed) => has_two_exceptions(&feed),
+        None => false,
+    }
 }
 
 // Whether a row adds its date to this service, or removes it from it.
@@ -183,13 +225,19 @@ fn is_exception(row: &ExceptionRow, service: u32, adds: bool) -> bool {
 
 #[test]
 fn exceptions_have_services(rt: HostRuntime) {
-    let feed = feed_in(rt.alloc(), three_services());
-    assert!(rt; feed.is_some_and(|feed| has_two_exceptions(&feed)));
+    assert!(rt; reads_two_exceptions(rt.alloc(), three_services()));
 }
 
-// Whether a feed has no row of the first calendar, and one exception.
+// Whether a feed is the small one but for its days: no row of the first calendar, and one exception.
 fn has_one_exception(feed: &Feed) -> bool {
-    feed.calendar().is_empty() && feed.exceptions().len() == 1
+    is_small(feed) && feed.calendar().is_empty() && feed.exceptions().len() == 1
+}
+
+fn reads_one_exception(alloc: Global, files: FeedBytes<'static>) -> bool {
+    match feed_in(alloc, files) {
+        Some(feed) => has_one_exception(&feed),
+        None => false,
+    }
 }
 
 #[test]
@@ -199,11 +247,10 @@ fn one_calendar_is_enough(rt: HostRuntime) {
         calendar_dates: Some(b"service_id,date,exception_type\nMON,20260504,1\n"),
         ..small_feed()
     };
-    let feed = feed_in(rt.alloc(), files);
-    assert!(rt; feed.is_some_and(|feed| is_small(&feed) && has_one_exception(&feed)));
+    assert!(rt; reads_one_exception(rt.alloc(), files));
 }
 
-// Whether the second of two trips departs every ten minutes from eight to nine, and then never, and the first has no departures.
+// Whether the second trip of the small feed departs every ten minutes from eight to nine, and then never, and the first has no departures.
 fn has_departures(feed: &Feed) -> bool {
     let early = Departures {
         start: 28_800,
@@ -215,7 +262,14 @@ fn has_departures(feed: &Feed) -> bool {
         end: 39_600,
         headway: 1,
     };
-    feed.trip_count() == 2 && departs(feed, 0, &[]) && departs(feed, 1, &[early, never])
+    is_small(feed) && departs(feed, 0, &[]) && departs(feed, 1, &[early, never])
+}
+
+fn reads_departures(alloc: Global, files: FeedBytes<'static>) -> bool {
+    match feed_in(alloc, files) {
+        Some(feed) => has_departures(&feed),
+        None => false,
+    }
 }
 
 // Whether a trip has these rows of departures.
@@ -231,12 +285,18 @@ fn departures_of_each_trip(rt: HostRuntime) {
         ),
         ..small_feed()
     };
-    let feed = feed_in(rt.alloc(), files);
-    assert!(rt; feed.is_some_and(|feed| is_small(&feed) && has_departures(&feed)));
+    assert!(rt; reads_departures(rt.alloc(), files));
 }
 
 fn is_empty(feed: &Feed) -> bool {
     feed.stop_count() == 0 && feed.service_count() == 0 && feed.trip_count() == 0
+}
+
+fn reads_empty(alloc: Global, files: FeedBytes<'static>) -> bool {
+    match feed_in(alloc, files) {
+        Some(feed) => is_empty(&feed),
+        None => false,
+    }
 }
 
 #[test]
@@ -252,8 +312,7 @@ fn an_empty_feed(rt: HostRuntime) {
             b"trip_id,stop_id,stop_sequence\n",
         )
     };
-    let feed = feed_in(rt.alloc(), files);
-    assert!(rt; feed.is_some_and(|feed| is_empty(&feed)));
+    assert!(rt; reads_empty(rt.alloc(), files));
 }
 
 #[test]
@@ -270,6 +329,13 @@ fn has_one_aside(feed: &Feed) -> bool {
         && has_events(feed, 1, &[at(1, 29_700), at(2, 30_600)])
 }
 
+fn reads_one_aside(alloc: Global, files: FeedBytes<'static>) -> bool {
+    match feed_in(alloc, files) {
+        Some(feed) => has_one_aside(&feed),
+        None => false,
+    }
+}
+
 // Whether a trip has these events.
 fn has_events(feed: &Feed, trip: u32, events: &[Event]) -> bool {
     trip < feed.trip_count() && feed.trip(trip).events.as_slice() == events
@@ -279,8 +345,7 @@ fn has_events(feed: &Feed, trip: u32, events: &[Event]) -> bool {
 fn trips_with_a_record_of_no_stop_are_set_aside(rt: HostRuntime) {
     let times =
         b"trip_id,arrival_time,departure_time,stop_id,stop_sequence\nT1,08:00:00,08:00:00,A,1\nT1,,,,2\nT2,08:15:00,08:15:00,B,1\nT2,08:30:00,08:30:00,C,2\n";
-    let feed = feed_in(rt.alloc(), feed_of(STOPS, TRIPS, times));
-    assert!(rt; feed.is_some_and(|feed| has_one_aside(&feed)));
+    assert!(rt; reads_one_aside(rt.alloc(), feed_of(STOPS, TRIPS, times)));
 }
 
 // Whether the first of two trips has three events, with a time between, of which each forbids boarding or alighting.
@@ -294,10 +359,16 @@ fn has_open_times(feed: &Feed) -> bool {
     feed.trip_count() == 2 && has_events(feed, 0, &[first, second, third])
 }
 
+fn reads_open_times(alloc: Global, files: FeedBytes<'static>) -> bool {
+    match feed_in(alloc, files) {
+        Some(feed) => has_open_times(&feed),
+        None => false,
+    }
+}
+
 #[test]
 fn open_times_and_pickups(rt: HostRuntime) {
     let times =
         b"trip_id,arrival_time,departure_time,stop_id,stop_sequence,pickup_type,drop_off_type\nT1,09:00:00,,A,1,,1\nT1,,,B,2,1,0\nT1,,09:10:00,C,3,2,01\n";
-    let feed = feed_in(rt.alloc(), feed_of(STOPS, TRIPS, times));
-    assert!(rt; feed.is_some_and(|feed| has_open_times(&feed)));
+    assert!(rt; reads_open_times(rt.alloc(), feed_of(STOPS, TRIPS, times)));
 }

@@ -2,7 +2,7 @@
 ghost use Rattle.gtfs_tables.specs.Files.{AreWithinLimit, files_of};
 
 use crate::csv_alone;
-use crate::feed_files::FeedFiles;
+use crate::feed_files::read_feed_files;
 use crate::figures::{hundredths, millis, per_second};
 use crate::telling::{refuse, tell, tell_stage};
 use gtfs_tables::{Feed, FeedBytes, read_feed};
@@ -11,7 +11,7 @@ use std::time::Instant;
 
 /// Times both over the feed of a folder, and prints what came out.
 pub(crate) fn time_feed(rt: &HostRuntime, folder: &str) -> io::Result<()> {
-    let files = FeedFiles::read(rt, folder)?;
+    let files = read_feed_files(rt, folder)?;
     time_files(rt, &files.bytes())
 }
 

@@ -4,7 +4,7 @@ ghost use Rattle.std.specs.Prelude.{◌≤◌, All, length};
 ghost use Rattle.service_days.specs.Instances.{IsRun};
 
 use crate::asked::Asked;
-use crate::feed_files::FeedFiles;
+use crate::feed_files::read_feed_files;
 use crate::figures::per_second;
 use crate::networks::make_networks;
 use crate::own_files::{ScenarioFile, read_all, read_own};
@@ -59,7 +59,7 @@ fn time_files(
     origins: Option<&[u8]>,
     scenarios: &[ScenarioFile],
 ) -> io::Result<()> {
-    let files = FeedFiles::read(rt, folder)?;
+    let files = read_feed_files(rt, folder)?;
     time_reading(rt, asked, &files.bytes(), footpaths, origins, scenarios)
 }
 

@@ -245,8 +245,15 @@ SUN, 0,0,0,0,0,0,01,20260503,20260531
     }
 
     #[test]
-    fn refusals(rt: HostRuntime) {
+    fn columns_and_identifiers_are_refused(rt: HostRuntime) {
         let alloc = rt.alloc();
+        expect_fault(
+            &rt,
+            alloc,
+            b"service_id,monday\nA,1\n",
+            1,
+            What::MissingColumn,
+        );
         expect_fault(
             &rt,
             alloc,
@@ -261,6 +268,11 @@ SUN, 0,0,0,0,0,0,01,20260503,20260531
             3,
             What::DuplicateId,
         );
+    }
+
+    #[test]
+    fn flags_and_dates_are_refused(rt: HostRuntime) {
+        let alloc = rt.alloc();
         expect_fault(
             &rt,
             alloc,
@@ -288,13 +300,6 @@ SUN, 0,0,0,0,0,0,01,20260503,20260531
             b"service_id,monday,tuesday,wednesday,thursday,friday,saturday,sunday,start_date,end_date\nA,1,0,0,0,0,0,1,20260504,\n",
             2,
             What::BadDate,
-        );
-        expect_fault(
-            &rt,
-            alloc,
-            b"service_id,monday\nA,1\n",
-            1,
-            What::MissingColumn,
         );
     }
 }

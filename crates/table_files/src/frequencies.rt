@@ -237,14 +237,14 @@ mod tests {
     }
 
     #[test]
-    fn refusals(rt: HostRuntime) {
+    fn columns_and_trips_are_refused(rt: HostRuntime) {
         let alloc = rt.alloc();
         expect_fault(
             &rt,
             alloc,
-            b"trip_id,start_time,end_time,headway_secs\nT1,08:00:00,08:20:00,0\n",
-            2,
-            What::BadNumber,
+            b"trip_id,start_time,end_time\nT1,08:00:00,08:20:00\n",
+            1,
+            What::MissingColumn,
         );
         expect_fault(
             &rt,
@@ -260,6 +260,11 @@ mod tests {
             3,
             What::EmptyId,
         );
+    }
+
+    #[test]
+    fn times_and_headways_are_refused(rt: HostRuntime) {
+        let alloc = rt.alloc();
         expect_fault(
             &rt,
             alloc,
@@ -277,9 +282,9 @@ mod tests {
         expect_fault(
             &rt,
             alloc,
-            b"trip_id,start_time,end_time\nT1,08:00:00,08:20:00\n",
-            1,
-            What::MissingColumn,
+            b"trip_id,start_time,end_time,headway_secs\nT1,08:00:00,08:20:00,0\n",
+            2,
+            What::BadNumber,
         );
     }
 }

@@ -280,7 +280,7 @@ fn leading_zeros(rt: HostRuntime) -> Result<(), Fail> {
 }
 
 #[test]
-fn records_that_are_refused(rt: HostRuntime) {
+fn columns_that_are_refused(rt: HostRuntime) {
     let alloc = rt.alloc();
     expect_fault(
         &rt,
@@ -290,6 +290,11 @@ fn records_that_are_refused(rt: HostRuntime) {
         What::MissingColumn,
     );
     expect_fault(&rt, alloc, b"", 1, What::MissingColumn);
+}
+
+#[test]
+fn identifiers_that_are_refused(rt: HostRuntime) {
+    let alloc = rt.alloc();
     expect_fault(
         &rt,
         alloc,
@@ -311,6 +316,11 @@ fn records_that_are_refused(rt: HostRuntime) {
         2,
         What::UnknownStop,
     );
+}
+
+#[test]
+fn sequences_that_are_refused(rt: HostRuntime) {
+    let alloc = rt.alloc();
     expect_fault(
         &rt,
         alloc,
@@ -368,7 +378,7 @@ fn fields_that_are_refused(rt: HostRuntime) {
 }
 
 #[test]
-fn first_of_two_faults(rt: HostRuntime) {
+fn first_of_two_faults_before_times(rt: HostRuntime) {
     let alloc = rt.alloc();
     expect_fault(
         &rt,
@@ -398,6 +408,11 @@ fn first_of_two_faults(rt: HostRuntime) {
         3,
         What::DuplicateId,
     );
+}
+
+#[test]
+fn first_of_two_faults_of_times(rt: HostRuntime) {
+    let alloc = rt.alloc();
     expect_fault(
         &rt,
         alloc,

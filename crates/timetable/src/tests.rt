@@ -146,7 +146,7 @@ fn footpaths_are_refused(rt: HostRuntime) -> Result<(), Fail> {
 }
 
 #[test]
-fn networks_are_refused(rt: HostRuntime) -> Result<(), Fail> {
+fn networks_off_their_stops_are_refused(rt: HostRuntime) -> Result<(), Fail> {
     let alloc = rt.alloc();
     let Some(feet) = Feet::new(alloc, 2, lists_of(alloc, 2, &[(1, 0, 90)])?).ok() else {
         assert!(rt; false);
@@ -154,49 +154,52 @@ fn networks_are_refused(rt: HostRuntime) -> Result<(), Fail> {
     };
     let early = at(0, 100, 110);
     let late = at(1, 110, 200);
+    let beyond = at(2, 110, 200);
     for (stops, events, fault) in [
         (2, [early, late, early], None),
-        (2, [early, late, at(0, 0, 16_777_215)], None),
 
-        // an event at stop 2 of two stops; footpaths for another number of stops
-        (
-            2,
-            [early, at(2, 110, 200), early],
-            Some(NetFault::StopRange),
-        ),
+        // an event at stop 2 of two stops; footpaths for another number of stops; two faults at once
+        (2, [early, beyond, early], Some(NetFault::StopRange)),
         (3, [early, late, early], Some(NetFault::StopRange)),
-
-        // an arrival before the departure of the event before; a departure before its arrival
         (
             2,
-            [early, at(1, 100, 120), early],
-            Some(NetFault::TimesGoBack),
-        ),
-        (
-            2,
-            [early, late, at(0, 100, 99)],
-            Some(NetFault::TimesGoBack),
-        ),
-
-        // past the axis of times; two faults at once
-        (
-            2,
-            [early, late, at(0, 0, 16_777_216)],
-            Some(NetFault::TooLarge),
-        ),
-        (
-            2,
-            [early, at(1, 100, 120), at(2, 110, 200)],
+            [early, at(1, 100, 120), beyond],
             Some(NetFault::StopRange),
-        ),
-        (
-            2,
-            [early, at(1, 100, 120), at(0, 0, 16_777_216)],
-            Some(NetFault::TimesGoBack),
         ),
     ] {
         let expected = fault.map(|fault| (fault, 2));
         assert_eq!(rt; net_fault(alloc, stops, events, &feet)?, expected);
+    }
+    Ok(())
+}
+
+#[test]
+fn networks_with_bad_times_are_refused(rt: HostRuntime) -> Result<(), Fail> {
+    let alloc = rt.alloc();
+    let Some(feet) = Feet::new(alloc, 2, lists_of(alloc, 2, &[(1, 0, 90)])?).ok() else {
+        assert!(rt; false);
+        return Ok(());
+    };
+    let early = at(0, 100, 110);
+    let late = at(1, 110, 200);
+    let overlapping = at(1, 100, 120);
+    let off_the_axis = at(0, 0, 16_777_216);
+    for (events, fault) in [
+        ([early, late, at(0, 0, 16_777_215)], None),
+
+        // an arrival before the departure of the event before; a departure before its arrival
+        ([early, overlapping, early], Some(NetFault::TimesGoBack)),
+        ([early, late, at(0, 100, 99)], Some(NetFault::TimesGoBack)),
+
+        // past the axis of times; two faults at once
+        ([early, late, off_the_axis], Some(NetFault::TooLarge)),
+        (
+            [early, overlapping, off_the_axis],
+            Some(NetFault::TimesGoBack),
+        ),
+    ] {
+        let expected = fault.map(|fault| (fault, 2));
+        assert_eq!(rt; net_fault(alloc, 2, events, &feet)?, expected);
     }
     Ok(())
 }

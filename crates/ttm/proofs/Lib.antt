@@ -1,15 +1,3 @@
-pub mod Joined
-pub mod Runs
-pub mod NoFootpaths
-pub mod Refusals
-pub mod Composed
-pub mod NameFaults
-pub mod Firsts
-pub mod ScenarioFiles
-pub mod NetworkFaults
-pub mod FewOrigins
-pub mod StudyFacts
-pub mod OneMeaning
 pub mod Required
 pub mod StudyCommand
 pub mod Slashes

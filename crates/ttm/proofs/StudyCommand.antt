@@ -8,7 +8,7 @@ use Rattle.clap.specs.declared.builder.arg.Arg.{Arg}
 use Rattle.clap.specs.declared.builder.command.Command.{Command}
 use Rattle.clap.specs.declared.error.Error.{Error}
 use Rattle.table_records.specs.Faults.{IsFirst}
-use Rattle.ttm.specs.declared.settings.Settings.{Settings}
+use Rattle.studies.specs.declared.settings.Settings.{Settings}
 use Rattle.ttm.specs.declared.task.Opt.{Opt}
 use Rattle.ttm.specs.declared.task.Task.{Task}
 use Rattle.ttm.proofs.Required.{is_fit}

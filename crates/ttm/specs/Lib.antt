@@ -1,15 +1,4 @@
-pub mod MinuteLine
-pub mod MinuteFaults
-pub mod NamedFile
-pub mod Inputs
-pub mod Settings
-pub mod Names
-pub mod Parts
-pub mod Stages
-pub mod Study
-pub mod Laws
 pub mod Files
-pub mod Disk
 pub mod Window
 pub mod Lines
 pub mod Paths

@@ -19,12 +19,12 @@ use Rattle.workers.specs.declared.faults.RunFault.{RunFault}
 use Rattle.workers.specs.declared.faults.RunFault.TheVariants as run
 use Rattle.matrix_text.specs.declared.faults.TextFault.{TextFault}
 use Rattle.matrix_text.specs.declared.faults.TextFault.TheVariants as text
-use Rattle.ttm.specs.NamedFile.{NamedBytes}
-use Rattle.ttm.specs.declared.fault.StudyFault.{StudyFault}
-use Rattle.ttm.specs.declared.fault.StudyFault.TheVariants as fault
+use Rattle.studies.specs.NamedFile.{NamedBytes}
+use Rattle.studies.specs.declared.fault.StudyFault.{StudyFault}
+use Rattle.studies.specs.declared.fault.StudyFault.TheVariants as fault
 use Rattle.ttm.specs.declared.files.ReadFault.{ReadFault}
 use Rattle.ttm.specs.declared.files.ReadFault.TheVariants as read
-use Rattle.ttm.specs.declared.inputs.Inputs.{Inputs}
+use Rattle.studies.specs.declared.inputs.Inputs.{Inputs}
 use Rattle.ttm.specs.declared.task.Opt.{Opt}
 use Rattle.ttm.specs.declared.task.Opt.TheVariants as opt
 

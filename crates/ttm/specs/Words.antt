@@ -12,7 +12,7 @@ use Rattle.jiff.specs.Words.{epoch_day}
 use Rattle.table_records.specs.Fields.{trimmed, number_of, day_of}
 use Rattle.table_records.specs.Faults.{IsFirst}
 use Rattle.ttm.specs.Window.{window_between}
-use Rattle.ttm.specs.declared.settings.Settings.{Settings}
+use Rattle.studies.specs.declared.settings.Settings.{Settings}
 use Rattle.ttm.specs.declared.task.Opt.{Opt}
 use Rattle.ttm.specs.declared.task.Opt.TheVariants as opt
 use Rattle.ttm.specs.declared.task.Task.{Task}

@@ -1,52 +1,18 @@
 //! The files that a study names, read whole from the disk.
 
 ghost use Rattle.std.specs.Prelude.{◌≡◌, option_map};
-ghost use Rattle.gtfs_tables.specs.Files as files;
-ghost use Rattle.ttm.specs.Disk.{files_read};
-ghost use Rattle.ttm.specs.Inputs.{inputs_of};
+ghost use Rattle.studies.specs.FeedFiles.{files_read};
+ghost use Rattle.studies.specs.Inputs.{inputs_of};
 
 use crate::files::{ReadFault, read_all};
-use crate::inputs::Inputs;
 use crate::lines::{path_line, path_status};
-use crate::named_file::NamedFile;
 use crate::paths::{path_in, scenario_of};
 use crate::telling::{tell_made, tell_short};
-use gtfs_tables::FeedBytes;
 use std::fs;
 use std::io::{ErrorKind, Write};
 use std::process::ExitCode;
 use std::rt::Files;
-
-/// The files of a feed, read whole.
-#[derive(Drop)]
-pub struct FeedFiles {
-    stops: Option<Vec<u8>>,
-    routes: Option<Vec<u8>>,
-    calendar: Option<Vec<u8>>,
-    calendar_dates: Option<Vec<u8>>,
-    trips: Option<Vec<u8>>,
-    stop_times: Option<Vec<u8>>,
-    frequencies: Option<Vec<u8>>,
-    transfers: Option<Vec<u8>>,
-}
-
-impl FeedFiles {
-    /// Their bytes.
-    pub fn bytes(&self) -> FeedBytes<'_>
-        ensures { files.files_of result ≡ files_read self.now }
-    {
-        FeedBytes {
-            stops: bytes_of(&self.stops),
-            routes: bytes_of(&self.routes),
-            calendar: bytes_of(&self.calendar),
-            calendar_dates: bytes_of(&self.calendar_dates),
-            trips: bytes_of(&self.trips),
-            stop_times: bytes_of(&self.stop_times),
-            frequencies: bytes_of(&self.frequencies),
-            transfers: bytes_of(&self.transfers),
-        }
-    }
-}
+use studies::{FeedFiles, Inputs, NamedFile, bytes_of};
 
 /// What goes into a study, of files that were read.
 pub fn inputs_from<'a>(
@@ -68,16 +34,6 @@ pub fn inputs_from<'a>(
         origins: bytes_of(origins),
         opportunities: bytes_of(opportunities),
         scenarios,
-    }
-}
-
-/// The bytes of a file, if it is there.
-pub fn bytes_of(file: &Option<Vec<u8>>) -> Option<&[u8]>
-    ensures { files.bytes_of result ≡ option_map (λ bytes. bytes.items) file.now }
-{
-    match file {
-        Some(bytes) => Some(bytes.as_slice()),
-        None => None,
     }
 }
 

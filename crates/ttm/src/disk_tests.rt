@@ -1,9 +1,10 @@
 //! Files found on the disk, or not.
 
-use crate::disk::{FeedFiles, feed_files, own_file, scenario_files};
+use crate::disk::{feed_files, own_file, scenario_files};
 use gtfs_tables::FeedBytes;
 use std::test::Fail;
 use std::{fs, io};
+use studies::FeedFiles;
 
 /// A folder that is there for the length of a test.
 const FOLDER: &str = "feed_of_a_test";

@@ -1,9 +1,6 @@
 //! The line and the exit status of each fault.
 
-use crate::fault::StudyFault;
-use crate::inputs::Inputs;
 use crate::lines::{bad_line, fault_line, status};
-use crate::named_file::NamedFile;
 use crate::task::Opt;
 use footpaths::FootFault;
 use gtfs_tables::{FeedBytes, FeedFault, FileName, What};
@@ -12,6 +9,7 @@ use scenarios::{ScenarioFault, ScenarioWhat};
 use service_days::DayFault;
 use std::alloc::{AllocError, Global};
 use std::process::Abort;
+use studies::{Inputs, NamedFile, StudyFault};
 use timetable::NetFault;
 use workers::RunFault;
 
@@ -83,7 +81,7 @@ fn expect_file(rt: &impl Abort, alloc: Global, file: FileName, words: &[u8]) {
 }
 
 #[test]
-fn tells_each_file_of_a_feed(rt: HostRuntime) {
+fn tells_each_file_of_stops_and_days(rt: HostRuntime) {
     let alloc = rt.alloc();
     expect_file(
         &rt,
@@ -109,6 +107,11 @@ fn tells_each_file_of_a_feed(rt: HostRuntime) {
         FileName::CalendarDates,
         b"calendar_dates.txt: record 9: bad date\n",
     );
+}
+
+#[test]
+fn tells_each_file_of_trips_and_walks(rt: HostRuntime) {
+    let alloc = rt.alloc();
     expect_file(
         &rt,
         alloc,

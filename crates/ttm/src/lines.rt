@@ -1,13 +1,10 @@
 //! The lines that tell why there is no answer, and the exit statuses of the program.
 
 ghost use Rattle.std.specs.Prelude.{◌≡◌, ◌≤◌, ◌++◌, ◌∷◌, [], IfOk, codes, decimal, map};
-ghost use Rattle.ttm.specs.NamedFile.{NamedBytes};
+ghost use Rattle.studies.specs.NamedFile.{NamedBytes};
 ghost use Rattle.ttm.specs.Lines as spec;
 
-use crate::fault::StudyFault;
 use crate::files::ReadFault;
-use crate::inputs::Inputs;
-use crate::named_file::NamedFile;
 use crate::task::Opt;
 use footpaths::FootFault;
 use gtfs_tables::{FeedFault, FileName, What};
@@ -16,6 +13,7 @@ use matrix_text::TextFault;
 use scenarios::{ScenarioFault, ScenarioWhat};
 use service_days::DayFault;
 use std::alloc::{AllocError, Global};
+use studies::{Inputs, NamedFile, StudyFault};
 use timetable::NetFault;
 use workers::RunFault;
 

@@ -5,16 +5,12 @@
 ghost use Rattle.std.specs.Prelude.{◌≡◌, ℕ, List};
 ghost use Rattle.std.specs.Io.KnownBytes.{Appends};
 ghost use Rattle.std.specs.Process.{exit_status};
-ghost use Rattle.ttm.specs.Inputs.{inputs_of};
-ghost use Rattle.ttm.specs.Study.{IsStudyText};
+ghost use Rattle.studies.specs.Inputs.{inputs_of};
+ghost use Rattle.studies.specs.Study.{IsStudyText};
 
 use crate::disk::{feed_files, inputs_from, own_file, scenario_files};
 use crate::example::example_feed;
-use crate::fault::StudyFault;
-use crate::inputs::Inputs;
 use crate::lines::{bad_line, fault_line, status};
-use crate::settings::Settings;
-use crate::study::run_study;
 use crate::task::{Task, WordFault};
 use crate::telling::{tell, tell_made, tell_short};
 use crate::words::{task_of, word_status};
@@ -23,6 +19,7 @@ use matrix_text::put_all;
 use std::env;
 use std::io::{ErrorKind, Write};
 use std::process::ExitCode;
+use studies::{Inputs, Settings, StudyFault, run_study};
 use workers::Open;
 
 /// The exit status of words that aren't the command's.

@@ -1,15 +1,12 @@
 //! Studies that are refused: the line that tells each fault.
 
 use crate::example::example_feed;
-use crate::inputs::Inputs;
 use crate::lines::fault_line;
-use crate::named_file::NamedFile;
 use crate::row_feeds::{CUT_OFF, NO_HEADWAY};
-use crate::settings::Settings;
-use crate::study::run_study;
 use gtfs_tables::{FeedBytes, read_date};
 use std::alloc::{AllocError, Global};
 use std::test::Fail;
+use studies::{Inputs, NamedFile, Settings, run_study};
 use workers::Open;
 
 // Whether the study of these inputs on a date, with walks of at most 120 seconds, is refused by this line.
@@ -113,15 +110,8 @@ fn faults_of_stops_and_trips(rt: HostRuntime) {
 }
 
 #[test]
-fn faults_of_stop_times(rt: HostRuntime) {
+fn identifiers_of_stop_times(rt: HostRuntime) {
     let alloc = rt.alloc();
-    assert!(rt;
-        times_tell(
-            alloc,
-            CUT_OFF,
-            b"ttm: stop_times.txt: record 5: bad number\n"
-        )
-    );
     assert!(rt;
         times_tell(
             alloc,
@@ -134,6 +124,18 @@ fn faults_of_stop_times(rt: HostRuntime) {
             alloc,
             b"trip_id,stop_id,stop_sequence\nT9,A,1\n",
             b"ttm: stop_times.txt: record 2: unknown trip\n"
+        )
+    );
+}
+
+#[test]
+fn numbers_and_times_of_stop_times(rt: HostRuntime) {
+    let alloc = rt.alloc();
+    assert!(rt;
+        times_tell(
+            alloc,
+            CUT_OFF,
+            b"ttm: stop_times.txt: record 5: bad number\n"
         )
     );
     assert!(rt;
@@ -160,7 +162,7 @@ fn faults_of_stop_times(rt: HostRuntime) {
 }
 
 #[test]
-fn faults_of_days(rt: HostRuntime) {
+fn faults_of_calendars_and_headways(rt: HostRuntime) {
     let alloc = rt.alloc();
     let headway = inputs_of(FeedBytes {
         frequencies: Some(NO_HEADWAY),
@@ -186,6 +188,11 @@ fn faults_of_days(rt: HostRuntime) {
             b"ttm: calendar_dates.txt: record 2: bad date\n"
         )
     );
+}
+
+#[test]
+fn faults_of_days(rt: HostRuntime) {
+    let alloc = rt.alloc();
     assert!(rt;
         tells(
             alloc,

@@ -1,12 +1,10 @@
 //! Worked examples: whole studies, from the bytes of their files to the text of their matrix.
 
 use crate::example::example_feed;
-use crate::inputs::Inputs;
 use crate::row_feeds::*;
-use crate::settings::Settings;
-use crate::study::run_study;
 use gtfs_tables::{FeedBytes, read_date};
 use std::alloc::Global;
+use studies::{Inputs, Settings, run_study};
 use workers::Open;
 
 /// What an example asks for. Times are in seconds, minutes of the day from midnight.
@@ -256,24 +254,26 @@ fn a_stop_without_service_has_an_empty_cell(rt: HostRuntime) {
     }
 }
 
+/// Four departures from 07:58 on, and the fastest of them.
+const FOUR: Asked = Asked {
+    first: 478,
+    minutes: 4,
+    share: 1,
+    ..EIGHT
+};
+
 #[test]
-fn shares_of_four_minutes(rt: HostRuntime) {
+fn small_shares_of_four_minutes(rt: HostRuntime) {
     let inputs = inputs_of(example_feed());
-    let four = Asked {
-        first: 478,
-        minutes: 4,
-        share: 1,
-        ..EIGHT
-    };
     assert!(rt;
         gives(
             rt.alloc(),
             &inputs,
-            four,
+            FOUR,
             b"scenario,origin,access,A,B,C\nbase,A,3,0,600,1800\n"
         )
     );
-    let quarter = Asked { share: 25, ..four };
+    let quarter = Asked { share: 25, ..FOUR };
     assert!(rt;
         gives(
             rt.alloc(),
@@ -282,7 +282,12 @@ fn shares_of_four_minutes(rt: HostRuntime) {
             b"scenario,origin,access,A,B,C\nbase,A,3,0,600,1800\n"
         )
     );
-    let half = Asked { share: 50, ..four };
+}
+
+#[test]
+fn great_shares_of_four_minutes(rt: HostRuntime) {
+    let inputs = inputs_of(example_feed());
+    let half = Asked { share: 50, ..FOUR };
     assert!(rt;
         gives(
             rt.alloc(),
@@ -291,7 +296,7 @@ fn shares_of_four_minutes(rt: HostRuntime) {
             b"scenario,origin,access,A,B,C\nbase,A,2,0,660,1860\n"
         )
     );
-    let most = Asked { share: 75, ..four };
+    let most = Asked { share: 75, ..FOUR };
     assert!(rt;
         gives(
             rt.alloc(),
@@ -300,7 +305,7 @@ fn shares_of_four_minutes(rt: HostRuntime) {
             b"scenario,origin,access,A,B,C\nbase,A,2,0,720,1920\n"
         )
     );
-    let all = Asked { share: 100, ..four };
+    let all = Asked { share: 100, ..FOUR };
     assert!(rt;
         gives(
             rt.alloc(),

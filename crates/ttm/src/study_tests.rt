@@ -1,17 +1,13 @@
 //! Studies of the small feed: their texts, and why others are refused.
 
 use crate::example::example_feed;
-use crate::fault::StudyFault;
-use crate::inputs::Inputs;
-use crate::named_file::NamedFile;
-use crate::settings::Settings;
-use crate::study::run_study;
 use gtfs_tables::{FeedFault, FileName, What, read_date};
 use jiff::civil::Date;
 use scenarios::{ScenarioFault, ScenarioWhat};
 use service_days::DayFault;
 use std::alloc::Global;
 use std::process::Abort;
+use studies::{Inputs, NamedFile, Settings, StudyFault, run_study};
 use workers::Open;
 
 const FROM_A: &[u8] = b"stop_id\nA\n";

@@ -1,6 +1,6 @@
 //! What the words of the command line ask for, or what is wrong with them.
 
-use crate::settings::Settings;
+use studies::Settings;
 
 /// The options whose texts have a kind and limits, in the order in which they are looked at.
 /// `Window` is `--from` with `--to`; the others are the options of these names.

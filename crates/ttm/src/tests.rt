@@ -1,10 +1,9 @@
 //! The line of the small feed, and of feeds with one thing changed.
 
 use crate::example::example_feed;
-use crate::fault::StudyFault;
-use crate::minute::minute_line;
 use gtfs_tables::{FeedBytes, FeedFault, FileName, What};
 use std::alloc::Global;
+use studies::{StudyFault, minute_line};
 
 /// T2 leaves B when T1 arrives there.
 const JUST_IN_TIME: &[u8] = b"trip_id,arrival_time,departure_time,stop_id,stop_sequence

@@ -1,9 +1,9 @@
 //! What the words of the command line ask for.
 
-use crate::settings::Settings;
 use crate::task::{Opt, WordFault};
 use crate::words::{task_of, word_status};
 use std::alloc::{AllocError, Global};
+use studies::Settings;
 
 /// The words of a study of one minute.
 const STUDY: [&str; 21] = [

@@ -7,16 +7,16 @@ ghost use Rattle.std.specs.Prelude.{◌≡◌, ◌≤◌, ◌+◌, ℕ, [], ◌�
 ghost use Rattle.clap.specs.Words.{app_of, rule_of, found_of, rows_of, fault_of};
 ghost use Rattle.jiff.specs.Words.{epoch_day};
 ghost use Rattle.table_records.specs.Faults.{IsFirst};
-ghost use Rattle.ttm.specs.Settings.{SettingsFit};
+ghost use Rattle.studies.specs.Settings.{SettingsFit};
 ghost use Rattle.ttm.specs.Words as spec;
 
-use crate::settings::Settings;
 use crate::task::{Opt, Task, WordFault};
 use crate::window::window_of;
 use clap::error::ErrorKind;
 use clap::{Arg, ArgAction, ArgMatches, Command};
 use jiff::civil::Date;
 use std::alloc::{AllocError, Global};
+use studies::Settings;
 use table_records::{number, read_date, trim};
 
 const ABOUT: &str = "Travel time matrices over a GTFS feed, for a base network and for scenarios.";

@@ -93,6 +93,13 @@ fn answers_after_loss(k: usize) -> [Answer; 13] {
             FIRST, SECOND, KEPT, THIRD, SETTLED, LOST, REFUSED, FOURTH, NOTHING, REFUSED, KEPT,
             LOST, REFUSED,
         ],
+        _ => answers_after_late_loss(k),
+    }
+}
+
+// The same from step 6 on.
+fn answers_after_late_loss(k: usize) -> [Answer; 13] {
+    match k {
         6 => [
             FIRST, SECOND, KEPT, THIRD, SETTLED, DOUBLE, LOST, FOURTH, NOTHING, REFUSED, KEPT,
             LOST, REFUSED,

@@ -298,6 +298,14 @@ fn fits_up_to_each_limit(rt: HostRuntime) -> Result<(), Fail> {
             "origin {stop}"
         );
     }
+    Ok(())
+}
+
+#[test]
+fn fits_an_opportunity_for_each_stop(rt: HostRuntime) -> Result<(), Fail> {
+    let alloc = rt.alloc();
+    let networks = networks_of(alloc, &[&[FIRST, SECOND]])?;
+    let study = study_of(&networks);
     assert!(rt;
         !Study {
             opportunities: &[1, 1],
@@ -312,21 +320,22 @@ fn fits_up_to_each_limit(rt: HostRuntime) -> Result<(), Fail> {
         }
         .fits()
     );
+    Ok(())
+}
+
+// Whether the study of some networks fits with these origins.
+fn fits_from<'a>(networks: &'a [Network], origins: &'a [StopNo]) -> bool {
+    let study = study_of(networks);
+    Study { origins, ..study }.fits()
+}
+
+#[test]
+fn fits_up_to_the_most_origins(rt: HostRuntime) -> Result<(), Fail> {
+    let alloc = rt.alloc();
+    let networks = networks_of(alloc, &[&[FIRST, SECOND]])?;
     let origins = vec![in alloc; StopNo(0); 65_536]?;
-    assert!(rt;
-        !Study {
-            origins: &origins,
-            ..study
-        }
-        .fits()
-    );
-    assert!(rt;
-        Study {
-            origins: &origins[..65_535],
-            ..study
-        }
-        .fits()
-    );
+    assert!(rt; !fits_from(&networks, &origins));
+    assert!(rt; fits_from(&networks, &origins[..65_535]));
     Ok(())
 }
 

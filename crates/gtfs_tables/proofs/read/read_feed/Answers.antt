@@ -1,13 +1,14 @@
-use Rattle.std.proofs.Common.{◌∙◌, ℕ, List, [], inl, length, subst, sym}
+use Rattle.std.proofs.Common.{◌∙◌, ℕ, List, [], ap, inl, length, subst, sym}
 use Rattle.std.proofs.lemmas.List.{length-map}
 use Rattle.std.proofs.lemmas.Result.{err_from_is_err_and}
 use Rattle.gtfs_tables.specs.Files.{catalog_faults, faults_of_frequencies, faults_of_stop_times, faults_of_transfers, files_of}
 use Rattle.std.specs.declared.vec.Vec.{Vec}
 use Rattle.std.specs.declared.alloc.Global.{Global}
+use Rattle.table_files.specs.Places.{PlaceData}
 use Rattle.table_files.specs.WholeTrips.{AreEvents}
 use Rattle.table_files.specs.declared.frequencies.Departures.{Departures}
-use Rattle.gtfs_tables.proofs.Sound.{departures_count, events_count, feed_is_sound, index_is}
-use Rattle.gtfs_tables.proofs.Told.{told_after, told_last, told_next}
+use Rattle.gtfs_tables.proofs.Sound.{data_is, departures_count, events_count, feed_is_sound, index_is}
+use Rattle.gtfs_tables.proofs.Told.{none_in_all, told_after, told_last, told_next}
 use Rattle.gtfs_tables.proofs.read.read_feed.Goals as goal
 
 pub returns-in_err-times-clause-fault : goal.returns-in_err-times-clause-fault
@@ -59,3 +60,26 @@ new-requires-clause-ids c =
     let (_, events, aside) = c.in_ok-times.ensures.good in
     index_is (files_of c.args.files.now) c.in_ok-catalog.catalog c.in_ok-trips.trips.items c.in_ok-times.times.aside c.in_ok-times.times.trips.items _
     c.in_ok-catalog.ensures.good.1 events c.in_ok-departures.ensures.good.1 aside c.in_ok-trips.ensures
+
+pub returns-clause-good : goal.returns-clause-good
+returns-clause-good c =
+    let f = files_of c.args.files.now in
+    let (no_times, events, aside) = c.in_ok-times.ensures.good in
+    let (no_frequencies, departures) = c.in_ok-departures.ensures.good in
+    let (no_transfers, links, unused) = c.in_ok-transfers.ensures.good in (
+      none_in_all (catalog_faults f) (faults_of_stop_times f) (faults_of_frequencies f) (faults_of_transfers f) c.in_ok-catalog.ensures.good.0 no_times no_frequencies no_transfers,
+      c.new.ensures ∙ data_is f c.in_ok-catalog.catalog c.in_ok-trips.trips.items c.in_ok-times.times.aside c.in_ok-times.times.trips.items _
+          c.in_ok-catalog.ensures.good.1 events departures aside c.in_ok-trips.ensures c.in_ok-transfers.transfers links unused,
+    )
+
+pub times_of-requires-clause-trips : goal.times_of-requires-clause-trips
+times_of-requires-clause-trips c = c.in_ok-catalog.ensures.good.1.trip_ids
+
+pub times_of-requires-clause-stops : goal.times_of-requires-clause-stops
+times_of-requires-clause-stops c = c.stops.ensures ∙ ap (λ (p : PlaceData). p.stops) c.in_ok-catalog.ensures.good.1.places
+
+pub departures_of-requires-clause-trips : goal.departures_of-requires-clause-trips
+departures_of-requires-clause-trips c = c.in_ok-catalog.ensures.good.1.trip_ids
+
+pub transfers_of-requires-clause-places : goal.transfers_of-requires-clause-places
+transfers_of-requires-clause-places c = c.in_ok-catalog.ensures.good.1.places

@@ -1,0 +1,261 @@
+-- What each stage of a study tells is told of the files, and what it makes is made of them.
+use Rattle.std.proofs.Common.{◌≡◌, ◌⊎◌, ◌≤◌, ◌<◌, ◌+◌, ◌∙◌, ℕ, suc, List, [], ◌∷◌, All, Result, Ok, Err, ap, subst, sym, refl, inl, inr, length, arith}
+use Rattle.std.specs.Prelude.{IfErr, IfOk}
+use Rattle.std.proofs.lemmas.List.{length-map}
+use Rattle.std.proofs.lemmas.List.Elements.{All-cons, All-nil}
+use Rattle.table_records.specs.Faults.{IsFirst}
+use Rattle.table_records.specs.Faults as records
+use Rattle.table_records.specs.declared.fault.FeedFault.{FeedFault}
+use Rattle.timetable.specs.declared.faults.NetFault.{NetFault}
+use Rattle.timetable.specs.declared.trips.StopNo.{StopNo}
+use Rattle.timetable.specs.Footpaths.{FootLists}
+use Rattle.timetable.specs.Networks.{Net}
+use Rattle.gtfs_tables.specs.Feed.{FeedData, IsFeed, day_number}
+use Rattle.gtfs_tables.specs.Files.{feed_faults}
+use Rattle.service_days.specs.declared.fault.DayFault.{DayFault}
+use Rattle.service_days.specs.declared.fault.DayFault.TheVariants as day
+use Rattle.service_days.specs.declared.run.Run.{Run}
+use Rattle.service_days.specs.Instances as days
+use Rattle.footpaths.specs.Direct.{DirectLists}
+use Rattle.footpaths.specs.declared.faults.FootFault.{FootFault}
+use Rattle.footpaths.specs.declared.faults.FootFault.TheVariants as foot
+use Rattle.footpaths.specs.Closure.{IsClosure, IsFootFault, HasTooMany}
+use Rattle.scenarios.specs.ScenarioData.{ScenarioData}
+use Rattle.scenarios.specs.Files.{scenario_in}
+use Rattle.scenarios.specs.Networks.{net_of}
+use Rattle.rounds.specs.declared.window.Window.{Window}
+use Rattle.rounds.specs.Window.{Fits}
+use Rattle.collector.specs.Places.{MatrixData}
+use Rattle.workers.specs.Matrices.{IsMatrix}
+use Rattle.workers.specs.Study.{StudyData, StudyFits}
+use Rattle.matrix_text.specs.Text.{LabelData, matrix_text}
+use Rattle.studies.specs.declared.fault.StudyFault.{StudyFault}
+use Rattle.studies.specs.declared.fault.StudyFault.TheVariants as fault
+use Rattle.studies.specs.declared.settings.Settings.{Settings}
+use Rattle.studies.specs.Inputs.{InputFiles}
+use Rattle.studies.specs.declared.parts.Tables.{Tables}
+use Rattle.studies.specs.NamedFile.{NamedBytes}
+use Rattle.studies.specs.Names.{names_of}
+use Rattle.studies.specs.Settings.{SettingsFit, window_of}
+use Rattle.studies.specs.Parts.{direct_in, edit_faults, feed_in, labels_in, network_faults, networks_of, opportunities_in, origins_in, own_faults, runs_in, scenarios_in, study_in}
+use Rattle.studies.specs.Stages.{AreTables, IsFeedOf, TellsEdits, TellsNames, TellsNetworks, TellsText}
+use Rattle.studies.specs.Study.{AreDated, AreEdited, AreNamed, AreNetworks, AreRead, AreWalked, IsStudyText, Tells}
+use Rattle.studies.proofs.Firsts.{first_left, first_right, none_of_both}
+
+module _ (i : InputFiles) (s : Settings) where
+  pub names_told : (e : StudyFault) → TellsNames e i.scenarios → Tells e i s
+  names_told fault.Scenarios h = inr h
+  names_told (fault.Name k) h = inr h
+  names_told (fault.Feed e) h = absurd h
+  names_told (fault.Scenario k e) h = absurd h
+  names_told (fault.Days e) h = absurd h
+  names_told (fault.Feet e) h = absurd h
+  names_told (fault.Net k e) h = absurd h
+  names_told (fault.Run e) h = absurd h
+  names_told (fault.Text e) h = absurd h
+  names_told fault.Memory h = absurd h
+
+  pub feed_told : (e : FeedFault) → AreNamed i → records.Tells e (feed_faults i.feed) → Tells (fault.Feed e) i s
+  feed_told e named h = elim h [ inl m ↦ inl m | inr f ↦ inr (named, first_left e (feed_faults i.feed) (own_faults i (feed_in i)) f) ]
+
+  pub own_told : (e : FeedFault) (feed : FeedData) → AreNamed i → IsFeedOf i feed → records.Tells e (own_faults i feed) → Tells (fault.Feed e) i s
+  own_told e feed named is h =
+      elim h [
+        | inl m ↦ inl m
+        | inr f ↦ inr (
+          named,
+          first_right e (feed_faults i.feed) (own_faults i (feed_in i)) is.faultless
+              (subst (λ (d : FeedData). IsFirst e (own_faults i d)) is.feed_is f),
+        )
+      ]
+
+  pub are_read : (feed : FeedData) → AreNamed i → IsFeedOf i feed → own_faults i feed ≡ [] → AreRead i
+  are_read feed named is none = record {
+    named = named;
+    tables = none_of_both (feed_faults i.feed) (own_faults i (feed_in i)) is.faultless (subst (λ (d : FeedData). own_faults i d ≡ []) is.feed_is none);
+  }
+
+  pub edits_told : (e : StudyFault) (feed : FeedData) → AreRead i → feed ≡ feed_in i → TellsEdits e feed i.scenarios → Tells e i s
+  edits_told fault.Scenarios feed read is h = absurd h
+  edits_told (fault.Name k) feed read is h = absurd h
+  edits_told (fault.Feed e) feed read is h = absurd h
+  edits_told (fault.Scenario k e) feed read is h =
+      elim h [ inl m ↦ inl m | inr f ↦ inr (read, subst (λ (d : FeedData). IsFirst (k, e) (edit_faults d 0 i.scenarios)) is f) ]
+  edits_told (fault.Days e) feed read is h = absurd h
+  edits_told (fault.Feet e) feed read is h = absurd h
+  edits_told (fault.Net k e) feed read is h = absurd h
+  edits_told (fault.Run e) feed read is h = absurd h
+  edits_told (fault.Text e) feed read is h = absurd h
+  edits_told fault.Memory feed read is h = inl h
+
+  pub days_told : (e : DayFault) (feed : FeedData) → AreEdited i → feed ≡ feed_in i
+      → (e ≡ day.Memory) ⊎ IsFirst e (days.day_faults feed (day_number s.date) s.back s.ahead) → Tells (fault.Days e) i s
+  days_told e feed edited is h =
+      elim h [
+        | inl m ↦ inl m
+        | inr f ↦ inr (edited, subst (λ (d : FeedData). IsFirst e (days.day_faults d (day_number s.date) s.back s.ahead)) is f)
+      ]
+
+  pub are_dated : (feed : FeedData) → AreEdited i → feed ≡ feed_in i → days.day_faults feed (day_number s.date) s.back s.ahead ≡ [] → AreDated i s
+  are_dated feed edited is none = record {
+    edited = edited;
+    days = subst (λ (d : FeedData). days.day_faults d (day_number s.date) s.back s.ahead ≡ []) is none;
+  }
+
+  pub feet_told : (e : FootFault) (direct : DirectLists) → AreDated i s → direct ≡ direct_in i → IsFootFault e direct s.walk → Tells (fault.Feet e) i s
+  feet_told foot.TooMany direct dated is h = inr (dated, refl, subst (λ (d : DirectLists). HasTooMany d.pairs s.walk) is h)
+  feet_told foot.Memory direct dated is h = inl refl
+
+  pub are_walked : (direct : DirectLists) (feet : FootLists) → AreDated i s → direct ≡ direct_in i → IsClosure direct s.walk feet → AreWalked i s feet
+  are_walked direct feet dated is closed = record { dated = dated; walks = subst (λ (d : DirectLists). IsClosure d s.walk feet) is closed }
+
+  pub text_told : {V : Type 0} (r : Result V StudyFault) → IfErr r TellsText → IfErr r (λ e. Tells e i s)
+  text_told (Ok v) h = h
+  text_told (Err fault.Scenarios) h = absurd h
+  text_told (Err (fault.Name k)) h = absurd h
+  text_told (Err (fault.Feed e)) h = absurd h
+  text_told (Err (fault.Scenario k e)) h = absurd h
+  text_told (Err (fault.Days e)) h = absurd h
+  text_told (Err (fault.Feet e)) h = absurd h
+  text_told (Err (fault.Net k e)) h = absurd h
+  text_told (Err (fault.Run e)) h = absurd h
+  text_told (Err (fault.Text e)) h = inl h
+  text_told (Err fault.Memory) h = inl h
+
+-- the parts before the networks, as they are of the files
+module _ (i : InputFiles) (s : Settings) (feed : FeedData) (runs : List Run) (feet : FootLists) (scenarios : List ScenarioData)
+    (walked : AreWalked i s feet) (feed_is : feed ≡ feed_in i) (runs_are : runs ≡ days.runs_of feed (day_number s.date) s.back s.ahead)
+    (scenarios_are : scenarios ≡ scenarios_in i) where
+  runs_are_in : runs ≡ runs_in i s
+  runs_are_in = runs_are ∙ ap (λ (d : FeedData). days.runs_of d (day_number s.date) s.back s.ahead) feed_is
+
+  faults_in : network_faults feed runs 0 scenarios ≡ network_faults (feed_in i) (runs_in i s) 0 (scenarios_in i)
+  faults_in =
+      ap (λ (d : FeedData). network_faults d runs 0 scenarios) feed_is
+      ∙ ap (λ (r : List Run). network_faults (feed_in i) r 0 scenarios) runs_are_in
+      ∙ ap (λ (x : List ScenarioData). network_faults (feed_in i) (runs_in i s) 0 x) scenarios_are
+
+  networks_in : networks_of feed runs feet scenarios ≡ networks_of (feed_in i) (runs_in i s) feet (scenarios_in i)
+  networks_in =
+      ap (λ (d : FeedData). networks_of d runs feet scenarios) feed_is
+      ∙ ap (λ (r : List Run). networks_of (feed_in i) r feet scenarios) runs_are_in
+      ∙ ap (λ (x : List ScenarioData). networks_of (feed_in i) (runs_in i s) feet x) scenarios_are
+
+  pub networks_told : {V : Type 0} (r : Result V StudyFault) → IfErr r (λ e. TellsNetworks e feed runs scenarios) → IfErr r (λ e. Tells e i s)
+  networks_told (Ok v) h = h
+  networks_told (Err fault.Scenarios) h = absurd h
+  networks_told (Err (fault.Name k)) h = absurd h
+  networks_told (Err (fault.Feed e)) h = absurd h
+  networks_told (Err (fault.Scenario k e)) h = absurd h
+  networks_told (Err (fault.Days e)) h = absurd h
+  networks_told (Err (fault.Feet e)) h = absurd h
+  networks_told (Err (fault.Net k e)) h = elim h [ inl m ↦ inl m | inr f ↦ inr (feet, walked, subst (λ (l : List (ℕ × NetFault)). IsFirst (k, e) l) faults_in f) ]
+  networks_told (Err (fault.Run e)) h = absurd h
+  networks_told (Err (fault.Text e)) h = absurd h
+  networks_told (Err fault.Memory) h = inl h
+
+  pub networks_made : {V : Type 0} (items : V → List Net) (r : Result V StudyFault) → IfOk r (λ v. network_faults feed runs 0 scenarios ≡ [])
+      → IfOk r (λ v. items v ≡ networks_of feed runs feet scenarios) → IfOk r (λ v. AreNetworks i s (items v))
+  networks_made items (Ok v) none is = record { feet = feet; walked = walked; faultless = sym faults_in ∙ none; networks_are = is ∙ networks_in }
+  networks_made items (Err e) none is = none
+
+-- a study of these parts
+abbrev pub study_with : Settings → Window → List Net → List StopNo → List ℕ → StudyData
+study_with s window networks origins opportunities = record {
+  number = 0;
+  networks = networks;
+  origins = origins;
+  opportunities = opportunities;
+  query = record { window = window; rides = s.rides; share = s.share; within = s.within };
+}
+
+-- the study that is computed is the one that the files mean
+pub study_is : (i : InputFiles) (s : Settings) (networks : List Net) (origins : List StopNo) (opportunities : List ℕ) (window : Window)
+    → origins ≡ origins_in i → opportunities ≡ opportunities_in i → window ≡ window_of s → study_with s window networks origins opportunities ≡ study_in i s networks
+study_is i s networks origins opportunities window p q w =
+    ap (λ (x : List StopNo). study_with s window networks x opportunities) p
+    ∙ ap (λ (x : List ℕ). study_with s window networks (origins_in i) x) q
+    ∙ ap (λ (x : Window). study_with s x networks (origins_in i) (opportunities_in i)) w
+
+pub text_made : {V : Type 0} (items : V → List ℕ) (r : Result V StudyFault) (i : InputFiles) (s : Settings) (networks : List Net) (study : StudyData) (matrix : MatrixData)
+    → AreNetworks i s networks → study ≡ study_in i s networks → IsMatrix study matrix → IfOk r (λ v. items v ≡ matrix_text (labels_in i) matrix)
+    → IfOk r (λ v. IsStudyText i s (items v))
+text_made items (Ok v) i s networks study matrix made is is_matrix text =
+    record { study = study; matrix = matrix; means = record { networks = networks; made = made; study_is = is }; is_matrix = is_matrix; text_is = text }
+text_made items (Err e) i s networks study matrix made is is_matrix text = text
+
+one_first : (n : ℕ) → suc n ≡ n + 1
+one_first n = omega arith
+
+-- there is a scenario for each file, and one more
+pub scenario_count : (i : InputFiles) → length (scenarios_in i) ≡ length i.scenarios + 1
+scenario_count i =
+    let scenario : NamedBytes → ScenarioData = λ f. scenario_in f.name f.bytes (feed_in i) in
+    ap suc (length-map i.scenarios scenario) ∙ one_first (length i.scenarios)
+
+-- there is a network for each scenario
+pub network_count : (i : InputFiles) (s : Settings) (networks : List Net) → AreNetworks i s networks → length networks ≡ length i.scenarios + 1
+network_count i s networks made =
+    let network : ScenarioData → Net = λ x. net_of (feed_in i) x (runs_in i s) made.feet in
+    ap length made.networks_are ∙ length-map (scenarios_in i) network ∙ scenario_count i
+
+-- each network has the feed's stops
+pub network_stops : (i : InputFiles) (s : Settings) (networks : List Net) → AreNetworks i s networks → All (λ n. n.stops ≡ length (feed_in i).stops) networks
+network_stops i s networks made =
+    subst (All (λ (n : Net). n.stops ≡ length (feed_in i).stops)) (sym made.networks_are) (of_all (scenarios_in i))
+  where
+    of_all : (xs : List ScenarioData) → All (λ (n : Net). n.stops ≡ length (feed_in i).stops) (networks_of (feed_in i) (runs_in i s) made.feet xs)
+    of_all [] = All-nil (λ (n : Net). n.stops ≡ length (feed_in i).stops)
+    of_all (x ∷ xs) =
+        All-cons (λ (n : Net). n.stops ≡ length (feed_in i).stops) (net_of (feed_in i) x (runs_in i s) made.feet) (networks_of (feed_in i) (runs_in i s) made.feet xs) refl (of_all xs)
+
+-- the window of settings that fit is on the axis
+window_fits : (s : Settings) → SettingsFit s → Fits (window_of s)
+window_fits s fits = record {
+  some = fits.some_minutes;
+  few = omega (arith, fits.one_day);
+  on_axis = λ m lt. omega (arith, lt, fits.one_day, fits.back);
+}
+
+-- the study is within the limits
+pub study_fits : (i : InputFiles) (s : Settings) (feed : FeedData) (t : Tables) (networks : List Net) (origins : List StopNo) (opportunities : List ℕ) (window : Window)
+    → SettingsFit s → IsFeed feed → feed ≡ feed_in i → AreTables i feed t → AreNetworks i s networks → origins ≡ t.origins.items → opportunities ≡ t.opportunities.items → window ≡ window_of s
+    → StudyFits (study_with s window networks origins opportunities)
+study_fits i s feed t networks origins opportunities window fits is_feed is tables made p q w =
+    let count : length networks ≡ length i.scenarios + 1 = network_count i s networks made in
+    let few_files : length i.scenarios ≤ 15 = made.walked.dated.edited.read.named.few in
+    let stops : length opportunities ≡ length feed.stops = ap length q ∙ tables.count in
+    let same : length opportunities ≡ length (feed_in i).stops = stops ∙ ap (λ (d : FeedData). length d.stops) is in
+    let some : length origins ≡ length t.origins.items = ap length p in
+    let few : length t.origins.items ≤ length feed.stops = tables.few_origins in
+    let limit : length feed.stops ≤ 65535 = is_feed.few_stops in
+    record {
+      few_networks = omega (arith, count, few_files);
+      stops = subst (λ (n : ℕ). All (λ (x : Net). x.stops ≡ n) networks) (sym same) (network_stops i s networks made);
+      few_origins = omega (arith, some, few, limit);
+      origins = subst (λ (n : ℕ). All (λ (o : StopNo). o.0 < n) origins) (sym stops)
+          (subst (λ (l : List StopNo). All (λ (o : StopNo). o.0 < length feed.stops) l) (sym p) tables.in_range);
+      window = subst Fits (sym w) (window_fits s fits);
+      some_rides = fits.some_rides;
+      few_rides = fits.few_rides;
+      some_share = fits.some_share;
+      whole_share = fits.whole_share;
+    }
+
+-- labels of these parts
+abbrev pub labels_with : List (List ℕ) → List StopNo → List (List ℕ) → LabelData
+labels_with names origins stops = record { scenarios = names; origins = origins; stops = stops }
+
+-- the labels are those of the files
+pub labels_are : (i : InputFiles) (names : List (List ℕ)) (origins : List StopNo) (stops : List (List ℕ))
+    → names ≡ names_of i.scenarios → origins ≡ origins_in i → stops ≡ (feed_in i).stops → labels_with names origins stops ≡ labels_in i
+labels_are i names origins stops p q r =
+    ap (λ (x : List (List ℕ)). labels_with x origins stops) p
+    ∙ ap (λ (x : List StopNo). labels_with (names_of i.scenarios) x stops) q
+    ∙ ap (λ (x : List (List ℕ)). labels_with (names_of i.scenarios) (origins_in i) x) r
+
+-- there is a name for each scenario
+pub name_count : (files : List NamedBytes) → length (names_of files) ≡ length files + 1
+name_count files =
+    let name : NamedBytes → List ℕ = λ f. f.name in
+    ap suc (length-map files name) ∙ one_first (length files)

@@ -1,0 +1,38 @@
+use Rattle.std.proofs.Common.{◌≡◌, ◌∙◌, [], ap, subst}
+use Rattle.gtfs_tables.specs.Feed.{FeedData}
+use Rattle.studies.specs.Inputs.{inputs_of}
+use Rattle.studies.specs.Parts.{edit_faults, scenarios_of}
+use Rattle.studies.proofs.StudyFacts.{edits_told}
+use Rattle.studies.proofs.networks.make_networks.Goals as goal
+
+pub read_scenarios-requires : goal.read_scenarios-requires
+read_scenarios-requires c = c.requires.files.scenarios
+
+pub returns-in-Err-clause-fault : goal.returns-in-Err-clause-fault
+returns-in-Err-clause-fault c =
+    edits_told (inputs_of c.args.inputs.now) c.args.settings.now c.in-Err.fault c.args.feed.now c.requires.read c.requires.feed c.in-Err.ensures.fault
+
+pub networks_for-requires-clause-settings : goal.networks_for-requires-clause-settings
+networks_for-requires-clause-settings c = c.requires.settings
+
+pub networks_for-requires-clause-edited : goal.networks_for-requires-clause-edited
+networks_for-requires-clause-edited c = record {
+  read = c.requires.read;
+  edits = subst (λ (d : FeedData). edit_faults d 0 (inputs_of c.args.inputs.now).scenarios ≡ []) c.requires.feed c.in-Ok.ensures.good;
+}
+
+pub networks_for-requires-clause-feed : goal.networks_for-requires-clause-feed
+networks_for-requires-clause-feed c = c.requires.feed
+
+pub networks_for-requires-clause-direct : goal.networks_for-requires-clause-direct
+networks_for-requires-clause-direct c = c.requires.direct
+
+pub networks_for-requires-clause-scenarios : goal.networks_for-requires-clause-scenarios
+networks_for-requires-clause-scenarios c =
+    c.deref.ensures.value ∙ c.in-Ok.ensures.scenarios ∙ ap (λ (d : FeedData). scenarios_of d (inputs_of c.args.inputs.now).scenarios) c.requires.feed
+
+pub returns-clause-networks : goal.returns-clause-networks
+returns-clause-networks c = c.networks_for.ensures.networks
+
+pub returns-clause-fault : goal.returns-clause-fault
+returns-clause-fault c = c.networks_for.ensures.fault

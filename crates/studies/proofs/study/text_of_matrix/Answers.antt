@@ -1,0 +1,37 @@
+use Rattle.std.proofs.Common.{◌<◌, ◌++◌, ◌∙◌, ℕ, List, All, Vec, ap, length, map, refl, subst, sym}
+use Rattle.std.specs.declared.alloc.Global.{Global}
+use Rattle.gtfs_tables.specs.Feed.{FeedData}
+use Rattle.gtfs_tables.specs.Origins.{origins_of}
+use Rattle.timetable.specs.declared.trips.StopNo.{StopNo}
+use Rattle.matrix_text.specs.Text.{LabelData, matrix_text}
+use Rattle.studies.specs.Inputs.{inputs_of}
+use Rattle.studies.proofs.StudyFacts.{labels_are, labels_with, name_count}
+use Rattle.studies.proofs.study.text_of_matrix.Goals as goal
+
+pub write_matrix-requires : goal.write_matrix-requires
+write_matrix-requires c =
+    let i = inputs_of c.args.inputs.now in
+    let names = ap (λ (l : List (Vec ℕ Global)). map (λ v. v.items) l) c.as_slice.ensures.value ∙ c.in-Ok.ensures in
+    record {
+      scenarios = ap length names ∙ name_count i.scenarios ∙ sym c.requires.scenarios;
+      origins = ap (λ (l : List StopNo). length l) c.as_slice-2.ensures.value ∙ sym c.requires.origins;
+      origins_are =
+          subst (λ (l : List StopNo). All (λ (o : StopNo). o.0 < length c.args.feed.now.stops) l) (sym c.as_slice-2.ensures.value) c.requires.tables.in_range;
+      columns = sym c.requires.width;
+    }
+
+pub returns-in-Ok-write_matrix-clause-text : goal.returns-in-Ok-write_matrix-clause-text
+returns-in-Ok-write_matrix-clause-text c =
+    let i = inputs_of c.args.inputs.now in
+    let matrix = c.args.matrix.now in
+    let names = ap (λ (l : List (Vec ℕ Global)). map (λ v. v.items) l) c.as_slice.ensures.value ∙ c.in-Ok.ensures in
+    let origins = c.as_slice-2.ensures.value ∙ c.requires.tables.origins_are ∙ ap (λ (d : FeedData). origins_of i.origins d) c.requires.feed in
+    let stops = ap (λ (d : FeedData). d.stops) c.requires.feed in
+    let labels = labels_are i (map (λ v. v.items) c.as_slice.result.now) c.as_slice-2.result.now c.args.feed.now.stops names origins stops in
+    let text : List ℕ = matrix_text (labels_with (map (λ v. v.items) c.as_slice.result.now) c.as_slice-2.result.now c.args.feed.now.stops) matrix in
+    c.in-Ok-write_matrix.ensures.ok
+    ∙ ap (λ (l : List ℕ). l ++ text) c.new-text.ensures.items
+    ∙ ap (λ (l : LabelData). matrix_text l matrix) labels
+
+pub returns-in-Err-Memory-clause-fault : goal.returns-in-Err-Memory-clause-fault
+returns-in-Err-Memory-clause-fault c = refl

@@ -1,0 +1,58 @@
+-- What each stage of a study tells of the parts that it makes.
+use Rattle.std.specs.Prelude.{◌≡◌, ◌⊎◌, ◌<◌, ◌≤◌, List, [], length, ⊤, All}
+use Rattle.table_records.specs.Faults.{IsFirst}
+use Rattle.timetable.specs.declared.faults.NetFault.TheVariants as net
+use Rattle.gtfs_tables.specs.Feed.{FeedData}
+use Rattle.gtfs_tables.specs.Files.{feed_faults}
+use Rattle.gtfs_tables.specs.Origins.{origins_of}
+use Rattle.gtfs_tables.specs.Opportunities.{opportunities_of}
+use Rattle.footpaths.specs.Walks.{direct_of}
+use Rattle.service_days.specs.declared.run.Run.{Run}
+use Rattle.scenarios.specs.declared.faults.ScenarioWhat.TheVariants as edit
+use Rattle.scenarios.specs.ScenarioData.{ScenarioData}
+use Rattle.matrix_text.specs.declared.faults.TextFault.TheVariants as text
+use Rattle.studies.specs.declared.fault.StudyFault.{StudyFault}
+use Rattle.studies.specs.declared.fault.StudyFault.TheVariants as fault
+use Rattle.studies.specs.declared.parts.Tables.{Tables}
+use Rattle.studies.specs.Inputs.{InputFiles}
+use Rattle.studies.specs.NamedFile.{NamedBytes}
+use Rattle.studies.specs.Names.{name_faults}
+use Rattle.studies.specs.Parts.{feed_in, edit_faults, network_faults}
+
+-- the feed is what its files state, without a fault
+pub record IsFeedOf (i : InputFiles) (feed : FeedData) : Type 0 where
+  pub faultless : feed_faults i.feed ≡ []
+  pub feed_is : feed ≡ feed_in i
+
+-- the analyst's own tables for a feed: the origins are stops, each once, and each stop has its opportunities
+pub record AreTables (i : InputFiles) (feed : FeedData) (t : Tables) : Type 0 where
+  pub direct_is : t.direct ≡ direct_of feed i.footpaths
+  pub origins_are : t.origins.items ≡ origins_of i.origins feed
+  pub opportunities_are : t.opportunities.items ≡ opportunities_of i.opportunities feed
+  pub in_range : All (λ o. o.0 < length feed.stops) t.origins.items
+  pub few_origins : length t.origins.items ≤ length feed.stops
+  pub count : length t.opportunities.items ≡ length feed.stops
+
+-- too many files, or the first name that is refused
+abbrev pub TellsNames : StudyFault → List NamedBytes → Type 0
+TellsNames fault.Scenarios files = 15 < length files
+TellsNames (fault.Name k) files = (length files ≤ 15) × IsFirst k (name_faults files)
+TellsNames _ files = ⊥
+
+-- the first fault of the scenario files, or want of memory
+abbrev pub TellsEdits : StudyFault → FeedData → List NamedBytes → Type 0
+TellsEdits (fault.Scenario k e) feed files = (e.what ≡ edit.Memory) ⊎ IsFirst (k, e) (edit_faults feed 0 files)
+TellsEdits fault.Memory feed files = ⊤
+TellsEdits _ feed files = ⊥
+
+-- the first fault of the networks, or want of memory
+abbrev pub TellsNetworks : StudyFault → FeedData → List Run → List ScenarioData → Type 0
+TellsNetworks (fault.Net k e) feed runs xs = (e ≡ net.Memory) ⊎ IsFirst (k, e) (network_faults feed runs 0 xs)
+TellsNetworks fault.Memory feed runs xs = ⊤
+TellsNetworks _ feed runs xs = ⊥
+
+-- want of memory
+abbrev pub TellsText : StudyFault → Type 0
+TellsText (fault.Text e) = e ≡ text.Memory
+TellsText fault.Memory = ⊤
+TellsText _ = ⊥

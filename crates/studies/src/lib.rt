@@ -1,0 +1,36 @@
+//! Studies of files: from the bytes of a feed and of an analyst's own files to the text of the matrix.
+//!
+//! - `study`: [`run_study`], the text of the matrix that the files ([`Inputs`], [`NamedFile`]) and the [`Settings`] mean, or the
+//!   first [`StudyFault`]. Its parts, each handing what it made to the next: `names`, `tables` (with `parts`), `scenario_files`,
+//!   `networks`.
+//! - `laws`: a study has one text, and no files are both refused and accepted.
+//! - `feed_files`: [`FeedFiles`], the files of a feed as a program holds them.
+//! - `minute`: [`minute_line`], the durations of one minute over each trip of a feed once (`once`, `line`).
+//!
+//! `specs/Study` says what the inputs mean and which fault comes first.
+#![tactic(auto)]
+
+mod fault;
+mod feed_files;
+mod inputs;
+mod laws;
+mod line;
+mod minute;
+mod named_file;
+mod names;
+mod networks;
+mod once;
+mod parts;
+mod scenario_files;
+mod settings;
+mod study;
+mod tables;
+
+pub use fault::StudyFault;
+pub use feed_files::{FeedFiles, bytes_of};
+pub use inputs::Inputs;
+pub use laws::{refused_have_no_meaning, texts_are_unique};
+pub use minute::minute_line;
+pub use named_file::NamedFile;
+pub use settings::Settings;
+pub use study::run_study;

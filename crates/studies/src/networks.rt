@@ -1,0 +1,99 @@
+//! The networks of a study's scenarios.
+ghost use Rattle.std.specs.Prelude.{◌≡◌, ◌≤◌, [], All, IfErr, IfOk, length};
+ghost use Rattle.service_days.specs.Instances.{IsRun};
+ghost use Rattle.studies.specs.Inputs.{AreWithinLimit, inputs_of};
+ghost use Rattle.studies.specs.Parts.{direct_in, feed_in, network_faults, networks_of, scenarios_in};
+ghost use Rattle.studies.specs.Settings.{SettingsFit};
+ghost use Rattle.studies.specs.Stages.{TellsNetworks};
+ghost use Rattle.studies.specs.Study.{AreEdited, AreNetworks, AreRead, Tells};
+
+use crate::fault::StudyFault;
+use crate::inputs::Inputs;
+use crate::scenario_files::read_scenarios;
+use crate::settings::Settings;
+use footpaths::{Direct, close};
+use gtfs_tables::Feed;
+use scenarios::{Scenario, network_of};
+use service_days::{Run, active};
+use std::alloc::Global;
+use timetable::{Feet, Network};
+
+/// The networks of all scenarios, once the scenario files are read; else the first fault.
+pub(crate) fn make_networks(
+    alloc: Global,
+    inputs: &Inputs<'_>,
+    settings: &Settings,
+    feed: &Feed,
+    direct: &Direct,
+) -> Result<Vec<Network>, StudyFault>
+    requires files { AreWithinLimit (inputs_of inputs.now) }
+    requires settings { SettingsFit settings.now }
+    requires read { AreRead (inputs_of inputs.now) }
+    requires feed { feed.now ≡ feed_in (inputs_of inputs.now) }
+    requires direct { direct.now ≡ direct_in (inputs_of inputs.now) }
+    ensures networks { IfOk result (λ v. AreNetworks (inputs_of inputs.now) settings.now v.items) }
+    ensures fault { IfErr result (λ e. Tells e (inputs_of inputs.now) settings.now) }
+{
+    let scenarios = match read_scenarios(alloc, inputs.scenarios, feed) {
+        Ok(scenarios) => scenarios,
+        Err(fault) => return Err(fault),
+    };
+    networks_for(alloc, inputs, settings, feed, direct, &scenarios)
+}
+
+/// The networks of these scenarios: the runs of the study's days are listed, and then the footpaths are closed.
+fn networks_for(
+    alloc: Global,
+    inputs: &Inputs<'_>,
+    settings: &Settings,
+    feed: &Feed,
+    direct: &Direct,
+    scenarios: &[Scenario],
+) -> Result<Vec<Network>, StudyFault>
+    requires settings { SettingsFit settings.now }
+    requires edited { AreEdited (inputs_of inputs.now) }
+    requires feed { feed.now ≡ feed_in (inputs_of inputs.now) }
+    requires direct { direct.now ≡ direct_in (inputs_of inputs.now) }
+    requires scenarios { scenarios.now ≡ scenarios_in (inputs_of inputs.now) }
+    ensures networks { IfOk result (λ v. AreNetworks (inputs_of inputs.now) settings.now v.items) }
+    ensures fault { IfErr result (λ e. Tells e (inputs_of inputs.now) settings.now) }
+{
+    let runs = match active(alloc, feed, settings.date, settings.back, settings.ahead) {
+        Ok(runs) => runs,
+        Err(fault) => return Err(StudyFault::Days(fault)),
+    };
+    let feet = match close(alloc, direct, settings.walk) {
+        Ok(feet) => feet,
+        Err(fault) => return Err(StudyFault::Feet(fault)),
+    };
+    all_networks(alloc, feed, scenarios, &runs, &feet)
+}
+
+/// The network of each of at most 16 scenarios, made of the same runs and footpaths; else the first fault of the networks.
+#[tactic(auto, using(crate::proofs::NetworkFaults::networks))]
+fn all_networks(
+    alloc: Global,
+    feed: &Feed,
+    scenarios: &[Scenario],
+    runs: &[Run],
+    feet: &Feet,
+) -> Result<Vec<Network>, StudyFault>
+    requires few { length scenarios.now ≤ 16 }
+    requires runs { All (IsRun feed.now) runs.now }
+    requires feet { length feet.now ≡ length feed.now.stops }
+    ensures good { IfOk result (λ _. network_faults feed.now runs.now 0 scenarios.now ≡ []) }
+    ensures networks { IfOk result (λ v. v.items ≡ networks_of feed.now runs.now feet.now scenarios.now) }
+    ensures fault { IfErr result (λ e. TellsNetworks e feed.now runs.now scenarios.now) }
+{
+    let mut networks = Vec::new(alloc);
+    for (i, scenario) in scenarios.iter().enumerate() {
+        let network = match network_of(alloc, feed, scenario, runs, feet) {
+            Ok(network) => network,
+            Err(fault) => return Err(StudyFault::Net(i as u32, fault)),
+        };
+        if networks.push(network).is_err() {
+            return Err(StudyFault::Memory);
+        }
+    }
+    Ok(networks)
+}

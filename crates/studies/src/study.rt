@@ -1,0 +1,175 @@
+//! A study of files: from their bytes and the settings to the text of the matrix.
+//! Each stage hands what it made to the next, so that the first stage that refuses is the one that is told.
+ghost use Rattle.std.specs.Prelude.{◌≡◌, ◌+◌, IfErr, IfOk, length};
+ghost use Rattle.matrix_text.specs.Text.{matrix_text};
+ghost use Rattle.studies.specs.Inputs.{AreWithinLimit, inputs_of};
+ghost use Rattle.studies.specs.Parts.{feed_in, labels_in};
+ghost use Rattle.studies.specs.Settings.{SettingsFit};
+ghost use Rattle.studies.specs.Stages.{AreTables, IsFeedOf, TellsText};
+ghost use Rattle.studies.specs.Study.{AreNamed, AreNetworks, AreRead, IsStudyText, Tells};
+
+use crate::fault::StudyFault;
+use crate::inputs::Inputs;
+use crate::names::{check_names, names_of};
+use crate::networks::make_networks;
+use crate::parts::Tables;
+use crate::settings::Settings;
+use crate::tables::read_tables;
+use collector::Matrix;
+use gtfs_tables::{Feed, read_feed};
+use matrix_text::{Labels, TextFault, write_matrix};
+use std::alloc::Global;
+use timetable::Network;
+use workers::{Gate, Study, one_thread};
+
+/// The text of the matrix of the study that the files mean, or why there is none.
+///
+/// Of what is refused the first is told, in the order of [`StudyFault`]; want of memory may be told in its place. The
+/// condition is that the files and the settings fit ([`Inputs::fits`], [`Settings::fits`]). One thread computes the rows,
+/// whatever the number of workers, and the gate isn't asked.
+pub fn run_study<G: Gate + Sync>(
+    alloc: Global,
+    inputs: &Inputs<'_>,
+    settings: &Settings,
+    _gate: &G,
+) -> Result<Vec<u8>, StudyFault>
+    requires files { AreWithinLimit (inputs_of inputs.now) }
+    requires settings { SettingsFit settings.now }
+    ensures text { IfOk result (λ text. IsStudyText (inputs_of inputs.now) settings.now text.items) }
+    ensures fault { IfErr result (λ e. Tells e (inputs_of inputs.now) settings.now) }
+{
+    match check_names(inputs.scenarios) {
+        Ok(()) => text_of_files(alloc, inputs, settings),
+        Err(fault) => Err(fault),
+    }
+}
+
+/// The text, once the names are accepted: the feed is read.
+fn text_of_files(
+    alloc: Global,
+    inputs: &Inputs<'_>,
+    settings: &Settings,
+) -> Result<Vec<u8>, StudyFault>
+    requires files { AreWithinLimit (inputs_of inputs.now) }
+    requires settings { SettingsFit settings.now }
+    requires named { AreNamed (inputs_of inputs.now) }
+    ensures text { IfOk result (λ text. IsStudyText (inputs_of inputs.now) settings.now text.items) }
+    ensures fault { IfErr result (λ e. Tells e (inputs_of inputs.now) settings.now) }
+{
+    let feed = match read_feed(alloc, &inputs.feed) {
+        Ok(feed) => feed,
+        Err(fault) => return Err(StudyFault::Feed(fault)),
+    };
+    text_of_feed(alloc, inputs, settings, &feed)
+}
+
+/// The text, once the feed is read: the analyst's own tables are.
+fn text_of_feed(
+    alloc: Global,
+    inputs: &Inputs<'_>,
+    settings: &Settings,
+    feed: &Feed,
+) -> Result<Vec<u8>, StudyFault>
+    requires files { AreWithinLimit (inputs_of inputs.now) }
+    requires settings { SettingsFit settings.now }
+    requires named { AreNamed (inputs_of inputs.now) }
+    requires feed { IsFeedOf (inputs_of inputs.now) feed.now }
+    ensures text { IfOk result (λ text. IsStudyText (inputs_of inputs.now) settings.now text.items) }
+    ensures fault { IfErr result (λ e. Tells e (inputs_of inputs.now) settings.now) }
+{
+    let tables = match read_tables(alloc, inputs, feed) {
+        Ok(tables) => tables,
+        Err(fault) => return Err(StudyFault::Feed(fault)),
+    };
+    text_of_tables(alloc, inputs, settings, feed, &tables)
+}
+
+/// The text, once all tables are read: the networks are made.
+fn text_of_tables(
+    alloc: Global,
+    inputs: &Inputs<'_>,
+    settings: &Settings,
+    feed: &Feed,
+    tables: &Tables,
+) -> Result<Vec<u8>, StudyFault>
+    requires files { AreWithinLimit (inputs_of inputs.now) }
+    requires settings { SettingsFit settings.now }
+    requires read { AreRead (inputs_of inputs.now) }
+    requires feed { feed.now ≡ feed_in (inputs_of inputs.now) }
+    requires tables { AreTables (inputs_of inputs.now) feed.now tables.now }
+    ensures text { IfOk result (λ text. IsStudyText (inputs_of inputs.now) settings.now text.items) }
+    ensures fault { IfErr result (λ e. Tells e (inputs_of inputs.now) settings.now) }
+{
+    let networks = match make_networks(alloc, inputs, settings, feed, &tables.direct) {
+        Ok(networks) => networks,
+        Err(fault) => return Err(fault),
+    };
+    text_of_networks(alloc, inputs, settings, feed, tables, &networks)
+}
+
+/// The text, once the networks are made: the matrix is computed.
+fn text_of_networks(
+    alloc: Global,
+    inputs: &Inputs<'_>,
+    settings: &Settings,
+    feed: &Feed,
+    tables: &Tables,
+    networks: &[Network],
+) -> Result<Vec<u8>, StudyFault>
+    requires settings { SettingsFit settings.now }
+    requires feed { feed.now ≡ feed_in (inputs_of inputs.now) }
+    requires tables { AreTables (inputs_of inputs.now) feed.now tables.now }
+    requires networks { AreNetworks (inputs_of inputs.now) settings.now networks.now }
+    ensures text { IfOk result (λ text. IsStudyText (inputs_of inputs.now) settings.now text.items) }
+    ensures fault { IfErr result (λ e. Tells e (inputs_of inputs.now) settings.now) }
+{
+    feed.known();
+    let study = Study {
+        number: 0,
+        networks,
+        origins: tables.origins.as_slice(),
+        opportunities: tables.opportunities.as_slice(),
+        window: settings.window(),
+        rides: settings.rides,
+        share: settings.share,
+        within: settings.within,
+    };
+    let matrix = match one_thread(alloc, &study) {
+        Ok(matrix) => matrix,
+        Err(fault) => return Err(StudyFault::Run(fault)),
+    };
+    text_of_matrix(alloc, inputs, feed, tables, &matrix)
+}
+
+/// The text of the matrix.
+fn text_of_matrix(
+    alloc: Global,
+    inputs: &Inputs<'_>,
+    feed: &Feed,
+    tables: &Tables,
+    matrix: &Matrix,
+) -> Result<Vec<u8>, StudyFault>
+    requires feed { feed.now ≡ feed_in (inputs_of inputs.now) }
+    requires tables { AreTables (inputs_of inputs.now) feed.now tables.now }
+    requires scenarios { matrix.now.scenarios ≡ length inputs.now.scenarios.now + 1 }
+    requires origins { matrix.now.origins ≡ length tables.now.origins.items }
+    requires width { matrix.now.width ≡ length feed.now.stops }
+    ensures text { IfOk result (λ text. text.items ≡ matrix_text (labels_in (inputs_of inputs.now)) matrix.now) }
+    ensures fault { IfErr result TellsText }
+{
+    let names = match names_of(alloc, inputs.scenarios) {
+        Ok(names) => names,
+        Err(_) => return Err(StudyFault::Memory),
+    };
+    let labels = Labels {
+        scenarios: names.as_slice(),
+        origins: tables.origins.as_slice(),
+        feed,
+    };
+    let mut text = Vec::new(alloc);
+    match write_matrix(alloc, matrix, &labels, &mut text) {
+        Ok(()) => Ok(text),
+        Err(TextFault::Memory) => Err(StudyFault::Text(TextFault::Memory)),
+        Err(TextFault::Write) => Err(StudyFault::Memory),
+    }
+}

@@ -1,5 +1,0 @@
-use Rattle.ttm.proofs.OneMeaning.{refused_meaningless}
-use Rattle.ttm.proofs.laws.refused_have_no_meaning.Goals as goal
-
-pub returns : goal.returns
-returns c = refused_meaningless c.too_many_have_no_closure.ensures
