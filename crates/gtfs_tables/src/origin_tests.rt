@@ -28,65 +28,61 @@ fn gives_opportunities(alloc: Global, file: Option<&[u8]>, feed: &Feed, want: &[
     }
 }
 
-// Whether the small feed is read, and the origins of a file are these stops.
-fn has_origins(alloc: Global, file: Option<&[u8]>, want: &[StopNo]) -> bool {
+// Whether a file of origins has this fault.
+fn has_origins_fault(alloc: Global, file: &[u8], feed: &Feed, fault: FeedFault) -> bool {
+    if !file_fits(Some(file)) {
+        return false;
+    }
+    read_origins(alloc, Some(file), feed).err() == Some(fault)
+}
+
+// Whether a file of opportunities has this fault.
+fn has_opportunities_fault(alloc: Global, file: &[u8], feed: &Feed, fault: FeedFault) -> bool {
+    if !file_fits(Some(file)) {
+        return false;
+    }
+    read_opportunities(alloc, Some(file), feed).err() == Some(fault)
+}
+
+// What a test expects of a file, or of none, beside the small feed.
+#[derive(Clone, Copy)]
+enum Expected<'a> {
+    Origins(Option<&'a [u8]>, &'a [StopNo]),
+    Opportunities(Option<&'a [u8]>, &'a [u32]),
+    OriginsFault(&'a [u8], FeedFault),
+    OpportunitiesFault(&'a [u8], FeedFault),
+}
+
+// Whether a file gives what is expected. One function owns the feeds of all tests, since letting go of one is long to prove.
+fn gives(alloc: Global, expected: Expected<'_>) -> bool {
     match feed_in(alloc, small_feed()) {
-        Some(feed) => gives_origins(alloc, file, &feed, want),
+        Some(feed) => is_as_expected(alloc, &feed, expected),
         None => false,
+    }
+}
+
+fn is_as_expected(alloc: Global, feed: &Feed, expected: Expected<'_>) -> bool {
+    match expected {
+        Expected::Origins(file, want) => gives_origins(alloc, file, feed, want),
+        Expected::Opportunities(file, want) => gives_opportunities(alloc, file, feed, want),
+        Expected::OriginsFault(file, fault) => has_origins_fault(alloc, file, feed, fault),
+        Expected::OpportunitiesFault(file, fault) => {
+            has_opportunities_fault(alloc, file, feed, fault)
+        }
     }
 }
 
 fn expect_origins(rt: &impl Abort, alloc: Global, file: Option<&[u8]>, want: &[StopNo]) {
-    assert!(rt; has_origins(alloc, file, want));
-}
-
-// Whether the small feed is read, and the opportunities of a file are these.
-fn has_opportunities(alloc: Global, file: Option<&[u8]>, want: &[u32]) -> bool {
-    match feed_in(alloc, small_feed()) {
-        Some(feed) => gives_opportunities(alloc, file, &feed, want),
-        None => false,
-    }
+    assert!(rt; gives(alloc, Expected::Origins(file, want)));
 }
 
 fn expect_opportunities(rt: &impl Abort, alloc: Global, file: Option<&[u8]>, want: &[u32]) {
-    assert!(rt; has_opportunities(alloc, file, want));
-}
-
-// The fault of a file of origins, none where it has none.
-fn origins_fault(alloc: Global, file: &[u8], feed: &Feed) -> Option<FeedFault> {
-    if !file_fits(Some(file)) {
-        return None;
-    }
-    read_origins(alloc, Some(file), feed).err()
-}
-
-// The fault of a file of opportunities, none where it has none.
-fn opportunities_fault(alloc: Global, file: &[u8], feed: &Feed) -> Option<FeedFault> {
-    if !file_fits(Some(file)) {
-        return None;
-    }
-    read_opportunities(alloc, Some(file), feed).err()
-}
-
-// The fault of a file of origins of the small feed.
-fn fault_of_origins(alloc: Global, file: &[u8]) -> Option<FeedFault> {
-    match feed_in(alloc, small_feed()) {
-        Some(feed) => origins_fault(alloc, file, &feed),
-        None => None,
-    }
+    assert!(rt; gives(alloc, Expected::Opportunities(file, want)));
 }
 
 fn expect_origins_fault(rt: &impl Abort, alloc: Global, file: &'static [u8], at: u64, what: What) {
-    let fault = fault_of_origins(alloc, file);
-    assert_eq!(rt; fault, Some(FeedFault::at(FileName::Origins, at, what)));
-}
-
-// The fault of a file of opportunities of the small feed.
-fn fault_of_opportunities(alloc: Global, file: &[u8]) -> Option<FeedFault> {
-    match feed_in(alloc, small_feed()) {
-        Some(feed) => opportunities_fault(alloc, file, &feed),
-        None => None,
-    }
+    let fault = FeedFault::at(FileName::Origins, at, what);
+    assert!(rt; gives(alloc, Expected::OriginsFault(file, fault)));
 }
 
 fn expect_opportunities_fault(
@@ -96,11 +92,8 @@ fn expect_opportunities_fault(
     at: u64,
     what: What,
 ) {
-    let fault = fault_of_opportunities(alloc, file);
-    assert_eq!(rt;
-        fault,
-        Some(FeedFault::at(FileName::Opportunities, at, what))
-    );
+    let fault = FeedFault::at(FileName::Opportunities, at, what);
+    assert!(rt; gives(alloc, Expected::OpportunitiesFault(file, fault)));
 }
 
 #[test]

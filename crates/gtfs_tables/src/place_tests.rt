@@ -9,6 +9,36 @@ use timetable::StopNo;
 const UNKNOWN: &[u8] =
     b"from_stop_id,to_stop_id,transfer_type,min_transfer_time\nA,B,2,60\nA,Z,2,60\n";
 
+// What a test expects of a feed.
+#[derive(Clone, Copy)]
+enum Expected {
+    Places,
+    Stations,
+    StopsOfPlaces,
+    TwoLinks,
+    ThreeUnused,
+    NoTransfers,
+}
+
+// Whether the files are read, and a feed is as expected. One function owns the feeds of all tests, since letting go of one is long to prove.
+fn reads(alloc: Global, expected: Expected, files: FeedBytes<'static>) -> bool {
+    match feed_in(alloc, files) {
+        Some(feed) => is_as_expected(&feed, expected),
+        None => false,
+    }
+}
+
+fn is_as_expected(feed: &Feed, expected: Expected) -> bool {
+    match expected {
+        Expected::Places => has_places(feed),
+        Expected::Stations => has_stations(feed),
+        Expected::StopsOfPlaces => has_stops_of_places(feed),
+        Expected::TwoLinks => has_two_links(feed),
+        Expected::ThreeUnused => has_three_unused(feed),
+        Expected::NoTransfers => has_no_transfers(feed),
+    }
+}
+
 // Whether an identifier is that of a station with these children.
 fn has_children(feed: &Feed, id: &[u8], stops: &[StopNo]) -> bool {
     match feed.place(id) {
@@ -35,16 +65,9 @@ fn has_places(feed: &Feed) -> bool {
         && feed.place(b"Z") == None
 }
 
-fn reads_places(alloc: Global, files: FeedBytes<'static>) -> bool {
-    match feed_in(alloc, files) {
-        Some(feed) => has_places(&feed),
-        None => false,
-    }
-}
-
 #[test]
 fn a_place_is_a_stop_a_station_or_another(rt: HostRuntime) {
-    assert!(rt; reads_places(rt.alloc(), station_feed()));
+    assert!(rt; reads(rt.alloc(), Expected::Places, station_feed()));
 }
 
 // Whether the station S has the children A and B, T has none, and A is no station.
@@ -54,16 +77,9 @@ fn has_stations(feed: &Feed) -> bool {
         && !has_children(feed, b"A", &[])
 }
 
-fn reads_stations(alloc: Global, files: FeedBytes<'static>) -> bool {
-    match feed_in(alloc, files) {
-        Some(feed) => has_stations(&feed),
-        None => false,
-    }
-}
-
 #[test]
 fn a_station_between_its_children_has_both(rt: HostRuntime) {
-    assert!(rt; reads_stations(rt.alloc(), station_feed()));
+    assert!(rt; reads(rt.alloc(), Expected::Stations, station_feed()));
 }
 
 // Whether the station S, the stop C and the entrance E stand for their stops.
@@ -73,16 +89,9 @@ fn has_stops_of_places(feed: &Feed) -> bool {
         && stands_for(feed, b"E", &[])
 }
 
-fn reads_stops_of_places(alloc: Global, files: FeedBytes<'static>) -> bool {
-    match feed_in(alloc, files) {
-        Some(feed) => has_stops_of_places(&feed),
-        None => false,
-    }
-}
-
 #[test]
 fn a_place_stands_for_its_stops(rt: HostRuntime) {
-    assert!(rt; reads_stops_of_places(rt.alloc(), station_feed()));
+    assert!(rt; reads(rt.alloc(), Expected::StopsOfPlaces, station_feed()));
 }
 
 // Whether a walk leads from A to B, and one from the station S to C.
@@ -102,16 +111,9 @@ fn has_two_links(feed: &Feed) -> bool {
     feed.links() == [walk, change].as_slice()
 }
 
-fn reads_two_links(alloc: Global, files: FeedBytes<'static>) -> bool {
-    match feed_in(alloc, files) {
-        Some(feed) => has_two_links(&feed),
-        None => false,
-    }
-}
-
 #[test]
 fn links_are_the_rows_that_give_a_walk(rt: HostRuntime) {
-    assert!(rt; reads_two_links(rt.alloc(), station_feed()));
+    assert!(rt; reads(rt.alloc(), Expected::TwoLinks, station_feed()));
 }
 
 // Whether three rows of transfers give no walk.
@@ -119,16 +121,9 @@ fn has_three_unused(feed: &Feed) -> bool {
     feed.unused_transfers() == 3
 }
 
-fn reads_three_unused(alloc: Global, files: FeedBytes<'static>) -> bool {
-    match feed_in(alloc, files) {
-        Some(feed) => has_three_unused(&feed),
-        None => false,
-    }
-}
-
 #[test]
 fn rows_without_a_walk_are_counted(rt: HostRuntime) {
-    assert!(rt; reads_three_unused(rt.alloc(), station_feed()));
+    assert!(rt; reads(rt.alloc(), Expected::ThreeUnused, station_feed()));
 }
 
 // Whether a feed has no walk, and no row of transfers without one.
@@ -136,16 +131,9 @@ fn has_no_transfers(feed: &Feed) -> bool {
     feed.links().is_empty() && feed.unused_transfers() == 0
 }
 
-fn reads_no_transfers(alloc: Global, files: FeedBytes<'static>) -> bool {
-    match feed_in(alloc, files) {
-        Some(feed) => has_no_transfers(&feed),
-        None => false,
-    }
-}
-
 #[test]
 fn a_feed_without_transfers_has_no_links(rt: HostRuntime) {
-    assert!(rt; reads_no_transfers(rt.alloc(), small_feed()));
+    assert!(rt; reads(rt.alloc(), Expected::NoTransfers, small_feed()));
 }
 
 #[test]

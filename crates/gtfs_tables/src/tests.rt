@@ -7,6 +7,46 @@ use crate::{
 use std::alloc::Global;
 use timetable::{Event, StopNo};
 
+// What a test expects of a feed.
+#[derive(Clone, Copy)]
+enum Expected {
+    Small,
+    SmallOnMondays,
+    CalendarsAndDepartures,
+    ThreeServices,
+    TripsOfServices,
+    TwoExceptions,
+    OneException,
+    Departures,
+    Empty,
+    OneAside,
+    OpenTimes,
+}
+
+// Whether the files are read, and a feed is as expected. One function owns the feeds of all tests, since letting go of one is long to prove.
+fn reads(alloc: Global, expected: Expected, files: FeedBytes<'static>) -> bool {
+    match feed_in(alloc, files) {
+        Some(feed) => is_as_expected(&feed, expected),
+        None => false,
+    }
+}
+
+fn is_as_expected(feed: &Feed, expected: Expected) -> bool {
+    match expected {
+        Expected::Small => is_small(feed),
+        Expected::SmallOnMondays => is_small_on_mondays(feed),
+        Expected::CalendarsAndDepartures => has_calendars_and_departures(feed),
+        Expected::ThreeServices => has_three_services(feed),
+        Expected::TripsOfServices => has_trips_of_services(feed),
+        Expected::TwoExceptions => has_two_exceptions(feed),
+        Expected::OneException => has_one_exception(feed),
+        Expected::Departures => has_departures(feed),
+        Expected::Empty => is_empty(feed),
+        Expected::OneAside => has_one_aside(feed),
+        Expected::OpenTimes => has_open_times(feed),
+    }
+}
+
 // Whether a feed has the stops, routes, services and the two trips of the small feed, in seconds.
 fn is_small(feed: &Feed) -> bool {
     has_three_stops(feed)
@@ -17,13 +57,6 @@ fn is_small(feed: &Feed) -> bool {
         && feed.service_no(b"mon") == None
         && feed.aside() == 0
         && has_two_trips(feed)
-}
-
-fn reads_small(alloc: Global, files: FeedBytes<'static>) -> bool {
-    match feed_in(alloc, files) {
-        Some(feed) => is_small(&feed),
-        None => false,
-    }
 }
 
 fn has_three_stops(feed: &Feed) -> bool {
@@ -89,16 +122,9 @@ fn is_small_on_mondays(feed: &Feed) -> bool {
     is_small(feed) && runs_on_mondays(feed)
 }
 
-fn reads_small_on_mondays(alloc: Global, files: FeedBytes<'static>) -> bool {
-    match feed_in(alloc, files) {
-        Some(feed) => is_small_on_mondays(&feed),
-        None => false,
-    }
-}
-
 #[test]
 fn reads_a_feed(rt: HostRuntime) {
-    assert!(rt; reads_small_on_mondays(rt.alloc(), small_feed()));
+    assert!(rt; reads(rt.alloc(), Expected::SmallOnMondays, small_feed()));
 }
 
 // Whether a feed is the small one, with one row of each calendar, and one row of departures of its second trip.
@@ -108,13 +134,6 @@ fn has_calendars_and_departures(feed: &Feed) -> bool {
         && feed.exceptions().len() == 1
         && feed.trip_count() == 2
         && feed.trip(1).departures.as_slice().len() == 1
-}
-
-fn reads_calendars_and_departures(alloc: Global, files: FeedBytes<'static>) -> bool {
-    match feed_in(alloc, files) {
-        Some(feed) => has_calendars_and_departures(&feed),
-        None => false,
-    }
 }
 
 #[test]
@@ -135,20 +154,20 @@ fn takes_byte_order_marks_and_carriage_returns(rt: HostRuntime) {
         ),
         transfers: None,
     };
-    assert!(rt; reads_calendars_and_departures(rt.alloc(), files));
+    assert!(rt; reads(rt.alloc(), Expected::CalendarsAndDepartures, files));
 }
 
 #[test]
 fn puts_records_in_order_of_sequence(rt: HostRuntime) {
     let times =
         b"stop_sequence,stop_id,departure_time,arrival_time,trip_id\n 12 ,C, 8:30:00,08:30:00 ,T2\n0010,B,08:10:00,8:10:00,T1\n3,B,08:15:00,08:15:00,T2\n9,A,08:00:00,08:00:00,T1\n";
-    assert!(rt; reads_small(rt.alloc(), feed_of(STOPS, TRIPS, times)));
+    assert!(rt; reads(rt.alloc(), Expected::Small, feed_of(STOPS, TRIPS, times)));
 }
 
 #[test]
 fn counts_stops_alone(rt: HostRuntime) {
     let stops = b"location_type,stop_id\n1,S\n,A\n0,B\n2,E\n00,C\n";
-    assert!(rt; reads_small(rt.alloc(), feed_of(stops, TRIPS, TIMES)));
+    assert!(rt; reads(rt.alloc(), Expected::Small, feed_of(stops, TRIPS, TIMES)));
 }
 
 // The small feed with services that calendar_dates.txt and trips.txt name.
@@ -167,28 +186,14 @@ fn has_three_services(feed: &Feed) -> bool {
         && feed.service_no(b"NEW") == Some(2)
 }
 
-fn reads_three_services(alloc: Global, files: FeedBytes<'static>) -> bool {
-    match feed_in(alloc, files) {
-        Some(feed) => has_three_services(&feed),
-        None => false,
-    }
-}
-
 #[test]
 fn services_are_numbered_as_first_named(rt: HostRuntime) {
-    assert!(rt; reads_three_services(rt.alloc(), three_services()));
+    assert!(rt; reads(rt.alloc(), Expected::ThreeServices, three_services()));
 }
 
 // Whether two trips of the second route run on the third and the second service.
 fn has_trips_of_services(feed: &Feed) -> bool {
     feed.trip_count() == 2 && runs_on(feed, 0, 1, 2) && runs_on(feed, 1, 1, 1)
-}
-
-fn reads_trips_of_services(alloc: Global, files: FeedBytes<'static>) -> bool {
-    match feed_in(alloc, files) {
-        Some(feed) => has_trips_of_services(&feed),
-        None => false,
-    }
 }
 
 // Whether a trip is of this route and runs on this service.
@@ -202,20 +207,13 @@ fn runs_on(feed: &Feed, trip: u32, route: u32, service: u32) -> bool {
 
 #[test]
 fn trips_have_routes_and_services(rt: HostRuntime) {
-    assert!(rt; reads_trips_of_services(rt.alloc(), three_services()));
+    assert!(rt; reads(rt.alloc(), Expected::TripsOfServices, three_services()));
 }
 
 // Whether a date is added to the second service, and then one removed from the first.
 fn has_two_exceptions(feed: &Feed) -> bool {
     let rows = feed.exceptions();
     rows.len() == 2 && is_exception(&rows[0], 1, true) && is_exception(&rows[1], 0, false)
-}
-
-fn reads_two_exceptions(alloc: Global, files: FeedBytes<'static>) -> bool {
-    match feed_in(alloc, files) {
-        Some(feed) => has_two_exceptions(&feed),
-        None => false,
-    }
 }
 
 // Whether a row adds its date to this service, or removes it from it.
@@ -225,19 +223,12 @@ fn is_exception(row: &ExceptionRow, service: u32, adds: bool) -> bool {
 
 #[test]
 fn exceptions_have_services(rt: HostRuntime) {
-    assert!(rt; reads_two_exceptions(rt.alloc(), three_services()));
+    assert!(rt; reads(rt.alloc(), Expected::TwoExceptions, three_services()));
 }
 
 // Whether a feed is the small one but for its days: no row of the first calendar, and one exception.
 fn has_one_exception(feed: &Feed) -> bool {
     is_small(feed) && feed.calendar().is_empty() && feed.exceptions().len() == 1
-}
-
-fn reads_one_exception(alloc: Global, files: FeedBytes<'static>) -> bool {
-    match feed_in(alloc, files) {
-        Some(feed) => has_one_exception(&feed),
-        None => false,
-    }
 }
 
 #[test]
@@ -247,7 +238,7 @@ fn one_calendar_is_enough(rt: HostRuntime) {
         calendar_dates: Some(b"service_id,date,exception_type\nMON,20260504,1\n"),
         ..small_feed()
     };
-    assert!(rt; reads_one_exception(rt.alloc(), files));
+    assert!(rt; reads(rt.alloc(), Expected::OneException, files));
 }
 
 // Whether the second trip of the small feed departs every ten minutes from eight to nine, and then never, and the first has no departures.
@@ -265,13 +256,6 @@ fn has_departures(feed: &Feed) -> bool {
     is_small(feed) && departs(feed, 0, &[]) && departs(feed, 1, &[early, never])
 }
 
-fn reads_departures(alloc: Global, files: FeedBytes<'static>) -> bool {
-    match feed_in(alloc, files) {
-        Some(feed) => has_departures(&feed),
-        None => false,
-    }
-}
-
 // Whether a trip has these rows of departures.
 fn departs(feed: &Feed, trip: u32, rows: &[Departures]) -> bool {
     trip < feed.trip_count() && feed.trip(trip).departures.as_slice() == rows
@@ -285,18 +269,11 @@ fn departures_of_each_trip(rt: HostRuntime) {
         ),
         ..small_feed()
     };
-    assert!(rt; reads_departures(rt.alloc(), files));
+    assert!(rt; reads(rt.alloc(), Expected::Departures, files));
 }
 
 fn is_empty(feed: &Feed) -> bool {
     feed.stop_count() == 0 && feed.service_count() == 0 && feed.trip_count() == 0
-}
-
-fn reads_empty(alloc: Global, files: FeedBytes<'static>) -> bool {
-    match feed_in(alloc, files) {
-        Some(feed) => is_empty(&feed),
-        None => false,
-    }
 }
 
 #[test]
@@ -312,7 +289,7 @@ fn an_empty_feed(rt: HostRuntime) {
             b"trip_id,stop_id,stop_sequence\n",
         )
     };
-    assert!(rt; reads_empty(rt.alloc(), files));
+    assert!(rt; reads(rt.alloc(), Expected::Empty, files));
 }
 
 #[test]
@@ -329,13 +306,6 @@ fn has_one_aside(feed: &Feed) -> bool {
         && has_events(feed, 1, &[at(1, 29_700), at(2, 30_600)])
 }
 
-fn reads_one_aside(alloc: Global, files: FeedBytes<'static>) -> bool {
-    match feed_in(alloc, files) {
-        Some(feed) => has_one_aside(&feed),
-        None => false,
-    }
-}
-
 // Whether a trip has these events.
 fn has_events(feed: &Feed, trip: u32, events: &[Event]) -> bool {
     trip < feed.trip_count() && feed.trip(trip).events.as_slice() == events
@@ -345,7 +315,7 @@ fn has_events(feed: &Feed, trip: u32, events: &[Event]) -> bool {
 fn trips_with_a_record_of_no_stop_are_set_aside(rt: HostRuntime) {
     let times =
         b"trip_id,arrival_time,departure_time,stop_id,stop_sequence\nT1,08:00:00,08:00:00,A,1\nT1,,,,2\nT2,08:15:00,08:15:00,B,1\nT2,08:30:00,08:30:00,C,2\n";
-    assert!(rt; reads_one_aside(rt.alloc(), feed_of(STOPS, TRIPS, times)));
+    assert!(rt; reads(rt.alloc(), Expected::OneAside, feed_of(STOPS, TRIPS, times)));
 }
 
 // Whether the first of two trips has three events, with a time between, of which each forbids boarding or alighting.
@@ -359,16 +329,15 @@ fn has_open_times(feed: &Feed) -> bool {
     feed.trip_count() == 2 && has_events(feed, 0, &[first, second, third])
 }
 
-fn reads_open_times(alloc: Global, files: FeedBytes<'static>) -> bool {
-    match feed_in(alloc, files) {
-        Some(feed) => has_open_times(&feed),
-        None => false,
-    }
-}
-
 #[test]
 fn open_times_and_pickups(rt: HostRuntime) {
     let times =
         b"trip_id,arrival_time,departure_time,stop_id,stop_sequence,pickup_type,drop_off_type\nT1,09:00:00,,A,1,,1\nT1,,,B,2,1,0\nT1,,09:10:00,C,3,2,01\n";
-    assert!(rt; reads_open_times(rt.alloc(), feed_of(STOPS, TRIPS, times)));
+    assert!(rt;
+        reads(
+            rt.alloc(),
+            Expected::OpenTimes,
+            feed_of(STOPS, TRIPS, times)
+        )
+    );
 }
