@@ -1,5 +1,5 @@
 -- The events of all trips, where no whole trip has a fault.
-use Rattle.std.proofs.Common.{◌≡◌, ◌<◌, ◌≤◌, ◌+◌, ◌-◌, ◌||◌, ◌∙◌, ℕ, zero, suc, Bool, true, false, List, [], ◌∷◌, ◌++◌, length, map, Option, Some, None, unwrap_or, arith, refl, sym, ap, subst, if◌then◌else◌}
+use Rattle.std.proofs.Common.{◌≡◌, ◌<◌, ◌≤◌, ◌+◌, ◌-◌, ◌||◌, ◌∙◌, ℕ, zero, suc, Bool, true, false, List, [], ◌∷◌, ◌++◌, length, map, Option, Some, None, unwrap_or, arith, refl, sym, ap, subst, inr, if◌then◌else◌}
 use Rattle.std.proofs.lemmas.List.Elements.{All-cons, All-nil}
 use Rattle.std.proofs.lemmas.List.Sums.{sum_by-cons}
 use Rattle.std.specs.Prelude.{All, IfSome, is_none, slice_get, sum_by}
@@ -15,6 +15,8 @@ use Rattle.table_files.specs.WholeTrips.{AreEvents, departed, events_of, faults_
 use Rattle.table_files.specs.declared.fill.Neighbour.{Neighbour}
 use Rattle.table_files.specs.declared.stamps.Stamp.{Stamp}
 use Rattle.table_files.specs.declared.stamps.Times.{Times}
+use Rattle.table_files.proofs.RowFacts.{first_map}
+use Rattle.table_records.specs.declared.fault.FileName.TheVariants.{StopTimes}
 use Rattle.table_files.proofs.FillFacts.{Climbs, OneIs, filled_is, filled_on, gap_within, left_at, length-filled_on, rises, step, departure_before}
 
 pub none_first : {X : Type 0} (xs : List X) → None ≡ slice_get xs 0 → xs ≡ []
@@ -240,3 +242,13 @@ pub tells_trip : (e : FeedFault) (stamps : List Stamp) (all left rest : List (Li
     → Tells e (trip_faults stamps) → Tells e (whole_trip_faults all)
 tells_trip e stamps all left rest same is told =
     subst (Tells e) (sym (ap whole_trip_faults is) ∙ same) (tells_more e (trip_faults stamps) (whole_trip_faults rest) told)
+
+-- the fault of a trip whose first or last event has no time, and of one that goes back
+module _ (stamps : List Stamp) (here : is_aside stamps ≡ false) (at : ℕ) (e : FeedFault) where
+  pub tells_untimed : Some at ≡ slice_get (untimed_ends stamps) 0 → e ≡ record { file = StopTimes; at = at; what = NoTime } → Tells e (trip_faults stamps)
+  tells_untimed first is =
+      rw (here, is) (tells_more _ _ _ (inr (first_map (λ (n : ℕ). let f : FeedFault = record { file = StopTimes; at = n; what = NoTime } in f) (untimed_ends stamps) at (sym first))))
+
+  pub tells_back : untimed_ends stamps ≡ [] → Some at ≡ slice_get (records_back 0 stamps) 0 → e ≡ record { file = StopTimes; at = at; what = TimesGoBack } → Tells e (trip_faults stamps)
+  tells_back none first is =
+      rw (here, none, is) (inr (first_map (λ (n : ℕ). let f : FeedFault = record { file = StopTimes; at = n; what = TimesGoBack } in f) (records_back 0 stamps) at (sym first)))

@@ -14,3 +14,4 @@ pub mod ChildrenFacts
 pub mod PlaceFacts
 pub mod EndFacts
 pub mod TransferFacts
+pub mod RowFacts

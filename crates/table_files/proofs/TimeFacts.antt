@@ -18,6 +18,7 @@ use Rattle.timetable.specs.declared.trips.Event.{Event}
 use Rattle.table_records.specs.declared.fault.FeedFault.{FeedFault}
 use Rattle.table_files.specs.WholeTrips.{events_of, is_aside, whole_trip_faults}
 use Rattle.table_files.specs.declared.stamps.Stamp.{Stamp}
+use Rattle.table_files.proofs.RowFacts.{first_map}
 use Rattle.table_files.proofs.SortedFacts.{All-insert_in_order, any_in_order, length-insert_in_order, number_in_order, sorted_at, sorted_more, sorted_none}
 
 -- the records with one more
@@ -93,10 +94,6 @@ times_small (Some a) (Some d) p q = record { arrive = p a refl; depart = q d ref
 first_append : {X : Type 0} (xs ys : List X) (x : X) → slice_get xs 0 ≡ Some x → slice_get (xs ++ ys) 0 ≡ Some x
 first_append [] ys x h = cc h
 first_append (z ∷ xs) ys x h = h
-
-first_map : {X Y : Type 0} (f : X → Y) (xs : List X) (x : X) → slice_get xs 0 ≡ Some x → slice_get (map f xs) 0 ≡ Some (f x)
-first_map f [] x h = cc h
-first_map f (y ∷ xs) x h = let same : y ≡ x = cc h in ap (λ z. Some (f z)) same
 
 -- a record that comes after those before it
 module _ (trips stops : List (List ℕ)) (before : List TimeRow) (r : TimeRow) (few : length before < 8000000) where

@@ -1,6 +1,6 @@
 -- One more record of `transfers.txt`.
 use Rattle.std.proofs.Common.{◌≡◌, ◌+◌, ◌∙◌, ◌++◌, ℕ, Bool, true, false, List, [], ◌∷◌, length, Option, Some, None, position, arith, refl, sym, ap, subst, if◌then◌else◌, map, ◌≤◌}
-use Rattle.std.specs.Prelude.{◌&&◌, All, option_and_then, slice_get, unwrap_or}
+use Rattle.std.specs.Prelude.{◌&&◌, All, nat_le, option_and_then, slice_get, unwrap_or}
 use Rattle.std.specs.List.{cons_option, enumerate_from, filter_map}
 use Rattle.std.specs.Str.{bytes_eq}
 use Rattle.std.proofs.lemmas.List.{append-nil, length-append}
@@ -14,8 +14,8 @@ use Rattle.table_files.specs.declared.transfers.Transfers.{Transfers}
 use Rattle.table_files.specs.declared.place.Place.{Place}
 use Rattle.table_files.specs.declared.place.Place.TheVariants.{Other}
 use Rattle.table_files.specs.Children.{IsPlace}
-use Rattle.table_files.specs.Places.{ArePlaces, PlaceData}
-use Rattle.table_files.specs.Transfers.{AreTransfers, IsLink, Takes, TransferRow, end_of, gives_pair, is_used, link_at, link_of, links_of, row_of, unused_of}
+use Rattle.table_files.specs.Places.{ArePlaces, PlaceData, kind_of}
+use Rattle.table_files.specs.Transfers.{AreTransfers, IsLink, Takes, TransferRow, checks, end_of, gives_pair, is_general, is_used, is_whole, link_at, link_of, links_of, row_of, unused_of, used_checks}
 use Rattle.table_files.proofs.ChildrenFacts.{enumerate_from-append}
 
 -- the links with one more row
@@ -82,3 +82,23 @@ pub few_after : (bytes : List ℕ) (records rest : List (List (List ℕ))) (foun
     → length rest ≤ 1073741824
 few_after bytes [] rest found fields is few g = rw (g.1) (omega arith)
 few_after bytes (r ∷ rs) rest found fields is few g = rw (g.2) (few_records bytes r rs (sym is) few)
+
+-- what a row of a type gives
+module _ (places : PlaceData) (names : List (List ℕ)) (at : ℕ) (r : TransferRow) (kind : ℕ) (of : Some kind ≡ kind_of r.kind) where
+  pub used_by : is_used r ≡ (nat_le kind 2 && is_general r && is_whole r)
+  used_by = rw (← of) refl
+
+  -- none where the row is not used
+  pub skips : is_used r ≡ false → (checks names [] r ≡ []) × (None ≡ link_of places at r)
+  skips unused = (rw (unused, ← of) refl, rw unused refl)
+
+  -- and otherwise the link, if it gives a pair
+  module _ (used : is_used r ≡ true) where
+    pub checks_used : checks names [] r ≡ used_checks names r
+    checks_used = rw (used, ← of) refl
+
+    pub gives : (link : Link) (b : Bool) → used_checks names r ≡ [] → link ≡ link_at places at r → b ≡ gives_pair places.children link
+        → (checks names [] r ≡ []) × ((if b then Some link else None) ≡ link_of places at r)
+    gives link b none is pair =
+        let here : gives_pair places.children (link_at places at r) ≡ b = ap (gives_pair places.children) (sym is) ∙ sym pair in
+        (checks_used ∙ none, rw (used, here) (ap (λ (x : Link). if b then Some x else None) is))

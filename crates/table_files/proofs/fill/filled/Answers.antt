@@ -1,4 +1,4 @@
-use Rattle.std.proofs.Common.{◌≤◌, ◌+◌, ◌-◌, ◌∙◌, ◌++◌, List, length, drop, take, length-drop, arith, sym, ap}
+use Rattle.std.proofs.Common.{◌≤◌, ◌+◌, ◌-◌, ◌∙◌, ◌++◌, List, length, refl, drop, take, length-drop, arith, sym, ap}
 use Rattle.std.proofs.lemmas.List.{append-nil, length-take}
 use Rattle.timetable.specs.declared.trips.Event.{Event}
 use Rattle.table_files.specs.Fill.{nearest}
@@ -26,3 +26,16 @@ pub returns : goal.returns
 returns c =
     sym (append-nil c.loop-i.events.items) ∙ sym (ap (λ (l : List Event). c.loop-i.events.items ++ l) (none_left c.loop-i.before c.loop-i.i c.args.stamps.now c.loop-i-test.false))
     ∙ c.loop-i.invariant.1 ∙ filled_is c.args.stamps.now
+
+pub event_at-requires-clause-before : goal.event_at-requires-clause-before
+event_at-requires-clause-before c =
+    let few : c.loop-i.i ≤ 8000000 = omega (arith, c.requires, c.loop-i-test.true) in
+    near_within c.loop-i.before c.loop-i.i 8000000 few c.loop-i.invariant.2
+
+pub nearer-before-requires : goal.nearer-before-requires
+nearer-before-requires c =
+    let few : c.loop-i.i ≤ 8000000 = omega (arith, c.requires, c.loop-i-test.true) in
+    near_within c.loop-i.before c.loop-i.i 8000000 few c.loop-i.invariant.2
+
+pub loop-i-init : goal.loop-i-init
+loop-i-init c = (c.nearest-next.ensures, rw c.in_ok-events.ensures.items refl, tt)

@@ -3,7 +3,7 @@ use Rattle.std.proofs.lemmas.List.Sums.{count_by-le-length}
 use Rattle.std.proofs.lemmas.Result.{IfOk-weaker, err_from_is_err_and}
 use Rattle.csv.specs.Records.{fields_of}
 use Rattle.table_records.proofs.FaultFacts.{tells_more}
-use Rattle.table_records.proofs.ReadingFacts.{headed}
+use Rattle.table_records.proofs.ReadingFacts.{headed, missing}
 use Rattle.table_records.specs.Faults.{Tells}
 use Rattle.table_records.specs.Table.{records_of}
 use Rattle.table_records.specs.declared.fault.FileName.TheVariants as file
@@ -17,6 +17,12 @@ use Rattle.table_files.proofs.stop_times.read_stop_times.Goals as goal
 pub read_records-requires-clause-empty : goal.read_records-requires-clause-empty
 read_records-requires-clause-empty c =
     no_stamps c.args.trips.now c.args.stops.now _ (c.in_ok-records.ensures ∙ ap (λ n. replicate {A = List Stamp} n []) c.len.ensures.len)
+
+pub returns-in_err-file-clause-fault : goal.returns-in_err-file-clause-fault
+returns-in_err-file-clause-fault c =
+    let (e, is, same_error) = err_from_is_err_and c.from_residual.result c.from_residual.ensures.1 in
+    rw (is, same_error) (tells_more c.in_err-file.field-0.0 _ _
+    (missing file.StopTimes required row_of (checks c.args.trips.now c.args.stops.now) (records_of c.args.bytes.now) c.in_err-file.field-0.0 c.in_err-file.ensures.fault))
 
 pub returns-in_err-read_records-clause-fault : goal.returns-in_err-read_records-clause-fault
 returns-in_err-read_records-clause-fault c =
