@@ -4,8 +4,6 @@ use crate::{DayFault, Run, active, runs};
 use gtfs_tables::{Feed, FeedBytes, read_date, read_feed};
 use jiff::civil::Date;
 use std::alloc::Global;
-use std::process::Abort;
-use std::test::Fail;
 
 const STOPS: &[u8] = b"stop_id,stop_name\nA,Alpha\nB,Beta\nC,Gamma\n";
 
@@ -57,66 +55,132 @@ fn mondays() -> FeedBytes<'static> {
     }
 }
 
-fn expect_read(rt: &impl Abort, alloc: Global, files: FeedBytes<'_>) -> Feed {
-    assert!(rt; files.fits());
-    match read_feed(alloc, &files) {
-        Ok(feed) => feed,
-        Err(fault) => panic!(rt; "{fault:?}"),
+// The feed of the files, none where they have a fault.
+fn feed_in(alloc: Global, files: FeedBytes<'_>) -> Option<Feed> {
+    if !files.fits() {
+        return None;
+    }
+    read_feed(alloc, &files).ok()
+}
+
+// What a test expects of a feed.
+#[derive(Clone, Copy)]
+enum Expected {
+    ItsDays,
+    LeapDays,
+    DaysAround,
+    Departures,
+    Refusals,
+    ManyRuns,
+}
+
+// Whether the files are read, and a feed is as expected. One function owns the feeds of all tests, since letting go of one
+// is long to prove.
+fn gives(alloc: Global, expected: Expected, files: FeedBytes<'static>) -> bool {
+    match feed_in(alloc, files) {
+        Some(feed) => is_as_expected(alloc, &feed, expected),
+        None => false,
     }
 }
 
-fn date_of(rt: &impl Abort, text: &[u8]) -> Date {
+fn is_as_expected(alloc: Global, feed: &Feed, expected: Expected) -> bool {
+    match expected {
+        Expected::ItsDays => runs_on_its_days(feed),
+        Expected::LeapDays => runs_on_leap_days(alloc, feed),
+        Expected::DaysAround => lists_days_around(alloc, feed),
+        Expected::Departures => lists_departures(alloc, feed),
+        Expected::Refusals => refuses_studies(alloc, feed),
+        Expected::ManyRuns => lists_many(alloc, feed),
+    }
+}
+
+// Whether a service is told to run on a date, or else not to.
+fn runs_on(feed: &Feed, service: u32, text: &[u8], expected: bool) -> bool {
+    if service >= feed.service_count() {
+        return false;
+    }
     match read_date(text) {
-        Some(date) => date,
-        None => panic!(rt; "no date: {text:?}"),
+        Some(date) => runs(feed, service, date) == expected,
+        None => false,
     }
 }
 
-fn expect_service(rt: &impl Abort, feed: &Feed, service: u32, days: &[(&[u8], bool)]) {
-    assert!(rt; service < feed.service_count());
-    for (text, expected) in days {
-        let date = date_of(rt, *text);
-        assert_eq!(rt; runs(feed, service, date), *expected, "on {text:?}");
+// Whether these are the runs, each as trip and shift.
+fn are_runs(runs: &[Run], expected: &[(u32, i64)]) -> bool {
+    runs.len() == expected.len()
+        && runs.iter().zip(expected).all(|(run, (trip, shift))| run.trip == *trip
+            && run.shift == *shift)
+}
+
+// Whether the study around a date lists these runs.
+fn lists_around(
+    alloc: Global,
+    feed: &Feed,
+    date: Date,
+    back: u32,
+    ahead: u32,
+    expected: &[(u32, i64)],
+) -> bool {
+    if back > 6 || ahead > 6 {
+        return false;
+    }
+    match active(alloc, feed, date, back, ahead) {
+        Ok(runs) => are_runs(&runs, expected),
+        Err(_) => false,
     }
 }
 
-// What the study on a date lists, each run as trip and shift.
-fn expect_runs(
-    rt: &impl Abort,
+// Whether the study on a date lists these runs.
+fn lists(
     alloc: Global,
     feed: &Feed,
     text: &[u8],
     back: u32,
     ahead: u32,
     expected: &[(u32, i64)],
-) {
-    assert!(rt; back <= 6 && ahead <= 6);
-    match active(alloc, feed, date_of(rt, text), back, ahead) {
-        Ok(runs) => {
-            assert_eq!(rt; runs.len(), expected.len());
-            for (run, (trip, shift)) in runs.iter().zip(expected) {
-                assert_eq!(rt; run.trip, *trip);
-                assert_eq!(rt; run.shift, *shift);
-            }
-        }
-        Err(fault) => panic!(rt; "{fault:?}"),
+) -> bool {
+    match read_date(text) {
+        Some(date) => lists_around(alloc, feed, date, back, ahead, expected),
+        None => false,
     }
 }
 
-fn expect_fault(
-    rt: &impl Abort,
-    alloc: Global,
-    feed: &Feed,
-    date: Date,
-    back: u32,
-    ahead: u32,
-    expected: DayFault,
-) {
-    assert!(rt; back <= 6 && ahead <= 6);
-    match active(alloc, feed, date, back, ahead) {
-        Ok(runs) => panic!(rt; "{} runs", runs.len()),
-        Err(fault) => assert_eq!(rt; fault, expected),
+// Whether the study of a date, the day before it and the day after it is refused for this fault.
+fn is_refused_around(alloc: Global, feed: &Feed, date: Date, expected: DayFault) -> bool {
+    match active(alloc, feed, date, 1, 1) {
+        Ok(_) => false,
+        Err(fault) => fault == expected,
     }
+}
+
+// Whether the study on a date is refused for this fault.
+fn is_refused(alloc: Global, feed: &Feed, text: &[u8], expected: DayFault) -> bool {
+    match read_date(text) {
+        Some(date) => is_refused_around(alloc, feed, date, expected),
+        None => false,
+    }
+}
+
+// Whether the first service runs on the days of its calendar and its exceptions.
+fn runs_as_scheduled(feed: &Feed) -> bool {
+    runs_on(feed, 0, b"20260427", false)
+        && runs_on(feed, 0, b"20260504", true)
+        && runs_on(feed, 0, b"20260505", false)
+        && runs_on(feed, 0, b"20260511", false)
+        && runs_on(feed, 0, b"20260518", true)
+        && runs_on(feed, 0, b"20260525", true)
+        && runs_on(feed, 0, b"20260601", false)
+}
+
+// Whether the second service, which exceptions alone name, runs on the day that they add.
+fn runs_as_excepted(feed: &Feed) -> bool {
+    runs_on(feed, 1, b"20260505", false)
+        && runs_on(feed, 1, b"20260506", true)
+        && runs_on(feed, 1, b"20260507", false)
+}
+
+fn runs_on_its_days(feed: &Feed) -> bool {
+    runs_as_scheduled(feed) && runs_as_excepted(feed)
 }
 
 #[test]
@@ -130,27 +194,24 @@ fn services_run_on_their_days(rt: HostRuntime) {
         ),
         ..mondays()
     };
-    let feed = expect_read(&rt, rt.alloc(), files);
-    let first: &[(&[u8], bool)] = &[
-        (b"20260427", false),
-        (b"20260504", true),
-        (b"20260505", false),
-        (b"20260511", false),
-        (b"20260518", true),
-        (b"20260525", true),
-        (b"20260601", false),
-    ];
-    expect_service(&rt, &feed, 0, first);
-    let named_by_exceptions: &[(&[u8], bool)] = &[
-        (b"20260505", false),
-        (b"20260506", true),
-        (b"20260507", false),
-    ];
-    expect_service(&rt, &feed, 1, named_by_exceptions);
+    assert!(rt; gives(rt.alloc(), Expected::ItsDays, files));
+}
+
+// Whether both trips run on the day before a date, and none on the date.
+fn runs_the_day_before(alloc: Global, feed: &Feed, text: &[u8]) -> bool {
+    lists(alloc, feed, text, 1, 0, &[(0, 0), (1, 0)]) && lists(alloc, feed, text, 0, 0, &[])
+}
+
+// Whether trips run on the last days of February, of two leap years and of one that isn't.
+fn runs_on_leap_days(alloc: Global, feed: &Feed) -> bool {
+    runs_the_day_before(alloc, feed, b"20000301")
+        && runs_the_day_before(alloc, feed, b"20240301")
+        && runs_the_day_before(alloc, feed, b"19000301")
 }
 
 #[test]
 fn leap_days_are_days(rt: HostRuntime) {
+    assert!(rt; read_date(b"19000229").is_none());
     let files = FeedBytes {
         calendar: None,
         calendar_dates: Some(
@@ -158,12 +219,23 @@ fn leap_days_are_days(rt: HostRuntime) {
         ),
         ..mondays()
     };
-    let feed = expect_read(&rt, rt.alloc(), files);
-    assert!(rt; read_date(b"19000229").is_none());
-    for text in [b"20000301", b"20240301", b"19000301"] {
-        expect_runs(&rt, rt.alloc(), &feed, text, 1, 0, &[(0, 0), (1, 0)]);
-        expect_runs(&rt, rt.alloc(), &feed, text, 0, 0, &[]);
-    }
+    assert!(rt; gives(rt.alloc(), Expected::LeapDays, files));
+}
+
+// Whether three studies of different days list the runs of those days.
+fn lists_days_around(alloc: Global, feed: &Feed) -> bool {
+    let both = [(2, 0), (0, 86_400), (1, 86_400)];
+    let next = [
+        (2, 0),
+        (0, 86_400),
+        (1, 86_400),
+        (2, 7 * 86_400),
+        (0, 8 * 86_400),
+        (1, 8 * 86_400),
+    ];
+    lists(alloc, feed, b"20260504", 1, 1, &both)
+        && lists(alloc, feed, b"20260504", 0, 1, &[(0, 0), (1, 0)])
+        && lists(alloc, feed, b"20260509", 6, 2, &next)
 }
 
 #[test]
@@ -177,20 +249,19 @@ fn a_study_sees_the_days_around_its_date(rt: HostRuntime) {
         ),
         ..mondays()
     };
-    let feed = expect_read(&rt, rt.alloc(), files);
-    let monday = b"20260504";
-    let both = [(2, 0), (0, 86_400), (1, 86_400)];
-    expect_runs(&rt, rt.alloc(), &feed, monday, 1, 1, &both);
-    expect_runs(&rt, rt.alloc(), &feed, monday, 0, 1, &[(0, 0), (1, 0)]);
-    let next = [
-        (2, 0),
+    assert!(rt; gives(rt.alloc(), Expected::DaysAround, files));
+}
+
+// Whether a study lists each departure of rows that overlap, and none of rows that end before they begin.
+fn lists_departures(alloc: Global, feed: &Feed) -> bool {
+    let departures = [
         (0, 86_400),
-        (1, 86_400),
-        (2, 7 * 86_400),
-        (0, 8 * 86_400),
-        (1, 8 * 86_400),
+        (0, 87_000),
+        (0, 87_000),
+        (0, 87_600),
+        (1, 86_400 - 4_500),
     ];
-    expect_runs(&rt, rt.alloc(), &feed, b"20260509", 6, 2, &next);
+    lists(alloc, feed, b"20260504", 1, 1, &departures)
 }
 
 #[test]
@@ -201,34 +272,63 @@ fn trips_with_headways_run_as_their_departures(rt: HostRuntime) {
         ),
         ..mondays()
     };
-    let feed = expect_read(&rt, rt.alloc(), files);
-    let departures = [
-        (0, 86_400),
-        (0, 87_000),
-        (0, 87_000),
-        (0, 87_600),
-        (1, 86_400 - 4_500),
-    ];
-    expect_runs(&rt, rt.alloc(), &feed, b"20260504", 1, 1, &departures);
+    assert!(rt; gives(rt.alloc(), Expected::Departures, files));
+}
+
+// Whether the study on the first date of the calendar is refused.
+fn is_refused_first(alloc: Global, feed: &Feed) -> bool {
+    match Date::new(-9999, 1, 1) {
+        Ok(first) => is_refused_around(alloc, feed, first, DayFault::DateRange),
+        Err(_) => false,
+    }
+}
+
+// Whether studies with too many runs, or past the ends of the calendar, are refused, and one up to its last date isn't.
+fn refuses_studies(alloc: Global, feed: &Feed) -> bool {
+    is_refused(alloc, feed, b"20260504", DayFault::TooMany)
+        && is_refused(alloc, feed, b"99991231", DayFault::DateRange)
+        && is_refused_first(alloc, feed)
+        && lists(alloc, feed, b"99991231", 6, 0, &[])
 }
 
 #[test]
-fn studies_are_refused(rt: HostRuntime) -> Result<(), Fail> {
+fn studies_are_refused(rt: HostRuntime) {
     let files = FeedBytes {
         frequencies: Some(
             b"trip_id,start_time,end_time,headway_secs\nT1,00:00:00,167:59:59,1\nT2,00:00:00,167:59:59,1\n",
         ),
         ..mondays()
     };
-    let feed = expect_read(&rt, rt.alloc(), files);
-    let monday = date_of(&rt, b"20260504");
-    let last = date_of(&rt, b"99991231");
-    let first = Date::new(-9999, 1, 1)?;
-    expect_fault(&rt, rt.alloc(), &feed, monday, 1, 1, DayFault::TooMany);
-    expect_fault(&rt, rt.alloc(), &feed, last, 1, 1, DayFault::DateRange);
-    expect_fault(&rt, rt.alloc(), &feed, first, 1, 1, DayFault::DateRange);
-    expect_runs(&rt, rt.alloc(), &feed, b"99991231", 6, 0, &[]);
-    Ok(())
+    assert!(rt; gives(rt.alloc(), Expected::Refusals, files));
+}
+
+// Whether these are 450,000 runs of the first trip, with the shifts of the first and of the last second.
+fn are_many(runs: &[Run]) -> bool {
+    let first = Run {
+        trip: 0,
+        shift: 86_400 - 29_400,
+    };
+    let last = Run {
+        trip: 0,
+        shift: 86_400 + 449_999 - 29_400,
+    };
+    runs.len() == 450_000 && runs[0] == first && runs[449_999] == last
+}
+
+// Whether the study around a date lists the many runs.
+fn lists_many_around(alloc: Global, feed: &Feed, date: Date) -> bool {
+    match active(alloc, feed, date, 1, 1) {
+        Ok(runs) => are_many(&runs),
+        Err(_) => false,
+    }
+}
+
+// Whether the study of the first Monday lists a departure of a long trip each second.
+fn lists_many(alloc: Global, feed: &Feed) -> bool {
+    match read_date(b"20260504") {
+        Some(monday) => lists_many_around(alloc, feed, monday),
+        None => false,
+    }
 }
 
 #[test]
@@ -239,21 +339,5 @@ fn many_departures_are_listed(rt: HostRuntime) {
         frequencies: Some(b"trip_id,start_time,end_time,headway_secs\nT1,00:00:00,125:00:00,1\n"),
         ..mondays()
     };
-    let feed = expect_read(&rt, rt.alloc(), files);
-    match active(rt.alloc(), &feed, date_of(&rt, b"20260504"), 1, 1) {
-        Ok(runs) => {
-            let first = Run {
-                trip: 0,
-                shift: 86_400 - 29_400,
-            };
-            let last = Run {
-                trip: 0,
-                shift: 86_400 + 449_999 - 29_400,
-            };
-            assert_eq!(rt; runs.len(), 450_000);
-            assert_eq!(rt; runs[0], first);
-            assert_eq!(rt; runs[449_999], last);
-        }
-        Err(fault) => panic!(rt; "{fault:?}"),
-    }
+    assert!(rt; gives(rt.alloc(), Expected::ManyRuns, files));
 }
