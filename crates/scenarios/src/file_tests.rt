@@ -1,81 +1,80 @@
 //! Scenarios that are read from files, over the feed of the other tests: trips T1 and T0 on route R1, T2 on route R2.
 
-use crate::tests::{expect_read, mondays};
-use crate::{Scenario, ScenarioWhat, read_scenario};
+use crate::tests::{feed_in, mondays};
+use crate::{Scenario, ScenarioFault, ScenarioWhat, read_scenario};
 use gtfs_tables::{Feed, FeedBytes};
-use std::alloc::Global;
+use std::alloc::{AllocError, Global};
 use std::process::Abort;
 use std::test::Fail;
 
-// T1 departs at 00:10:00, 00:20:00 and 00:30:00, in two rows.
-const DEPARTURES: &[u8] =
-    b"trip_id,start_time,end_time,headway_secs\nT1,00:20:00,00:30:01,600\nT1,00:10:00,00:10:01,60\n";
-
-fn feed_with(rt: &impl Abort, alloc: Global, frequencies: Option<&'static [u8]>) -> Feed {
-    let files = FeedBytes {
-        frequencies,
+// The feed where T1 departs at 00:10:00, 00:20:00 and 00:30:00, in two rows.
+fn with_departures() -> FeedBytes<'static> {
+    FeedBytes {
+        frequencies: Some(
+            b"trip_id,start_time,end_time,headway_secs\nT1,00:20:00,00:30:01,600\nT1,00:10:00,00:10:01,60\n",
+        ),
         ..mondays()
-    };
-    expect_read(rt, alloc, files)
-}
-
-fn expect_scenario(rt: &impl Abort, alloc: Global, feed: &Feed, bytes: &[u8]) -> Scenario {
-    assert!(rt; bytes.len() <= 1_073_741_824);
-    match read_scenario(alloc, b"case", bytes, feed) {
-        Ok(scenario) => scenario,
-        Err(fault) => panic!(rt; "{fault:?}"),
     }
 }
 
-// What a file is refused for: the record, and what is wrong with it.
-fn refusal(
-    rt: &impl Abort,
-    alloc: Global,
-    feed: &Feed,
-    bytes: &[u8],
-) -> Option<(u64, ScenarioWhat)> {
-    assert!(rt; bytes.len() <= 1_073_741_824);
-    match read_scenario(alloc, b"case", bytes, feed) {
-        Ok(_) => None,
-        Err(fault) => Some((fault.at, fault.what)),
+// The scenario of a file over a feed, none where the file is refused.
+fn scenario_over(alloc: Global, feed: &Feed, bytes: &[u8]) -> Option<Scenario> {
+    if bytes.len() > 1_073_741_824 {
+        return None;
+    }
+    read_scenario(alloc, b"case", bytes, feed).ok()
+}
+
+// Whether a scenario removes the second of three trips, and it alone.
+fn removes_second_trip(scenario: &Scenario, feed: &Feed) -> bool {
+    scenario.name() == b"case".as_slice()
+        && feed.trip_count() == 3
+        && scenario.keeps(feed, 0)
+        && !scenario.keeps(feed, 1)
+        && scenario.keeps(feed, 2)
+        && scenario.shift(1) == 0
+}
+
+fn cuts_second_trip(alloc: Global, feed: &Feed) -> bool {
+    match scenario_over(alloc, feed, b"action,id,seconds\nremove_route,R2,\n") {
+        Some(cut) => removes_second_trip(&cut, feed),
+        None => false,
     }
 }
 
 #[test]
 fn a_removed_route_loses_its_trips(rt: HostRuntime) {
-    let feed = feed_with(&rt, rt.alloc(), None);
-    let cut = expect_scenario(
-        &rt,
-        rt.alloc(),
-        &feed,
-        b"action,id,seconds\nremove_route,R2,\n",
-    );
-    assert!(rt; cut.name() == b"case".as_slice());
-    assert_eq!(rt; feed.trip_count(), 3);
-    assert!(rt; cut.keeps(&feed, 0) && !cut.keeps(&feed, 1) && cut.keeps(&feed, 2));
-    assert_eq!(rt; cut.shift(1), 0);
+    assert!(rt; gives(rt.alloc(), mondays(), Expected::Cut));
+}
+
+// Whether a scenario keeps the first two of three trips.
+fn keeps_two_trips(scenario: &Scenario, feed: &Feed) -> bool {
+    feed.trip_count() == 3 && scenario.keeps(feed, 0) && scenario.keeps(feed, 1)
+}
+
+// Whether a scenario shifts the first trip alone, by five minutes.
+fn shifts_first_trip(scenario: &Scenario) -> bool {
+    scenario.shift(0) == 300 && scenario.shift(1) == 0
+}
+
+fn delays_first_trip(alloc: Global, feed: &Feed) -> bool {
+    match scenario_over(alloc, feed, b"action,id,seconds\nshift_trip,T1,300\n") {
+        Some(late) => keeps_two_trips(&late, feed) && shifts_first_trip(&late),
+        None => false,
+    }
 }
 
 #[test]
 fn a_shifted_trip_runs_later(rt: HostRuntime) {
-    let feed = feed_with(&rt, rt.alloc(), None);
-    let late = expect_scenario(
-        &rt,
-        rt.alloc(),
-        &feed,
-        b"action,id,seconds\nshift_trip,T1,300\n",
-    );
-    assert_eq!(rt; feed.trip_count(), 3);
-    assert!(rt; late.keeps(&feed, 0) && late.keeps(&feed, 1));
-    assert_eq!(rt; late.shift(0), 300);
-    assert_eq!(rt; late.shift(1), 0);
+    assert!(rt; gives(rt.alloc(), mondays(), Expected::Delay));
 }
 
-// A file is accepted, and shifts the trip with a number by so many seconds.
-fn expect_shift_of(rt: &impl Abort, alloc: Global, bytes: &[u8], trip: u32, shift: i64) {
-    let feed = feed_with(rt, alloc, None);
-    let scenario = expect_scenario(rt, alloc, &feed, bytes);
-    assert_eq!(rt; scenario.shift(trip), shift);
+// By how many seconds a file over the feed shifts the trip with a number; none where the file is refused.
+fn shift_over(alloc: Global, feed: &Feed, bytes: &[u8], trip: u32) -> Option<i64> {
+    match scenario_over(alloc, feed, bytes) {
+        Some(scenario) => Some(scenario.shift(trip)),
+        None => None,
+    }
 }
 
 const SHIFTS: &[u8] =
@@ -88,16 +87,64 @@ fn shifts_of_a_trip_add_up(rt: HostRuntime) {
     expect_shift_of(&rt, rt.alloc(), SHIFTS, 2, 0);
 }
 
-// A file is refused at a record.
-fn expect_refusal(rt: &impl Abort, alloc: Global, bytes: &[u8], at: u64, what: ScenarioWhat) {
-    let feed = feed_with(rt, alloc, None);
-    assert!(rt; refusal(rt, alloc, &feed, bytes) == Some((at, what)));
+// The fault of a file over a feed, none where the file is accepted.
+fn fault_over(alloc: Global, feed: &Feed, bytes: &[u8]) -> Option<ScenarioFault> {
+    if bytes.len() > 1_073_741_824 {
+        return None;
+    }
+    read_scenario(alloc, b"case", bytes, feed).err()
 }
 
-// What a file is told, where T1 has departures.
-fn expect_told(rt: &impl Abort, alloc: Global, bytes: &[u8], told: Option<(u64, ScenarioWhat)>) {
-    let feed = feed_with(rt, alloc, Some(DEPARTURES));
-    assert!(rt; refusal(rt, alloc, &feed, bytes) == told);
+// What a test expects of a scenario file over a feed.
+#[derive(Clone, Copy)]
+enum Expected<'a> {
+    Cut,
+    Delay,
+    Shift(&'a [u8], u32, i64),
+    Accepted(&'a [u8]),
+    Fault(&'a [u8], ScenarioFault),
+}
+
+fn is_as_expected(alloc: Global, feed: &Feed, expected: Expected<'_>) -> bool {
+    match expected {
+        Expected::Cut => cuts_second_trip(alloc, feed),
+        Expected::Delay => delays_first_trip(alloc, feed),
+        Expected::Shift(bytes, trip, shift) => shift_over(alloc, feed, bytes, trip) == Some(shift),
+        Expected::Accepted(bytes) => shift_over(alloc, feed, bytes, 0).is_some(),
+        Expected::Fault(bytes, fault) => fault_over(alloc, feed, bytes) == Some(fault),
+    }
+}
+
+// Whether the files are read, and a scenario file over their feed is as expected. One function owns the feeds of all tests,
+// since letting go of one is long to prove.
+fn gives(alloc: Global, files: FeedBytes<'static>, expected: Expected<'_>) -> bool {
+    match feed_in(alloc, files) {
+        Some(feed) => is_as_expected(alloc, &feed, expected),
+        None => false,
+    }
+}
+
+// A file is accepted, and shifts the trip with a number by so many seconds.
+fn expect_shift_of(rt: &impl Abort, alloc: Global, bytes: &[u8], trip: u32, shift: i64) {
+    assert!(rt; gives(alloc, mondays(), Expected::Shift(bytes, trip, shift)));
+}
+
+// A file is refused at a record.
+fn expect_refusal(rt: &impl Abort, alloc: Global, bytes: &[u8], at: u64, what: ScenarioWhat) {
+    let fault = ScenarioFault { at, what };
+    assert!(rt; gives(alloc, mondays(), Expected::Fault(bytes, fault)));
+}
+
+// A file is refused at a record, where T1 has departures.
+fn expect_refusal_of_departures(
+    rt: &impl Abort,
+    alloc: Global,
+    bytes: &[u8],
+    at: u64,
+    what: ScenarioWhat,
+) {
+    let fault = ScenarioFault { at, what };
+    assert!(rt; gives(alloc, with_departures(), Expected::Fault(bytes, fault)));
 }
 
 #[test]
@@ -245,43 +292,42 @@ fn a_trip_may_be_shifted_to_the_ends_of_its_times(rt: HostRuntime) {
 
 #[test]
 fn departures_are_not_shifted_out_of_their_times(rt: HostRuntime) {
-    expect_told(
-        &rt,
-        rt.alloc(),
-        b"action,id,seconds\nshift_trip,T1,-600\n",
-        None,
-    );
-    expect_told(
+    let first = b"action,id,seconds\nshift_trip,T1,-600\n";
+    assert!(rt; gives(rt.alloc(), with_departures(), Expected::Accepted(first)));
+    expect_refusal_of_departures(
         &rt,
         rt.alloc(),
         b"action,id,seconds\nshift_trip,T1,-601\n",
-        Some((2, ScenarioWhat::ShiftOutOfRange)),
+        2,
+        ScenarioWhat::ShiftOutOfRange,
     );
-    expect_told(
-        &rt,
-        rt.alloc(),
-        b"action,id,seconds\nshift_trip,T1,604799\nshift_trip,T1,604799\nshift_trip,T1,604799\nshift_trip,T1,183142\n",
-        None,
-    );
-    expect_told(
+    let last =
+        b"action,id,seconds\nshift_trip,T1,604799\nshift_trip,T1,604799\nshift_trip,T1,604799\nshift_trip,T1,183142\n";
+    assert!(rt; gives(rt.alloc(), with_departures(), Expected::Accepted(last)));
+    expect_refusal_of_departures(
         &rt,
         rt.alloc(),
         b"action,id,seconds\nshift_trip,T1,604799\nshift_trip,T1,604799\nshift_trip,T1,604799\nshift_trip,T1,183143\n",
-        Some((5, ScenarioWhat::ShiftOutOfRange)),
+        5,
+        ScenarioWhat::ShiftOutOfRange,
     );
+}
+
+// A file of a hundred thousand records, and what follows them.
+fn many_records(alloc: Global, rest: &[u8]) -> Result<Vec<u8>, AllocError> {
+    let mut bytes = Vec::from_slice(alloc, b"action,id,seconds\n")?;
+    for _ in 0..50_000 {
+        bytes.extend_from_slice(b"shift_trip,T1,2\nshift_trip,T1,-1\n")?;
+    }
+    bytes.extend_from_slice(rest)?;
+    Ok(bytes)
 }
 
 #[test]
 fn a_hundred_thousand_records_are_read(rt: HostRuntime) -> Result<(), Fail> {
-    let feed = feed_with(&rt, rt.alloc(), None);
-    let mut bytes = Vec::from_slice(rt.alloc(), b"action,id,seconds\n")?;
-    for _ in 0..50_000 {
-        bytes.extend_from_slice(b"shift_trip,T1,2\nshift_trip,T1,-1\n")?;
-    }
-    assert!(rt; refusal(&rt, rt.alloc(), &feed, bytes.as_slice()).is_none());
-    bytes.extend_from_slice(b"stop_trip,T1,2\n")?;
-    assert!(rt;
-        refusal(&rt, rt.alloc(), &feed, bytes.as_slice()) == Some((100_002, ScenarioWhat::TooMany))
-    );
+    let most = many_records(rt.alloc(), b"")?;
+    assert!(rt; gives(rt.alloc(), mondays(), Expected::Accepted(&most)));
+    let more = many_records(rt.alloc(), b"stop_trip,T1,2\n")?;
+    expect_refusal(&rt, rt.alloc(), &more, 100_002, ScenarioWhat::TooMany);
     Ok(())
 }

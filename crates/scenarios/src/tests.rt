@@ -1,12 +1,10 @@
 //! The scenario without edits, and its networks over small feeds.
 
-use crate::{base, network_of};
+use crate::{Scenario, base, network_of};
 use gtfs_tables::{Feed, FeedBytes, read_date, read_feed};
 use service_days::active;
-use std::alloc::Global;
-use std::process::Abort;
-use std::test::Fail;
-use timetable::{Feet, NetFault, Network, StopNo};
+use std::alloc::{AllocError, Global};
+use timetable::{Event, Feet, NetFault, Network, StopNo, Trip};
 
 const STOPS: &[u8] = b"stop_id,stop_name\nA,Alpha\nB,Beta\nC,Gamma\n";
 
@@ -58,129 +56,194 @@ pub(crate) fn mondays() -> FeedBytes<'static> {
     }
 }
 
-pub(crate) fn expect_read(rt: &impl Abort, alloc: Global, files: FeedBytes<'_>) -> Feed {
-    assert!(rt; files.fits());
-    match read_feed(alloc, &files) {
-        Ok(feed) => feed,
-        Err(fault) => panic!(rt; "{fault:?}"),
+// The feed of the files, none where they have a fault.
+pub(crate) fn feed_in(alloc: Global, files: FeedBytes<'_>) -> Option<Feed> {
+    if !files.fits() {
+        return None;
+    }
+    read_feed(alloc, &files).ok()
+}
+
+// For each of three stops the walks from it: one of a minute from A to B.
+fn walks(alloc: Global) -> Result<Vec<Vec<(StopNo, u32)>>, AllocError> {
+    let from_a = Vec::from_slice(alloc, &[(StopNo(1), 60)])?;
+    Ok(vec![in alloc; from_a, Vec::new(alloc), Vec::new(alloc)]?)
+}
+
+// A footpath of a minute from A to B, none without memory.
+fn short_walk(alloc: Global) -> Option<Feet> {
+    match walks(alloc) {
+        Ok(lists) => Feet::new(alloc, 3, lists).ok(),
+        Err(_) => None,
     }
 }
 
-// A footpath of a minute from A to B.
-fn short_walk(rt: &impl Abort, alloc: Global) -> Result<Feet, Fail> {
-    let mut lists = Vec::new(alloc);
-    lists.push(Vec::from_slice(alloc, &[(StopNo(1), 60)])?)?;
-    lists.push(Vec::new(alloc))?;
-    lists.push(Vec::new(alloc))?;
-    match Feet::new(alloc, 3, lists) {
-        Ok(feet) => Ok(feet),
-        Err((fault, _)) => panic!(rt; "{fault:?}"),
+// The network of the scenario without edits on the first Monday, with a day before it and one after it; want of memory is
+// told too where the study has no runs.
+fn network_on_monday(alloc: Global, feed: &Feed, feet: &Feet) -> Result<Network, NetFault> {
+    if feet.stops() != feed.stop_count() {
+        return Err(NetFault::Memory);
     }
-}
-
-// The network of the scenario without edits on the first Monday, with a day before it and one after it.
-fn network_on_monday(
-    rt: &impl Abort,
-    alloc: Global,
-    feed: &Feed,
-) -> Result<Result<Network, NetFault>, Fail> {
-    let feet = short_walk(rt, alloc)?;
-    assert_eq!(rt; feet.stops(), feed.stop_count());
-    let monday = match read_date(b"20260504") {
-        Some(monday) => monday,
-        None => panic!(rt; "no date"),
+    let Some(monday) = read_date(b"20260504") else {
+        return Err(NetFault::Memory);
     };
     match active(alloc, feed, monday, 1, 1) {
-        Ok(runs) => Ok(network_of(alloc, feed, &base(alloc), &runs, &feet)),
-        Err(fault) => panic!(rt; "{fault:?}"),
+        Ok(runs) => network_of(alloc, feed, &base(alloc), &runs, feet),
+        Err(_) => Err(NetFault::Memory),
     }
 }
 
-// A trip as its route, its number, and for each event the stop, the arrival and the departure.
-type Expected = (u32, u32, [(u32, u32, u32); 2]);
+// A trip as its route, its number and its events.
+type ExpectedTrip = (u32, u32, [Event; 2]);
 
-fn expect_network(
-    rt: &impl Abort,
-    alloc: Global,
-    feed: &Feed,
-    expected: &[Expected],
-) -> Result<(), Fail> {
-    match network_on_monday(rt, alloc, feed)? {
-        Ok(network) => {
-            assert_eq!(rt; network.stops(), 3);
-            assert_eq!(rt; network.feet().stops(), 3);
-            assert!(rt; network.feet().seconds(StopNo(0), StopNo(1)) == Some(60));
-            assert_eq!(rt; network.trips().len(), expected.len());
-            for (trip, (route, name, times)) in network.trips().iter().zip(expected) {
-                assert_eq!(rt; trip.route, *route);
-                assert_eq!(rt; trip.name, *name);
-                let events = trip.events.as_slice();
-                assert_eq!(rt; events.len(), times.len());
-                for (event, (stop, arrive, depart)) in events.iter().zip(times) {
-                    assert_eq!(rt; event.stop, StopNo(*stop));
-                    assert_eq!(rt; event.arrive, *arrive);
-                    assert_eq!(rt; event.depart, *depart);
-                    assert!(rt; event.board && event.alight);
-                }
-            }
-        }
-        Err(fault) => panic!(rt; "{fault:?}"),
+// A vehicle at a stop, where travellers may board and alight.
+fn at(stop: u32, arrive: u32, depart: u32) -> Event {
+    Event {
+        stop: StopNo(stop),
+        arrive,
+        depart,
+        board: true,
+        alight: true,
     }
-    Ok(())
+}
+
+fn is_trip(trip: &Trip, expected: &ExpectedTrip) -> bool {
+    trip.route == expected.0
+        && trip.name == expected.1
+        && trip.events.as_slice() == expected.2.as_slice()
+}
+
+fn are_trips(trips: &[Trip], expected: &[ExpectedTrip]) -> bool {
+    trips.len() == expected.len()
+        && trips
+            .iter()
+            .zip(expected)
+            .all(|(trip, expected)| is_trip(trip, expected))
+}
+
+fn is_short_walk(feet: &Feet) -> bool {
+    feet.stops() == 3 && feet.seconds(StopNo(0), StopNo(1)) == Some(60)
+}
+
+// Whether a network has three stops, the short walk between them, and these trips.
+fn is_network(network: &Network, expected: &[ExpectedTrip]) -> bool {
+    network.stops() == 3 && is_short_walk(network.feet()) && are_trips(network.trips(), expected)
+}
+
+// Whether the network of a feed on the first Monday has these trips.
+fn runs_trips(alloc: Global, feed: &Feed, feet: &Feet, expected: &[ExpectedTrip]) -> bool {
+    match network_on_monday(alloc, feed, feet) {
+        Ok(network) => is_network(&network, expected),
+        Err(_) => false,
+    }
+}
+
+// How many trips the network of a feed has on the first Monday, or its fault.
+fn count_trips(alloc: Global, feed: &Feed, feet: &Feet) -> Result<usize, NetFault> {
+    match network_on_monday(alloc, feed, feet) {
+        Ok(network) => Ok(network.trips().len()),
+        Err(fault) => Err(fault),
+    }
+}
+
+// Whether the network of a feed on the first Monday is refused as too large.
+fn is_too_large(alloc: Global, feed: &Feed, feet: &Feet) -> bool {
+    match count_trips(alloc, feed, feet) {
+        Ok(_) => false,
+        Err(fault) => fault == NetFault::TooLarge,
+    }
+}
+
+// Whether a scenario keeps a trip, with its times.
+fn keeps_as_it_is(scenario: &Scenario, feed: &Feed, trip: u32) -> bool {
+    trip < feed.trip_count() && scenario.keeps(feed, trip) && scenario.shift(trip) == 0
+}
+
+fn keeps_every_trip(scenario: &Scenario, feed: &Feed) -> bool {
+    for trip in 0..feed.trip_count() {
+        if !keeps_as_it_is(scenario, feed, trip) {
+            return false;
+        }
+    }
+    true
+}
+
+// What a test expects of a feed's network on the first Monday, or of the scenario without edits.
+#[derive(Clone, Copy)]
+enum Expected<'a> {
+    Trips(&'a [ExpectedTrip]),
+    TooLarge,
+    EveryTripKept,
+}
+
+fn is_network_as_expected(alloc: Global, feed: &Feed, feet: &Feet, expected: Expected<'_>) -> bool {
+    match expected {
+        Expected::Trips(trips) => runs_trips(alloc, feed, feet, trips),
+        Expected::TooLarge => is_too_large(alloc, feed, feet),
+        Expected::EveryTripKept => keeps_every_trip(&base(alloc), feed),
+    }
+}
+
+fn is_as_expected(alloc: Global, feed: &Feed, expected: Expected<'_>) -> bool {
+    match short_walk(alloc) {
+        Some(feet) => is_network_as_expected(alloc, feed, &feet, expected),
+        None => false,
+    }
+}
+
+// Whether the files are read, and a feed is as expected. One function owns the feeds of all tests, since letting go of one
+// is long to prove.
+fn gives(alloc: Global, files: FeedBytes<'static>, expected: Expected<'_>) -> bool {
+    match feed_in(alloc, files) {
+        Some(feed) => is_as_expected(alloc, &feed, expected),
+        None => false,
+    }
+}
+
+fn base_is_named(alloc: Global) -> bool {
+    base(alloc).name() == b"base".as_slice()
 }
 
 #[test]
 fn base_keeps_every_trip_as_it_is(rt: HostRuntime) {
-    let feed = expect_read(&rt, rt.alloc(), mondays());
-    let scenario = base(rt.alloc());
-    assert_eq!(rt; scenario.name(), b"base".as_slice());
-    for trip in 0..feed.trip_count() {
-        assert!(rt; scenario.keeps(&feed, trip));
-        assert_eq!(rt; scenario.shift(trip), 0);
-    }
+    assert!(rt; base_is_named(rt.alloc()));
+    assert!(rt; gives(rt.alloc(), mondays(), Expected::EveryTripKept));
 }
 
 #[test]
-fn trips_run_on_the_axis(rt: HostRuntime) -> Result<(), Fail> {
-    let feed = expect_read(&rt, rt.alloc(), mondays());
+fn trips_run_on_the_axis(rt: HostRuntime) {
     let trips = [
-        (0, 2, [(0, 86_700, 86_700), (1, 87_600, 87_600)]),
-        (0, 0, [(0, 115_080, 115_200), (1, 115_800, 115_860)]),
-        (1, 1, [(1, 116_100, 116_100), (2, 117_000, 117_000)]),
+        (0, 2, [at(0, 86_700, 86_700), at(1, 87_600, 87_600)]),
+        (0, 0, [at(0, 115_080, 115_200), at(1, 115_800, 115_860)]),
+        (1, 1, [at(1, 116_100, 116_100), at(2, 117_000, 117_000)]),
     ];
-    expect_network(&rt, rt.alloc(), &feed, &trips)
+    assert!(rt; gives(rt.alloc(), mondays(), Expected::Trips(&trips)));
 }
 
 #[test]
-fn departures_arrive_first_when_they_depart(rt: HostRuntime) -> Result<(), Fail> {
+fn departures_arrive_first_when_they_depart(rt: HostRuntime) {
     let files = FeedBytes {
         frequencies: Some(
             b"trip_id,start_time,end_time,headway_secs\nT1,08:00:00,08:20:00,600\nT2,00:00:00,00:00:01,60\n",
         ),
         ..mondays()
     };
-    let feed = expect_read(&rt, rt.alloc(), files);
     let trips = [
-        (0, 2, [(0, 86_700, 86_700), (1, 87_600, 87_600)]),
-        (0, 0, [(0, 115_200, 115_200), (1, 115_800, 115_860)]),
-        (0, 0, [(0, 115_800, 115_800), (1, 116_400, 116_460)]),
-        (1, 1, [(1, 86_400, 86_400), (2, 87_300, 87_300)]),
+        (0, 2, [at(0, 86_700, 86_700), at(1, 87_600, 87_600)]),
+        (0, 0, [at(0, 115_200, 115_200), at(1, 115_800, 115_860)]),
+        (0, 0, [at(0, 115_800, 115_800), at(1, 116_400, 116_460)]),
+        (1, 1, [at(1, 86_400, 86_400), at(2, 87_300, 87_300)]),
     ];
-    expect_network(&rt, rt.alloc(), &feed, &trips)
+    assert!(rt; gives(rt.alloc(), files, Expected::Trips(&trips)));
 }
 
 #[test]
-fn too_many_events_are_refused(rt: HostRuntime) -> Result<(), Fail> {
+fn too_many_events_are_refused(rt: HostRuntime) {
     let files = FeedBytes {
         trips: Some(b"route_id,service_id,trip_id\nR1,MON,T1\n"),
         stop_times: Some(LONG_TRIP),
         frequencies: Some(b"trip_id,start_time,end_time,headway_secs\nT1,00:00:00,125:00:00,1\n"),
         ..mondays()
     };
-    let feed = expect_read(&rt, rt.alloc(), files);
-    match network_on_monday(&rt, rt.alloc(), &feed)? {
-        Ok(network) => panic!(rt; "{} trips", network.trips().len()),
-        Err(fault) => assert_eq!(rt; fault, NetFault::TooLarge),
-    }
-    Ok(())
+    assert!(rt; gives(rt.alloc(), files, Expected::TooLarge));
 }
