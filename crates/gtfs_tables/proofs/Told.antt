@@ -4,40 +4,18 @@ use Rattle.table_records.specs.Faults.{Tells}
 use Rattle.table_records.specs.declared.fault.FeedFault.{FeedFault}
 use Rattle.table_records.proofs.FaultFacts.{tells_more}
 
-pub none_told : (a b c d f : List FeedFault) → a ≡ [] → b ≡ [] → c ≡ [] → d ≡ [] → f ≡ [] → a ++ b ++ c ++ d ++ f ≡ []
-none_told a b c d f no_a no_b no_c no_d no_f = rw (no_a, no_b, no_c, no_d, no_f) refl
+-- a fault of the first file
+pub first_of_three : (e : FeedFault) (a b c : List FeedFault) → Tells e a → Tells e (a ++ b ++ c)
+first_of_three e a b c t = tells_more e (a ++ b) c (tells_more e a b t)
 
-module _ (e : FeedFault) (a b c d f : List FeedFault) where
-  pub told_first : Tells e a → Tells e (a ++ b ++ c ++ d ++ f)
-  told_first t = tells_more e (a ++ b ++ c ++ d) f (tells_more e (a ++ b ++ c) d (tells_more e (a ++ b) c (tells_more e a b t)))
+pub first_of_four : (e : FeedFault) (a b c d : List FeedFault) → Tells e a → Tells e (a ++ b ++ c ++ d)
+first_of_four e a b c d t = tells_more e (a ++ b ++ c) d (first_of_three e a b c t)
 
-  pub told_second : a ≡ [] → Tells e b → Tells e (a ++ b ++ c ++ d ++ f)
-  told_second no_a t = rw no_a (tells_more e (b ++ c ++ d) f (tells_more e (b ++ c) d (tells_more e b c t)))
+pub first_of_five : (e : FeedFault) (a b c d f : List FeedFault) → Tells e a → Tells e (a ++ b ++ c ++ d ++ f)
+first_of_five e a b c d f t = tells_more e (a ++ b ++ c ++ d) f (first_of_four e a b c d t)
 
-  pub told_third : a ≡ [] → b ≡ [] → Tells e c → Tells e (a ++ b ++ c ++ d ++ f)
-  told_third no_a no_b t = rw (no_a, no_b) (tells_more e (c ++ d) f (tells_more e c d t))
-
-  pub told_fourth : a ≡ [] → b ≡ [] → c ≡ [] → Tells e d → Tells e (a ++ b ++ c ++ d ++ f)
-  told_fourth no_a no_b no_c t = rw (no_a, no_b, no_c) (tells_more e d f t)
-
-  pub told_fifth : a ≡ [] → b ≡ [] → c ≡ [] → d ≡ [] → Tells e f → Tells e (a ++ b ++ c ++ d ++ f)
-  told_fifth no_a no_b no_c no_d t = rw (no_a, no_b, no_c, no_d) t
-
--- a fault after the catalog's
-module _ (e : FeedFault) (a b c d : List FeedFault) where
-  pub told_next : a ≡ [] → Tells e b → Tells e (a ++ b ++ c ++ d)
-  told_next no_a t = rw no_a (tells_more e (b ++ c) d (tells_more e b c t))
-
-  pub told_after : a ≡ [] → b ≡ [] → Tells e c → Tells e (a ++ b ++ c ++ d)
-  told_after no_a no_b t = rw (no_a, no_b) (tells_more e c d t)
-
-  pub told_last : a ≡ [] → b ≡ [] → c ≡ [] → Tells e d → Tells e (a ++ b ++ c ++ d)
-  told_last no_a no_b no_c t = rw (no_a, no_b, no_c) t
-
-pub none_in_all : (a b c d : List FeedFault) → a ≡ [] → b ≡ [] → c ≡ [] → d ≡ [] → a ++ b ++ c ++ d ≡ []
-none_in_all a b c d no_a no_b no_c no_d = rw (no_a, no_b, no_c, no_d) refl
-
-none_both : (a b : List FeedFault) → a ++ b ≡ [] → (a ≡ []) × (b ≡ [])
+-- where two together have no fault, neither has one
+pub none_both : (a b : List FeedFault) → a ++ b ≡ [] → (a ≡ []) × (b ≡ [])
 none_both [] b e = (refl, e)
 none_both (x ∷ a) b e = cc e
 

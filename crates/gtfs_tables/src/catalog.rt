@@ -7,7 +7,15 @@ ghost use Rattle.table_files.specs.CalendarDates.{AreExceptions, date_rows};
 ghost use Rattle.table_files.specs.FeedTrips.{AreTrips, trip_rows};
 ghost use Rattle.table_files.specs.Places.{ArePlaces};
 ghost use Rattle.gtfs_tables.specs.Files as spec;
-ghost use Rattle.gtfs_tables.specs.Catalog.{IsCatalog};
+ghost use Rattle.gtfs_tables.specs.Catalog.{
+  AreDatesWithTrips,
+  AreRoutesWithTrips,
+  AreServicesWithTrips,
+  IsCatalog,
+  faults_from_calendar,
+  faults_from_dates,
+  faults_from_routes,
+};
 
 use crate::feed_bytes::{FeedBytes, missing};
 use std::alloc::Global;
@@ -35,17 +43,97 @@ pub fn read_catalog(alloc: Global, files: &FeedBytes<'_>) -> Result<Catalog, Fee
     ensures fault { IfErr result (λ e. Tells e (spec.catalog_faults (spec.files_of files.now))) }
 {
     let places = places_of(alloc, files)?;
+    match routes_with_trips(alloc, files) {
+        Ok(routed) => Ok(Catalog {
+            places,
+            routes: routed.routes,
+            calendar: routed.served.calendar,
+            exceptions: routed.served.dated.exceptions,
+            trips: routed.served.dated.trips,
+        }),
+        Err(fault) => Err(fault),
+    }
+}
+
+/// The routes, and what runs on them.
+#[derive(Drop)]
+struct RoutesWithTrips {
+    routes: Identifiers,
+    served: ServicesWithTrips,
+}
+
+/// The rows of `calendar.txt`, and what follows its services.
+#[derive(Drop)]
+struct ServicesWithTrips {
+    calendar: Vec<CalendarRow>,
+    dated: DatesWithTrips,
+}
+
+/// The rows of `calendar_dates.txt`, and the trips.
+#[derive(Drop)]
+struct DatesWithTrips {
+    exceptions: Vec<ExceptionRow>,
+    trips: FeedTrips,
+}
+
+// The routes, and what runs on them.
+fn routes_with_trips(alloc: Global, files: &FeedBytes<'_>) -> Result<RoutesWithTrips, FeedFault>
+    requires { spec.AreWithinLimit (spec.files_of files.now) }
+    ensures good { IfOk result (λ r. (faults_from_routes (spec.files_of files.now) ≡ []) × AreRoutesWithTrips r (spec.files_of files.now)) }
+    ensures fault { IfErr result (λ e. Tells e (faults_from_routes (spec.files_of files.now))) }
+{
     let routes = routes_of(alloc, files)?;
-    let calendar = calendar_of(alloc, files)?;
-    let dates = dates_of(alloc, files, calendar.services)?;
-    let trips = trips_of(alloc, files, &routes, dates.services)?;
-    Ok(Catalog {
-        places,
-        routes,
-        calendar: calendar.rows,
-        exceptions: dates.rows,
-        trips,
-    })
+    match services_with_trips(alloc, files, &routes) {
+        Ok(served) => Ok(RoutesWithTrips { routes, served }),
+        Err(fault) => Err(fault),
+    }
+}
+
+// The rows of `calendar.txt`, and what follows its services.
+fn services_with_trips(
+    alloc: Global,
+    files: &FeedBytes<'_>,
+    routes: &Identifiers,
+) -> Result<ServicesWithTrips, FeedFault>
+    requires size { spec.AreWithinLimit (spec.files_of files.now) }
+    requires routes { routes.now ≡ spec.routes_in (spec.files_of files.now) }
+    requires few { length routes.now ≤ 1073741824 }
+    ensures good { IfOk result (λ s. (faults_from_calendar (spec.files_of files.now) ≡ []) × AreServicesWithTrips s (spec.files_of files.now)) }
+    ensures fault { IfErr result (λ e. Tells e (faults_from_calendar (spec.files_of files.now))) }
+{
+    let Calendar { services, rows } = calendar_of(alloc, files)?;
+    match dates_with_trips(alloc, files, routes, services) {
+        Ok(dated) => Ok(ServicesWithTrips {
+            calendar: rows,
+            dated,
+        }),
+        Err(fault) => Err(fault),
+    }
+}
+
+// The rows of `calendar_dates.txt`, and the trips, after the services of `calendar.txt`.
+fn dates_with_trips(
+    alloc: Global,
+    files: &FeedBytes<'_>,
+    routes: &Identifiers,
+    services: Identifiers,
+) -> Result<DatesWithTrips, FeedFault>
+    requires size { spec.AreWithinLimit (spec.files_of files.now) }
+    requires routes { routes.now ≡ spec.routes_in (spec.files_of files.now) }
+    requires few { length routes.now ≤ 1073741824 }
+    requires services { services ≡ spec.calendar_services_in (spec.files_of files.now) }
+    requires known { length services ≤ 1073741824 }
+    ensures good { IfOk result (λ d. (faults_from_dates (spec.files_of files.now) ≡ []) × AreDatesWithTrips d (spec.files_of files.now)) }
+    ensures fault { IfErr result (λ e. Tells e (faults_from_dates (spec.files_of files.now))) }
+{
+    let CalendarDates { services, rows } = dates_of(alloc, files, services)?;
+    match trips_of(alloc, files, routes, services) {
+        Ok(trips) => Ok(DatesWithTrips {
+            exceptions: rows,
+            trips,
+        }),
+        Err(fault) => Err(fault),
+    }
 }
 
 // The places of `stops.txt`.
