@@ -25,7 +25,7 @@ impl Model for Seat {
 }
 
 impl Seat {
-    pub fn new(alloc: Global) -> Seat
+    pub(crate) fn new(alloc: Global) -> Seat
         ensures { result ≡ new_seat }
     {
         Seat {
@@ -35,31 +35,31 @@ impl Seat {
         }
     }
 
-    pub fn drawn(&self) -> &[u64]
+    pub(crate) fn drawn(&self) -> &[u64]
         ensures { result.now ≡ self.now.drawn }
     {
         &self.drawn
     }
 
-    pub fn kept(&self) -> &[u32]
+    pub(crate) fn kept(&self) -> &[u32]
         ensures { result.now ≡ self.now.kept }
     {
         &self.kept
     }
 
-    pub fn is_lost(&self) -> bool
+    pub(crate) fn is_lost(&self) -> bool
         ensures { result ≡ self.now.lost }
     {
         self.lost
     }
 
-    pub fn has_drawn(&self, number: u64) -> bool
+    pub(crate) fn has_drawn(&self, number: u64) -> bool
         ensures { result ≡ has_drawn number self.now }
     {
         self.drawn.binary_search(&number).is_ok()
     }
 
-    pub fn draw(&mut self, number: u64) -> Result<(), AllocError>
+    pub(crate) fn draw(&mut self, number: u64) -> Result<(), AllocError>
         requires { All (λ x. x < number) self.old.drawn }
         ensures ok { OnOk result (self.new ≡ with_drawn number self.old) }
         ensures err { OnErr result (self.new ≡ self.old) }
@@ -68,7 +68,7 @@ impl Seat {
         Ok(())
     }
 
-    pub fn keep(&mut self, job: u32) -> Result<(), AllocError>
+    pub(crate) fn keep(&mut self, job: u32) -> Result<(), AllocError>
         ensures ok { OnOk result (self.new ≡ with_kept job self.old) }
         ensures err { OnErr result (self.new ≡ self.old) }
     {
@@ -76,28 +76,28 @@ impl Seat {
         Ok(())
     }
 
-    pub fn lose(&mut self)
+    pub(crate) fn lose(&mut self)
         ensures { self.new ≡ as_lost self.old }
     {
         self.lost = true;
     }
 
     /// Takes the last draw back.
-    pub fn undraw(&mut self)
+    pub(crate) fn undraw(&mut self)
         ensures { self.new ≡ without_last_drawn self.old }
     {
         let _ = self.drawn.pop();
     }
 
     /// Takes back that the last job was kept.
-    pub fn unkeep(&mut self)
+    pub(crate) fn unkeep(&mut self)
         ensures { self.new ≡ without_last_kept self.old }
     {
         let _ = self.kept.pop();
     }
 
     /// Takes the loss back.
-    pub fn unlose(&mut self)
+    pub(crate) fn unlose(&mut self)
         ensures { self.new ≡ as_present self.old }
     {
         self.lost = false;
