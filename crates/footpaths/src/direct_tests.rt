@@ -1,9 +1,10 @@
 //! Worked examples of the direct footpaths of a feed.
 use crate::{Direct, direct};
 use gtfs_tables::{Feed, FeedBytes, file_fits, read_feed};
-use std::alloc::Global;
-use std::test::Fail;
+use std::alloc::{AllocError, Global};
+use std::process::Abort;
 use table_records::{FeedFault, FileName, What};
+use timetable::StopNo;
 
 // The stop A, station S with the stops B and C, station T with the stops D and E, station U without stops, and an entrance X.
 const STOPS: &[u8] = b"stop_id,location_type,parent_station\n\
@@ -30,133 +31,165 @@ fn feed_of<'a>(alloc: Global, stops: &'a [u8], transfers: &'a [u8]) -> Result<Fe
     read_feed(alloc, &files)
 }
 
-/// The direct footpaths of these stops and transfers, and of a file of footpaths.
-fn direct_in(
+/// A footpath: from, to, and seconds.
+type Path = (StopNo, StopNo, u32);
+
+fn path(from: u32, to: u32, seconds: u32) -> Path {
+    (StopNo(from), StopNo(to), seconds)
+}
+
+/// What a test expects of the direct footpaths of a feed and a file.
+#[derive(Clone, Copy)]
+enum Expected<'a> {
+    /// These and no others.
+    Paths(&'a [Path]),
+    /// So many, and this one last.
+    Last(usize, Path),
+    /// So many.
+    Count(usize),
+    Fault(FeedFault),
+}
+
+fn are_expected(paths: &[Path], expected: Expected<'_>) -> bool {
+    match expected {
+        Expected::Paths(all) => paths == all,
+        Expected::Last(count, last) => paths.len() == count && paths.last() == Some(&last),
+        Expected::Count(count) => paths.len() == count,
+        Expected::Fault(_) => false,
+    }
+}
+
+fn is_expected(fault: FeedFault, expected: Expected<'_>) -> bool {
+    match expected {
+        Expected::Fault(other) => fault == other,
+        _ => false,
+    }
+}
+
+/// Whether the direct footpaths of a feed and a file are as expected.
+fn gives_over(alloc: Global, feed: &Feed, own: Option<&[u8]>, expected: Expected<'_>) -> bool {
+    if !file_fits(own) {
+        return false;
+    }
+    match direct(alloc, feed, own) {
+        Ok(direct) => are_expected(direct.pairs(), expected),
+        Err(fault) => is_expected(fault, expected),
+    }
+}
+
+/// Whether the direct footpaths of these stops and transfers, and of a file, are as expected. One function owns the feeds of
+/// all tests, since letting go of one is long to prove.
+fn gives(
     alloc: Global,
     stops: &[u8],
     transfers: &[u8],
     own: Option<&[u8]>,
-) -> Result<Direct, FeedFault> {
-    let feed = feed_of(alloc, stops, transfers)?;
-    if !file_fits(own) {
-        return Err(FeedFault::at(FileName::Footpaths, 0, What::TooMany));
-    }
-    direct(alloc, &feed, own)
-}
-
-/// The footpaths of the small feed and of a file: from, to, and seconds.
-fn paths_in(alloc: Global, own: Option<&[u8]>) -> Result<Vec<(u32, u32, u32)>, FeedFault> {
-    let direct = direct_in(alloc, STOPS, TRANSFERS, own)?;
-    let mut paths = Vec::new(alloc);
-    for (from, to, seconds) in direct.pairs() {
-        paths.push((from.0, to.0, *seconds))?;
-    }
-    Ok(paths)
-}
-
-/// The fault of a file of footpaths of the small feed, by its record.
-fn fault_in(alloc: Global, own: &[u8]) -> Option<(FileName, u64, What)> {
-    match direct_in(alloc, STOPS, TRANSFERS, Some(own)) {
-        Ok(_) => None,
-        Err(fault) => Some((fault.file, fault.at, fault.what)),
+    expected: Expected<'_>,
+) -> bool {
+    match feed_of(alloc, stops, transfers) {
+        Ok(feed) => gives_over(alloc, &feed, own, expected),
+        Err(fault) => is_expected(fault, expected),
     }
 }
 
-/// The stops of a feed of a stop A and a station S with so many stops.
-fn large_station(alloc: Global, stops: u32) -> Result<Vec<u8>, FeedFault> {
-    let mut bytes = Vec::new(alloc);
+/// The same for the small feed.
+fn gives_small(alloc: Global, own: Option<&[u8]>, expected: Expected<'_>) -> bool {
+    gives(alloc, STOPS, TRANSFERS, own, expected)
+}
+
+/// A file of footpaths of the small feed is refused at a record.
+fn expect_refusal(rt: &impl Abort, alloc: Global, own: &[u8], at: u64, what: What) {
+    let fault = FeedFault::at(FileName::Footpaths, at, what);
+    assert!(rt; gives_small(alloc, Some(own), Expected::Fault(fault)));
+}
+
+/// Puts the line of a stop of station S.
+fn put_stop(alloc: Global, bytes: &mut Vec<u8>, stop: u32) -> Result<(), AllocError> {
+    let line = format!(in alloc; "{stop},,S\n")?;
+    bytes.extend_from_slice(line.as_bytes())
+}
+
+/// Puts the stops of a feed of a stop A and a station S with so many stops.
+fn put_station(alloc: Global, bytes: &mut Vec<u8>, stops: u32) -> Result<(), AllocError> {
     bytes.extend_from_slice(b"stop_id,location_type,parent_station\nA,,\nS,1,\n")?;
     for stop in 0..stops {
-        let line = format!(in alloc; "{stop},,S\n")?;
-        bytes.extend_from_slice(line.as_bytes())?;
+        put_stop(alloc, bytes, stop)?;
     }
-    Ok(bytes)
+    Ok(())
 }
 
-/// How many footpaths there are where each stop of a large station leads to each other one, or the fault.
-fn count_in(alloc: Global, stops: u32, own: Option<&[u8]>) -> Result<usize, FeedFault> {
-    let bytes = large_station(alloc, stops)?;
+/// Whether the footpaths are as expected where each stop of a large station leads to each other one.
+fn gives_large(alloc: Global, stops: u32, own: &[u8], expected: Expected<'_>) -> bool {
     let transfers = b"from_stop_id,to_stop_id,min_transfer_time\nS,S,60\n";
-    let direct = direct_in(alloc, &bytes, transfers, own)?;
-    Ok(direct.pairs().len())
+    let mut bytes = Vec::new(alloc);
+    match put_station(alloc, &mut bytes, stops) {
+        Ok(()) => gives(alloc, &bytes, transfers, Some(own), expected),
+        Err(_) => false,
+    }
 }
 
 #[test]
-fn a_station_stands_for_its_stops(rt: HostRuntime) -> Result<(), Fail> {
-    let paths = paths_in(rt.alloc(), None)?;
-    assert_eq!(rt;
-        paths.as_slice(),
-        [(1, 2, 30), (2, 1, 30), (0, 1, 60)].as_slice()
-    );
-    Ok(())
+fn a_station_stands_for_its_stops(rt: HostRuntime) {
+    let all = [path(1, 2, 30), path(2, 1, 30), path(0, 1, 60)];
+    assert!(rt; gives_small(rt.alloc(), None, Expected::Paths(&all)));
 }
 
 #[test]
-fn walks_of_a_file_come_after_those_of_the_feed(rt: HostRuntime) -> Result<(), Fail> {
+fn walks_of_a_file_come_after_those_of_the_feed(rt: HostRuntime) {
     let own = b"seconds,to_stop_id,from_stop_id\n 90 ,B,A\n7,T,S\n";
-    let paths = paths_in(rt.alloc(), Some(own))?;
     let all = [
-        (1, 2, 30),
-        (2, 1, 30),
-        (0, 1, 60),
-        (0, 1, 90),
-        (1, 3, 7),
-        (1, 4, 7),
-        (2, 3, 7),
-        (2, 4, 7),
+        path(1, 2, 30),
+        path(2, 1, 30),
+        path(0, 1, 60),
+        path(0, 1, 90),
+        path(1, 3, 7),
+        path(1, 4, 7),
+        path(2, 3, 7),
+        path(2, 4, 7),
     ];
-    assert_eq!(rt; paths.as_slice(), all.as_slice());
-    Ok(())
+    assert!(rt; gives_small(rt.alloc(), Some(own), Expected::Paths(&all)));
 }
 
 #[test]
-fn rows_without_a_pair_are_passed_over(rt: HostRuntime) -> Result<(), Fail> {
+fn rows_without_a_pair_are_passed_over(rt: HostRuntime) {
     let own = b"from_stop_id,to_stop_id,seconds\nA,A,5\nX,A,5\nA,U,5\nU,X,5\nB,A,0\n";
-    let paths = paths_in(rt.alloc(), Some(own))?;
-    assert_eq!(rt; paths.len(), 4);
-    assert_eq!(rt; paths[3], (1, 0, 0));
-    Ok(())
+    assert!(rt; gives_small(rt.alloc(), Some(own), Expected::Last(4, path(1, 0, 0))));
 }
 
 #[test]
 fn identifiers_that_are_refused(rt: HostRuntime) {
-    let alloc = rt.alloc();
-    let file = FileName::Footpaths;
-    let from = fault_in(alloc, b"from_stop_id,to_stop_id,seconds\nA,B,5\n,Z,x\n");
-    assert_eq!(rt; from, Some((file, 3, What::EmptyId)));
-    let to = fault_in(alloc, b"from_stop_id,to_stop_id,seconds\nZ,,x\n");
-    assert_eq!(rt; to, Some((file, 2, What::EmptyId)));
-    let unknown = fault_in(alloc, b"from_stop_id,to_stop_id,seconds\nZ,A,x\n");
-    assert_eq!(rt; unknown, Some((file, 2, What::UnknownStop)));
-    let other = fault_in(alloc, b"from_stop_id,to_stop_id,seconds\nX,U,1\nA,a,x\n");
-    assert_eq!(rt; other, Some((file, 3, What::UnknownStop)));
+    let from = b"from_stop_id,to_stop_id,seconds\nA,B,5\n,Z,x\n";
+    expect_refusal(&rt, rt.alloc(), from, 3, What::EmptyId);
+    let to = b"from_stop_id,to_stop_id,seconds\nZ,,x\n";
+    expect_refusal(&rt, rt.alloc(), to, 2, What::EmptyId);
+    let unknown = b"from_stop_id,to_stop_id,seconds\nZ,A,x\n";
+    expect_refusal(&rt, rt.alloc(), unknown, 2, What::UnknownStop);
+    let other = b"from_stop_id,to_stop_id,seconds\nX,U,1\nA,a,x\n";
+    expect_refusal(&rt, rt.alloc(), other, 3, What::UnknownStop);
 }
 
 #[test]
 fn seconds_and_columns_that_are_refused(rt: HostRuntime) {
-    let alloc = rt.alloc();
-    let file = FileName::Footpaths;
-    let seconds = fault_in(alloc, b"from_stop_id,to_stop_id,seconds\nA,A,\n");
-    assert_eq!(rt; seconds, Some((file, 2, What::BadNumber)));
-    let header = fault_in(alloc, b"from_stop_id,to_stop_id\nA,B\n");
-    assert_eq!(rt; header, Some((file, 1, What::MissingColumn)));
-    let none = fault_in(alloc, b"");
-    assert_eq!(rt; none, Some((file, 1, What::MissingColumn)));
+    let seconds = b"from_stop_id,to_stop_id,seconds\nA,A,\n";
+    expect_refusal(&rt, rt.alloc(), seconds, 2, What::BadNumber);
+    let header = b"from_stop_id,to_stop_id\nA,B\n";
+    expect_refusal(&rt, rt.alloc(), header, 1, What::MissingColumn);
+    expect_refusal(&rt, rt.alloc(), b"", 1, What::MissingColumn);
 }
 
 #[test]
 fn too_many_footpaths_of_a_transfer(rt: HostRuntime) {
     // 4,002,000 pairs, and a file whose fault comes later
     let fault = FeedFault::at(FileName::Transfers, 2, What::TooMany);
-    assert!(rt; count_in(rt.alloc(), 2001, Some(b"x\n")) == Err(fault));
+    assert!(rt; gives_large(rt.alloc(), 2001, b"x\n", Expected::Fault(fault)));
 }
 
 #[test]
 fn too_many_footpaths_of_a_file(rt: HostRuntime) {
     // 3,998,000 pairs, and 2,000 more of each row
     let most = b"from_stop_id,to_stop_id,seconds\nA,S,1\n";
-    assert!(rt; count_in(rt.alloc(), 2000, Some(most)) == Ok(4_000_000));
+    assert!(rt; gives_large(rt.alloc(), 2000, most, Expected::Count(4_000_000)));
     let more = b"from_stop_id,to_stop_id,seconds\nA,S,1\nS,A,1\nA,B,x\n";
     let fault = FeedFault::at(FileName::Footpaths, 3, What::TooMany);
-    assert!(rt; count_in(rt.alloc(), 2000, Some(more)) == Err(fault));
+    assert!(rt; gives_large(rt.alloc(), 2000, more, Expected::Fault(fault)));
 }

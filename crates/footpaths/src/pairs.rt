@@ -1,8 +1,10 @@
 //! The pairs of stops that the two ends of a walk give, added to the direct footpaths as far as there is room.
 
-ghost use Rattle.std.specs.Prelude.{◌≡◌, ◌≢◌, ◌<◌, ◌∷◌, [], All, OnOk, IfErr, filter, map};
+ghost use Rattle.std.specs.Prelude.{◌≡◌, ◌≢◌, ◌<◌, ◌∷◌, [], All, OnOk, IfErr, filter, length, map};
+ghost use Rattle.table_records.specs.declared.fault.What.TheVariants as what;
 ghost use Rattle.table_files.specs.Ends.{differ, pairs_between};
 ghost use Rattle.footpaths.specs.Pairs.{IsRefusal, with_more};
+ghost use Rattle.timetable.specs.declared.limits.TheConstants as limit;
 
 use crate::direct_list::Direct;
 use table_records::What;
@@ -57,6 +59,7 @@ fn add_pair(direct: &mut Direct, from: StopNo, to: StopNo, seconds: u32) -> Resu
     requires other { from.0 ≢ to.0 }
     ensures good { OnOk result (direct.new ≡ with_more direct.old ((from, to, seconds) ∷ [])) }
     ensures fault { IfErr result (IsRefusal direct.old ((from, to, seconds) ∷ [])) }
+    ensures memory { IfErr result (λ w. w ≡ what.Memory → length direct.old.pairs < limit.MOST_FOOTPATHS) }
 {
     if direct.pairs().len() >= MOST_FOOTPATHS {
         return Err(What::TooMany);

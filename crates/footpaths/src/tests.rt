@@ -3,26 +3,35 @@ use crate::{Direct, FootFault, close, closures_are_unique, limit_fits, too_many_
 use std::alloc::Global;
 use timetable::{Feet, MOST_FOOTPATHS, MOST_STOPS, StopNo};
 
-/// A hub: footpaths of 60 seconds to and from each of the other stops.
-fn hub(alloc: Global, stops: u32) -> Option<Direct> {
-    let mut paths = Vec::new(alloc);
-    for stop in 1..stops {
-        paths.push((0, stop, 60)).ok()?;
-        paths.push((stop, 0, 60)).ok()?;
-    }
-    direct_of(alloc, stops, &paths)
+/// The direct footpaths of a test.
+#[derive(Clone, Copy)]
+enum Given<'a> {
+    /// A list: from, to, and seconds.
+    List(&'a [(u32, u32, u32)]),
+    /// Those of a hub: footpaths of 60 seconds to and from each of the other stops.
+    Hub,
 }
 
-/// The direct footpaths of a list: from, to, and seconds.
-fn direct_of(alloc: Global, stops: u32, paths: &[(u32, u32, u32)]) -> Option<Direct> {
-    if stops as usize > MOST_STOPS {
-        return None;
-    }
-    let mut direct = Direct::new(alloc, stops);
-    for (from, to, seconds) in paths {
-        add(&mut direct, *from, *to, *seconds)?;
-    }
-    Some(direct)
+/// What a test expects of closed footpaths.
+#[derive(Clone, Copy)]
+enum Expected {
+    /// The walking time between two stops: from, to, and seconds.
+    Seconds(u32, u32, Option<u32>),
+    /// How many stops a stop's footpaths lead to.
+    Targets(u32, usize),
+    /// How many stops there are.
+    Stops(u32),
+}
+
+/// What a test tries with its direct footpaths.
+#[derive(Clone, Copy)]
+enum Trial<'a> {
+    /// Closed as far as a limit, they are as expected.
+    Closed(u32, &'a [Expected]),
+    /// Closed as far as a limit, they are too many.
+    TooMany(u32),
+    /// They are as given: so many, and this one first.
+    Direct(usize, (StopNo, StopNo, u32)),
 }
 
 /// Adds a footpath where it may be added.
@@ -34,13 +43,26 @@ fn add(direct: &mut Direct, from: u32, to: u32, seconds: u32) -> Option<()> {
     direct.push(StopNo(from), StopNo(to), seconds).ok()
 }
 
-/// The closed footpaths of a list.
-fn closed(alloc: Global, stops: u32, paths: &[(u32, u32, u32)], limit: u32) -> Option<Feet> {
-    let direct = direct_of(alloc, stops, paths)?;
-    if !limit_fits(limit) {
-        return None;
+fn add_list(direct: &mut Direct, paths: &[(u32, u32, u32)]) -> Option<()> {
+    for (from, to, seconds) in paths {
+        add(direct, *from, *to, *seconds)?;
     }
-    close(alloc, &direct, limit).ok()
+    Some(())
+}
+
+fn add_hub(direct: &mut Direct) -> Option<()> {
+    for stop in 1..direct.stops() {
+        add(direct, 0, stop, 60)?;
+        add(direct, stop, 0, 60)?;
+    }
+    Some(())
+}
+
+fn add_given(direct: &mut Direct, given: Given<'_>) -> Option<()> {
+    match given {
+        Given::List(paths) => add_list(direct, paths),
+        Given::Hub => add_hub(direct),
+    }
 }
 
 /// The walking time between two stops.
@@ -61,90 +83,185 @@ fn targets(feet: &Feet, from: u32) -> usize {
     }
 }
 
+fn is_expected(feet: &Feet, expected: Expected) -> bool {
+    match expected {
+        Expected::Seconds(from, to, time) => seconds(feet, from, to) == time,
+        Expected::Targets(from, count) => targets(feet, from) == count,
+        Expected::Stops(count) => feet.stops() == count,
+    }
+}
+
+fn are_expected(feet: &Feet, all: &[Expected]) -> bool {
+    for expected in all {
+        if !is_expected(feet, *expected) {
+            return false;
+        }
+    }
+    true
+}
+
+/// Whether the footpaths, closed as far as a limit, are as expected. One function owns the closed footpaths of all tests, since
+/// letting go of them is long to prove.
+fn closes(alloc: Global, direct: &Direct, limit: u32, all: &[Expected]) -> bool {
+    if !limit_fits(limit) {
+        return false;
+    }
+    match close(alloc, direct, limit) {
+        Ok(feet) => are_expected(&feet, all),
+        Err(_) => false,
+    }
+}
+
+fn is_too_many(alloc: Global, direct: &Direct, limit: u32) -> bool {
+    limit_fits(limit) && matches!(close(alloc, direct, limit), Err(FootFault::TooMany))
+}
+
+fn holds_of(alloc: Global, direct: &Direct, trial: Trial<'_>) -> bool {
+    match trial {
+        Trial::Closed(limit, all) => closes(alloc, direct, limit, all),
+        Trial::TooMany(limit) => is_too_many(alloc, direct, limit),
+        Trial::Direct(count, first) => {
+            direct.pairs().len() == count && direct.pairs().first() == Some(&first)
+        }
+    }
+}
+
+/// Whether the footpaths are added, and a trial of them goes as it should.
+fn adds(alloc: Global, direct: &mut Direct, given: Given<'_>, trial: Trial<'_>) -> bool {
+    add_given(direct, given).is_some() && holds_of(alloc, direct, trial)
+}
+
+/// Whether a trial of the given footpaths between so many stops goes as it should. One function owns the direct footpaths of
+/// all tests.
+fn holds(alloc: Global, stops: u32, given: Given<'_>, trial: Trial<'_>) -> bool {
+    if stops as usize > MOST_STOPS {
+        return false;
+    }
+    let mut direct = Direct::new(alloc, stops);
+    adds(alloc, &mut direct, given, trial)
+}
+
+/// Whether the footpaths of a list between three stops, closed as far as a limit, are as expected.
+fn closed(alloc: Global, paths: &[(u32, u32, u32)], limit: u32, all: &[Expected]) -> bool {
+    holds(alloc, 3, Given::List(paths), Trial::Closed(limit, all))
+}
+
 #[test]
 fn two_footpaths_in_succession(rt: HostRuntime) {
     let paths = [(0, 1, 60), (1, 2, 60)];
-    let near = closed(rt.alloc(), 3, &paths, 100).expect(&rt, "closed");
-    assert_eq!(rt; seconds(&near, 0, 1), Some(60));
-    assert_eq!(rt; seconds(&near, 1, 2), Some(60));
-    assert_eq!(rt; seconds(&near, 0, 2), None);
-    let far = closed(rt.alloc(), 3, &paths, 120).expect(&rt, "closed");
-    assert_eq!(rt; seconds(&far, 0, 1), Some(60));
-    assert_eq!(rt; seconds(&far, 1, 2), Some(60));
-    assert_eq!(rt; seconds(&far, 0, 2), Some(120));
-    let nearly = closed(rt.alloc(), 3, &paths, 119).expect(&rt, "closed");
-    assert_eq!(rt; seconds(&nearly, 0, 2), None);
+    let near = [
+        Expected::Seconds(0, 1, Some(60)),
+        Expected::Seconds(1, 2, Some(60)),
+        Expected::Seconds(0, 2, None),
+    ];
+    assert!(rt; closed(rt.alloc(), &paths, 100, &near));
+    let far = [
+        Expected::Seconds(0, 1, Some(60)),
+        Expected::Seconds(1, 2, Some(60)),
+        Expected::Seconds(0, 2, Some(120)),
+    ];
+    assert!(rt; closed(rt.alloc(), &paths, 120, &far));
+    assert!(rt; closed(rt.alloc(), &paths, 119, &[Expected::Seconds(0, 2, None)]));
 }
 
 #[test]
 fn one_way_only(rt: HostRuntime) {
-    let feet = closed(rt.alloc(), 3, &[(0, 1, 60), (1, 2, 60)], 7200).expect(&rt, "closed");
-    assert_eq!(rt; seconds(&feet, 1, 0), None);
-    assert_eq!(rt; seconds(&feet, 2, 0), None);
-    assert_eq!(rt; targets(&feet, 2), 0);
+    let all = [
+        Expected::Seconds(1, 0, None),
+        Expected::Seconds(2, 0, None),
+        Expected::Targets(2, 0),
+    ];
+    assert!(rt; closed(rt.alloc(), &[(0, 1, 60), (1, 2, 60)], 7200, &all));
 }
 
 #[test]
 fn round_a_loop(rt: HostRuntime) {
-    let feet = closed(rt.alloc(), 3, &[(0, 1, 10), (1, 2, 20), (2, 0, 40)], 7200).expect(
-        &rt, "closed",
+    let all = [
+        Expected::Seconds(0, 1, Some(10)),
+        Expected::Seconds(0, 2, Some(30)),
+        Expected::Seconds(1, 0, Some(60)),
+        Expected::Seconds(2, 1, Some(50)),
+        Expected::Seconds(0, 0, None),
+        Expected::Targets(0, 2),
+    ];
+    assert!(rt;
+        closed(
+            rt.alloc(),
+            &[(0, 1, 10), (1, 2, 20), (2, 0, 40)],
+            7200,
+            &all
+        )
     );
-    assert_eq!(rt; seconds(&feet, 0, 1), Some(10));
-    assert_eq!(rt; seconds(&feet, 0, 2), Some(30));
-    assert_eq!(rt; seconds(&feet, 1, 0), Some(60));
-    assert_eq!(rt; seconds(&feet, 2, 1), Some(50));
-    assert_eq!(rt; seconds(&feet, 0, 0), None);
-    assert_eq!(rt; targets(&feet, 0), 2);
 }
 
 #[test]
 fn no_time_at_all(rt: HostRuntime) {
-    let feet = closed(rt.alloc(), 3, &[(0, 1, 0), (1, 2, 0), (2, 1, 0)], 0).expect(&rt, "closed");
-    assert_eq!(rt; seconds(&feet, 0, 1), Some(0));
-    assert_eq!(rt; seconds(&feet, 0, 2), Some(0));
-    assert_eq!(rt; seconds(&feet, 2, 1), Some(0));
-    assert_eq!(rt; seconds(&feet, 1, 1), None);
-    let none = closed(rt.alloc(), 2, &[(0, 1, 1)], 0).expect(&rt, "closed");
-    assert_eq!(rt; seconds(&none, 0, 1), None);
+    let all = [
+        Expected::Seconds(0, 1, Some(0)),
+        Expected::Seconds(0, 2, Some(0)),
+        Expected::Seconds(2, 1, Some(0)),
+        Expected::Seconds(1, 1, None),
+    ];
+    assert!(rt; closed(rt.alloc(), &[(0, 1, 0), (1, 2, 0), (2, 1, 0)], 0, &all));
+    let none = [Expected::Seconds(0, 1, None)];
+    assert!(rt;
+        holds(
+            rt.alloc(),
+            2,
+            Given::List(&[(0, 1, 1)]),
+            Trial::Closed(0, &none)
+        )
+    );
 }
 
 #[test]
 fn the_least_of_repeats(rt: HostRuntime) {
-    let falling = closed(rt.alloc(), 2, &[(0, 1, 90), (0, 1, 30), (0, 1, 60)], 100).expect(
-        &rt, "closed",
+    let falling = [(0, 1, 90), (0, 1, 30), (0, 1, 60)];
+    let all = [Expected::Seconds(0, 1, Some(30)), Expected::Targets(0, 1)];
+    assert!(rt;
+        holds(
+            rt.alloc(),
+            2,
+            Given::List(&falling),
+            Trial::Closed(100, &all)
+        )
     );
-    assert_eq!(rt; seconds(&falling, 0, 1), Some(30));
-    assert_eq!(rt; targets(&falling, 0), 1);
 }
 
 #[test]
 fn a_chain_shorter_than_the_direct_footpath(rt: HostRuntime) {
-    let feet = closed(rt.alloc(), 3, &[(0, 2, 100), (0, 1, 30), (1, 2, 30)], 100).expect(
-        &rt, "closed",
+    let paths = [(0, 2, 100), (0, 1, 30), (1, 2, 30)];
+    assert!(rt;
+        closed(
+            rt.alloc(),
+            &paths,
+            100,
+            &[Expected::Seconds(0, 2, Some(60))]
+        )
     );
-    assert_eq!(rt; seconds(&feet, 0, 2), Some(60));
 }
 
 #[test]
 fn past_the_limit(rt: HostRuntime) {
-    let feet = closed(rt.alloc(), 3, &[(0, 1, 101), (1, 2, 100)], 100).expect(&rt, "closed");
-    assert_eq!(rt; seconds(&feet, 0, 1), None);
-    assert_eq!(rt; seconds(&feet, 1, 2), Some(100));
-    assert_eq!(rt; seconds(&feet, 0, 2), None);
+    let all = [
+        Expected::Seconds(0, 1, None),
+        Expected::Seconds(1, 2, Some(100)),
+        Expected::Seconds(0, 2, None),
+    ];
+    assert!(rt; closed(rt.alloc(), &[(0, 1, 101), (1, 2, 100)], 100, &all));
 }
 
 #[test]
 fn the_longest_footpaths(rt: HostRuntime) {
     let long = 4_294_967_295;
-    let feet = closed(rt.alloc(), 3, &[(0, 1, long), (1, 2, long)], 7200).expect(&rt, "closed");
-    assert_eq!(rt; targets(&feet, 0), 0);
-    assert_eq!(rt; targets(&feet, 1), 0);
+    let none = [Expected::Targets(0, 0), Expected::Targets(1, 0)];
+    assert!(rt; closed(rt.alloc(), &[(0, 1, long), (1, 2, long)], 7200, &none));
 }
 
 #[test]
 fn no_stops(rt: HostRuntime) {
-    let feet = closed(rt.alloc(), 0, &[], 7200).expect(&rt, "closed");
-    assert_eq!(rt; feet.stops(), 0);
+    let none = [Expected::Stops(0)];
+    assert!(rt; holds(rt.alloc(), 0, Given::List(&[]), Trial::Closed(7200, &none)));
 }
 
 #[test]
@@ -158,16 +275,15 @@ fn limits(rt: HostRuntime) {
 
 #[test]
 fn direct_footpaths_as_they_are_given(rt: HostRuntime) {
-    let direct = direct_of(rt.alloc(), 2, &[(0, 1, 90), (0, 1, 30)]).expect(&rt, "direct");
-    assert_eq!(rt; direct.pairs().len(), 2);
-    assert!(rt; direct.pairs()[0] == (StopNo(0), StopNo(1), 90));
+    let first = (StopNo(0), StopNo(1), 90);
+    let paths = [(0, 1, 90), (0, 1, 30)];
+    assert!(rt; holds(rt.alloc(), 2, Given::List(&paths), Trial::Direct(2, first)));
 }
 
 #[test]
 fn a_hub_of_too_many(rt: HostRuntime) {
     // 2,001 stops, each of which reaches the 2,000 others: 4,002,000 pairs
-    let direct = hub(rt.alloc(), 2001).expect(&rt, "direct");
-    assert!(rt; matches!(close(rt.alloc(), &direct, 120), Err(FootFault::TooMany)));
-    let near = close(rt.alloc(), &direct, 119).expect(&rt, "closed");
-    assert_eq!(rt; targets(&near, 1), 1);
+    assert!(rt; holds(rt.alloc(), 2001, Given::Hub, Trial::TooMany(120)));
+    let near = [Expected::Targets(1, 1)];
+    assert!(rt; holds(rt.alloc(), 2001, Given::Hub, Trial::Closed(119, &near)));
 }

@@ -121,20 +121,21 @@ fn named_opportunities(alloc: Global, bytes: &[u8], feed: &Feed) -> Result<Vec<u
         × (v.items ≡ map (spec.at_stop (spec.opportunity_rows bytes.now)) feed.now.stops)) }
     ensures fault { IfErr result (λ e. Tells e (spec.faults_in bytes.now feed.now.stops)) }
 {
+    let mut opportunities = OpportunityList {
+        named: NamedStops::none(alloc, feed.stop_count())?,
+        counts: at_each(alloc, feed, 0)?,
+    };
     let mut file = open_table(
         alloc,
         bytes,
         FileName::Opportunities,
         &[b"stop_id", b"opportunities"],
     )?;
-    let mut opportunities = OpportunityList {
-        named: NamedStops::none(alloc, feed.stop_count())?,
-        counts: at_each(alloc, feed, 0)?,
-    };
     let reader = OpportunityReader {
         columns: columns_in(&file.header),
         feed,
     };
-    read_records(alloc, &reader, &mut opportunities, &mut file.rows)?;
-    Ok(opportunities.counts)
+    let read = read_records(alloc, &reader, &mut opportunities, &mut file.rows);
+    drop(file);
+    read.and(Ok(opportunities.counts))
 }

@@ -113,15 +113,16 @@ fn named_origins(alloc: Global, bytes: &[u8], feed: &Feed) -> Result<Vec<StopNo>
     ensures stops { IfOk result (λ v. All (λ s. s.0 < length feed.now.stops) v.items) }
     ensures fault { IfErr result (λ e. Tells e (spec.faults_in bytes.now feed.now.stops)) }
 {
-    let mut file = open_table(alloc, bytes, FileName::Origins, &[b"stop_id"])?;
     let mut origins = OriginList {
         named: NamedStops::none(alloc, feed.stop_count())?,
         stops: Vec::new(alloc),
     };
+    let mut file = open_table(alloc, bytes, FileName::Origins, &[b"stop_id"])?;
     let reader = OriginReader {
         columns: columns_in(&file.header),
         feed,
     };
-    read_records(alloc, &reader, &mut origins, &mut file.rows)?;
-    Ok(origins.stops)
+    let read = read_records(alloc, &reader, &mut origins, &mut file.rows);
+    drop(file);
+    read.and(Ok(origins.stops))
 }

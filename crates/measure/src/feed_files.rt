@@ -6,16 +6,24 @@ use studies::FeedFiles;
 
 /// Reads the files of an unpacked feed.
 pub(crate) fn read_feed_files(rt: &HostRuntime, folder: &str) -> io::Result<FeedFiles> {
-    Ok(FeedFiles {
-        stops: read_file(rt, folder, "stops.txt")?,
-        routes: read_file(rt, folder, "routes.txt")?,
-        calendar: read_file(rt, folder, "calendar.txt")?,
-        calendar_dates: read_file(rt, folder, "calendar_dates.txt")?,
-        trips: read_file(rt, folder, "trips.txt")?,
-        stop_times: read_file(rt, folder, "stop_times.txt")?,
-        frequencies: read_file(rt, folder, "frequencies.txt")?,
-        transfers: read_file(rt, folder, "transfers.txt")?,
-    })
+    let mut files = FeedFiles::none();
+    match fill(rt, folder, &mut files) {
+        Ok(()) => Ok(files),
+        Err(error) => Err(error),
+    }
+}
+
+// Reads each file to its place.
+fn fill(rt: &HostRuntime, folder: &str, files: &mut FeedFiles) -> io::Result<()> {
+    files.stops = read_file(rt, folder, "stops.txt")?;
+    files.routes = read_file(rt, folder, "routes.txt")?;
+    files.calendar = read_file(rt, folder, "calendar.txt")?;
+    files.calendar_dates = read_file(rt, folder, "calendar_dates.txt")?;
+    files.trips = read_file(rt, folder, "trips.txt")?;
+    files.stop_times = read_file(rt, folder, "stop_times.txt")?;
+    files.frequencies = read_file(rt, folder, "frequencies.txt")?;
+    files.transfers = read_file(rt, folder, "transfers.txt")?;
+    Ok(())
 }
 
 // The bytes of a file, or `None` where the folder lacks it.

@@ -23,4 +23,4 @@ mod window;
 pub use laws::durations_are_unique;
 pub use minutes::one_minute;
 pub use table::Durations;
-pub use window::{MOST_MINUTES, Window, durations};
+pub use window::{MOST_MINUTES, Window, durations, limits_are_as_stated};

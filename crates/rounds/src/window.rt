@@ -1,6 +1,7 @@
 //! A window of departures, one a minute, and the least durations of each of them.
 ghost use Rattle.std.specs.Prelude.{◌≡◌, ◌≢◌, ℕ, ◌+◌, ◌*◌, ◌<◌, ◌≤◌, ◌↔◌, IsTrue, length, slice_index, IfOk};
 ghost use Rattle.rounds.specs.Window.{Fits, AreDurations};
+ghost use Rattle.rounds.specs.declared.window.TheConstants as limit;
 
 use crate::minutes::one_minute;
 use crate::table::Durations;
@@ -9,6 +10,11 @@ use timetable::{END_OF_AXIS, NEVER, Network, StopNo};
 
 /// The most minutes of a window: a day.
 pub const MOST_MINUTES: u32 = 1_440;
+
+/// A law: the limit of minutes in numbers.
+pub fn limits_are_as_stated()
+    ensures minutes { limit.MOST_MINUTES ≡ 1440 }
+{}
 
 /// Departures one minute apart.
 #[derive(Clone, Copy, Debug, PartialEq, Eq)]

@@ -3,6 +3,7 @@
 //! - `scenario`: [`Scenario`] and [`base`], the scenario without edits.
 //! - `files`: [`read_scenario`], the scenario that a file says, or its first [`ScenarioFault`].
 //! - `networks`: [`network_of`], the network of the runs that a scenario keeps.
+//! - `edits`: how many rows a scenario may have, and how far they may shift times.
 //!
 //! `specs/Edits` says what the rows of a scenario do to a trip, `specs/Networks` which network they make of runs, and
 //! `specs/Files` which edits a file says, with all its faults.
@@ -24,6 +25,7 @@ mod shifted_times;
 mod tests;
 mod trip_list;
 
+pub use edits::{END_OF_TIMES, MOST_EDITS, MOST_SHIFT, limits_are_as_stated};
 pub use faults::{ScenarioFault, ScenarioWhat};
 pub use files::read_scenario;
 pub use networks::network_of;

@@ -20,5 +20,5 @@ mod tests;
 pub use fault::DayFault;
 pub use instances::active;
 pub use run::Run;
-pub use run_list::MOST_RUNS;
+pub use run_list::{MOST_RUNS, limits_are_as_stated};
 pub use services::runs;

@@ -1,5 +1,8 @@
 //! The runs that were found so far.
-ghost use Rattle.std.specs.Prelude.{◌≡◌, ◌+◌, ◌++◌, ◌∷◌, [], length, OnOk, IfErr};
+ghost use Rattle.std.specs.Prelude.{◌≡◌, ◌+◌, ◌<◌, ◌++◌, ◌∷◌, [], length, OnOk, IfErr};
+ghost use Rattle.service_days.specs.declared.day.TheConstants as day;
+ghost use Rattle.service_days.specs.declared.fault.DayFault.TheVariants.{Memory};
+ghost use Rattle.service_days.specs.declared.run_list.TheConstants as limit;
 
 use crate::fault::DayFault;
 use crate::run::Run;
@@ -8,6 +11,12 @@ use std::marker::Model;
 
 /// The most runs of a study.
 pub const MOST_RUNS: usize = 1_000_000;
+
+/// A law: the limits of runs and of days in numbers.
+pub fn limits_are_as_stated()
+    ensures runs { limit.MOST_RUNS ≡ 1000000 }
+    ensures days { day.LAST_DAY ≡ 7304483 }
+{}
 
 /// Runs, no more than `MOST_RUNS`. Contracts see the list.
 #[derive(Drop)]
@@ -50,6 +59,7 @@ impl RunList {
     pub(crate) fn push(&mut self, run: Run) -> Result<(), DayFault>
         ensures good { OnOk result (self.new ≡ self.old ++ run ∷ []) }
         ensures fault { IfErr result (λ e. IsListFault e (length self.old + 1)) }
+        ensures memory { IfErr result (λ e. e ≡ Memory → length self.old < limit.MOST_RUNS) }
     {
         if self.room() == 0 {
             return Err(DayFault::TooMany);

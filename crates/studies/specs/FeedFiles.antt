@@ -1,5 +1,5 @@
 -- The files of a feed as they were read from the disk.
-use Rattle.std.specs.Prelude.{option_map}
+use Rattle.std.specs.Prelude.{None, option_map}
 use Rattle.gtfs_tables.specs.Files as files
 use Rattle.studies.specs.declared.feed_files.FeedFiles.{FeedFiles}
 
@@ -14,4 +14,17 @@ files_read f = record {
   stop_times = option_map (λ bytes. bytes.items) f.stop_times;
   frequencies = option_map (λ bytes. bytes.items) f.frequencies;
   transfers = option_map (λ bytes. bytes.items) f.transfers;
+}
+
+-- no file is there
+abbrev pub no_files : files.FeedFiles
+no_files = record {
+  stops = None;
+  routes = None;
+  calendar = None;
+  calendar_dates = None;
+  trips = None;
+  stop_times = None;
+  frequencies = None;
+  transfers = None;
 }

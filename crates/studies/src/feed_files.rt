@@ -1,7 +1,7 @@
 //! The files of a feed, held in memory.
 ghost use Rattle.std.specs.Prelude.{◌≡◌, option_map};
 ghost use Rattle.gtfs_tables.specs.Files as files;
-ghost use Rattle.studies.specs.FeedFiles.{files_read};
+ghost use Rattle.studies.specs.FeedFiles.{files_read, no_files};
 
 use gtfs_tables::FeedBytes;
 
@@ -27,6 +27,22 @@ pub struct FeedFiles {
 }
 
 impl FeedFiles {
+    /// No file is there.
+    pub fn none() -> FeedFiles
+        ensures { files_read result ≡ no_files }
+    {
+        FeedFiles {
+            stops: None,
+            routes: None,
+            calendar: None,
+            calendar_dates: None,
+            trips: None,
+            stop_times: None,
+            frequencies: None,
+            transfers: None,
+        }
+    }
+
     /// Their bytes.
     pub fn bytes(&self) -> FeedBytes<'_>
         ensures { files.files_of result ≡ files_read self.now }

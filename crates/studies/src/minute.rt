@@ -32,7 +32,9 @@ pub fn minute_line(
     ensures fault { IfErr result (λ fault. Tells fault (minute_faults (files_of files.now) origin.now)) }
 {
     let feed = feed_from(alloc, files)?;
-    line_from(alloc, &feed, origin, minute, rides)
+    let line = line_from(alloc, &feed, origin, minute, rides);
+    drop(feed);
+    line
 }
 
 /// What the files say, or the first fault among them.

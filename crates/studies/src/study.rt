@@ -60,7 +60,9 @@ fn text_of_files(
         Ok(feed) => feed,
         Err(fault) => return Err(StudyFault::Feed(fault)),
     };
-    text_of_feed(alloc, inputs, settings, &feed)
+    let text = text_of_feed(alloc, inputs, settings, &feed);
+    drop(feed);
+    text
 }
 
 /// The text, once the feed is read: the analyst's own tables are.

@@ -165,13 +165,14 @@ pub fn read_calendar(alloc: Global, bytes: &[u8]) -> Result<Calendar, FeedFault>
         services: Identifiers::new(alloc),
         rows: Vec::new(alloc),
     };
-    read_records(
+    let read = read_records(
         alloc,
         &columns_in(&file.header),
         &mut calendar,
         &mut file.rows,
-    )?;
-    Ok(calendar)
+    );
+    drop(file);
+    read.and(Ok(calendar))
 }
 
 #[cfg(test)]

@@ -120,8 +120,9 @@ pub fn read_calendar_dates(
         services,
         rows: Vec::new(alloc),
     };
-    read_records(alloc, &columns_in(&file.header), &mut dates, &mut file.rows)?;
-    Ok(dates)
+    let read = read_records(alloc, &columns_in(&file.header), &mut dates, &mut file.rows);
+    drop(file);
+    read.and(Ok(dates))
 }
 
 #[cfg(test)]

@@ -143,8 +143,9 @@ pub fn read_feed_trips(
         columns: columns_in(&file.header),
         routes,
     };
-    read_records(alloc, &reader, &mut trips, &mut file.rows)?;
-    Ok(trips)
+    let read = read_records(alloc, &reader, &mut trips, &mut file.rows);
+    drop(file);
+    read.and(Ok(trips))
 }
 
 #[cfg(test)]

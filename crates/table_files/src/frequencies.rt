@@ -157,19 +157,20 @@ pub fn read_frequencies(
         × (map (λ rows. rows.items) v.items ≡ departures_by_trip trips.now (frequency_rows bytes.now))) }
     ensures fault { IfErr result (λ e. Tells e (frequency_faults trips.now bytes.now)) }
 {
+    let mut departures = no_departures(alloc, trips.len())?;
     let mut file = open_table(
         alloc,
         bytes,
         FileName::Frequencies,
         &[b"trip_id", b"start_time", b"end_time", b"headway_secs"],
     )?;
-    let mut departures = no_departures(alloc, trips.len())?;
     let reader = FrequencyReader {
         columns: columns_in(&file.header),
         trips,
     };
-    read_records(alloc, &reader, &mut departures, &mut file.rows)?;
-    Ok(departures)
+    let read = read_records(alloc, &reader, &mut departures, &mut file.rows);
+    drop(file);
+    read.and(Ok(departures))
 }
 
 #[cfg(test)]

@@ -253,8 +253,15 @@ pub fn read_places(alloc: Global, bytes: &[u8]) -> Result<Places, FeedFault>
 {
     let mut file = open_table(alloc, bytes, FileName::Stops, &[b"stop_id"])?;
     let mut list = PlaceList::new(alloc);
-    read_records(alloc, &columns_in(&file.header), &mut list, &mut file.rows)?;
-    Ok(list.into_places(alloc)?)
+    let read = read_records(alloc, &columns_in(&file.header), &mut list, &mut file.rows);
+    drop(file);
+    match read {
+        Ok(()) => Ok(list.into_places(alloc)?),
+        Err(fault) => {
+            drop(list);
+            Err(fault)
+        }
+    }
 }
 
 #[cfg(test)]

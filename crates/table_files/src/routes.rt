@@ -73,8 +73,9 @@ pub fn read_routes(alloc: Global, bytes: &[u8]) -> Result<Identifiers, FeedFault
 {
     let mut file = open_table(alloc, bytes, FileName::Routes, &[b"route_id"])?;
     let mut ids = Identifiers::new(alloc);
-    read_records(alloc, &columns_in(&file.header), &mut ids, &mut file.rows)?;
-    Ok(ids)
+    let read = read_records(alloc, &columns_in(&file.header), &mut ids, &mut file.rows);
+    drop(file);
+    read.and(Ok(ids))
 }
 
 #[cfg(test)]

@@ -257,18 +257,20 @@ pub fn read_stop_times(
     ensures few { IfOk result (λ t. t.aside ≤ length trips.now) }
     ensures fault { IfErr result (λ e. Tells e (spec.time_faults trips.now stops.now bytes.now)) }
 {
+    let mut records = no_records(alloc, trips.len())?;
     let mut file = open_table(
         alloc,
         bytes,
         FileName::StopTimes,
         &[b"trip_id", b"stop_id", b"stop_sequence"],
     )?;
-    let mut records = no_records(alloc, trips.len())?;
     let reader = TimeReader {
         columns: columns_in(&file.header),
         trips,
         stops,
     };
-    read_records(alloc, &reader, &mut records, &mut file.rows)?;
+    let read = read_records(alloc, &reader, &mut records, &mut file.rows);
+    drop(file);
+    read?;
     events_of_trips(alloc, records)
 }

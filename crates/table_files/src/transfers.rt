@@ -248,9 +248,10 @@ pub fn read_transfers(alloc: Global, bytes: &[u8], places: &Places) -> Result<Tr
         columns: columns_in(&file.header),
         places,
     };
-    read_records(alloc, &reader, &mut transfers, &mut file.rows)?;
+    let read = read_records(alloc, &reader, &mut transfers, &mut file.rows);
+    drop(file);
     places.known();
-    Ok(transfers)
+    read.and(Ok(transfers))
 }
 
 #[cfg(test)]

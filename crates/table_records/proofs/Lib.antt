@@ -5,3 +5,4 @@ pub mod Dates
 pub mod FieldFacts
 pub mod FaultFacts
 pub mod ReadingFacts
+pub mod TableFacts

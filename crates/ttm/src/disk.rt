@@ -7,6 +7,7 @@ ghost use Rattle.studies.specs.Inputs.{inputs_of};
 use crate::files::{ReadFault, read_all};
 use crate::lines::{path_line, path_status};
 use crate::paths::{path_in, scenario_of};
+use crate::task::Task;
 use crate::telling::{tell_made, tell_short};
 use std::fs;
 use std::io::{ErrorKind, Write};
@@ -14,25 +15,31 @@ use std::process::ExitCode;
 use std::rt::Files;
 use studies::{FeedFiles, Inputs, NamedFile, bytes_of};
 
+/// The analyst's own files beside the feed, each read whole; `None` where its option isn't given.
+#[derive(Drop)]
+pub struct OwnFiles {
+    pub footpaths: Option<Vec<u8>>,
+    pub origins: Option<Vec<u8>>,
+    pub opportunities: Option<Vec<u8>>,
+}
+
 /// What goes into a study, of files that were read.
 pub fn inputs_from<'a>(
     feed: &'a FeedFiles,
-    footpaths: &'a Option<Vec<u8>>,
-    origins: &'a Option<Vec<u8>>,
-    opportunities: &'a Option<Vec<u8>>,
+    own: &'a OwnFiles,
     scenarios: &'a [NamedFile],
 ) -> Inputs<'a>
     ensures feed { (inputs_of result).feed ≡ files_read feed.now }
-    ensures footpaths { (inputs_of result).footpaths ≡ option_map (λ bytes. bytes.items) footpaths.now }
-    ensures origins { (inputs_of result).origins ≡ option_map (λ bytes. bytes.items) origins.now }
-    ensures opportunities { (inputs_of result).opportunities ≡ option_map (λ bytes. bytes.items) opportunities.now }
+    ensures footpaths { (inputs_of result).footpaths ≡ option_map (λ bytes. bytes.items) own.now.footpaths }
+    ensures origins { (inputs_of result).origins ≡ option_map (λ bytes. bytes.items) own.now.origins }
+    ensures opportunities { (inputs_of result).opportunities ≡ option_map (λ bytes. bytes.items) own.now.opportunities }
     ensures scenarios { (inputs_of result).scenarios ≡ scenarios.now }
 {
     Inputs {
         feed: feed.bytes(),
-        footpaths: bytes_of(footpaths),
-        origins: bytes_of(origins),
-        opportunities: bytes_of(opportunities),
+        footpaths: bytes_of(&own.footpaths),
+        origins: bytes_of(&own.origins),
+        opportunities: bytes_of(&own.opportunities),
         scenarios,
     }
 }
@@ -43,41 +50,93 @@ pub fn feed_files<E: Write>(
     folder: &str,
     err: &mut E,
 ) -> Result<FeedFiles, ExitCode> {
-    Ok(FeedFiles {
-        stops: feed_file(rt, folder, "stops.txt", err)?,
-        routes: feed_file(rt, folder, "routes.txt", err)?,
-        calendar: feed_file(rt, folder, "calendar.txt", err)?,
-        calendar_dates: feed_file(rt, folder, "calendar_dates.txt", err)?,
-        trips: feed_file(rt, folder, "trips.txt", err)?,
-        stop_times: feed_file(rt, folder, "stop_times.txt", err)?,
-        frequencies: feed_file(rt, folder, "frequencies.txt", err)?,
-        transfers: feed_file(rt, folder, "transfers.txt", err)?,
-    })
+    let mut files = FeedFiles::none();
+    match fill_feed(rt, folder, &mut files, err) {
+        Ok(()) => Ok(files),
+        Err(code) => Err(code),
+    }
 }
 
-/// A file of a feed, if it is found.
-fn feed_file<E: Write>(
+/// Reads the files of a feed, each to its place.
+fn fill_feed<E: Write>(
+    rt: &HostRuntime,
+    folder: &str,
+    files: &mut FeedFiles,
+    err: &mut E,
+) -> Result<(), ExitCode> {
+    fill(rt, folder, "stops.txt", &mut files.stops, err)?;
+    fill(rt, folder, "routes.txt", &mut files.routes, err)?;
+    fill(rt, folder, "calendar.txt", &mut files.calendar, err)?;
+    fill(
+        rt,
+        folder,
+        "calendar_dates.txt",
+        &mut files.calendar_dates,
+        err,
+    )?;
+    fill(rt, folder, "trips.txt", &mut files.trips, err)?;
+    fill(rt, folder, "stop_times.txt", &mut files.stop_times, err)?;
+    fill(rt, folder, "frequencies.txt", &mut files.frequencies, err)?;
+    fill(rt, folder, "transfers.txt", &mut files.transfers, err)
+}
+
+/// Reads a file of a feed to its place, if it is found.
+fn fill<E: Write>(
     rt: &HostRuntime,
     folder: &str,
     name: &str,
+    place: &mut Option<Vec<u8>>,
     err: &mut E,
-) -> Result<Option<Vec<u8>>, ExitCode> {
+) -> Result<(), ExitCode> {
     match path_in(rt.alloc(), folder, name) {
-        Ok(path) => found(rt, path.as_str(), err),
+        Ok(path) => {
+            *place = found(rt, path.as_str(), err)?;
+            Ok(())
+        }
         Err(_) => Err(tell_short(err)),
     }
 }
 
-/// A file that an option names, which has to be there.
+/// The analyst's own files beside the feed. Those that an option names have to be there.
+pub fn own_files<E: Write>(
+    rt: &HostRuntime,
+    task: &Task,
+    err: &mut E,
+) -> Result<OwnFiles, ExitCode> {
+    let mut files = OwnFiles {
+        footpaths: None,
+        origins: None,
+        opportunities: None,
+    };
+    match fill_own(rt, task, &mut files, err) {
+        Ok(()) => Ok(files),
+        Err(code) => Err(code),
+    }
+}
+
+/// Reads the files that options name, each to its place.
+fn fill_own<E: Write>(
+    rt: &HostRuntime,
+    task: &Task,
+    files: &mut OwnFiles,
+    err: &mut E,
+) -> Result<(), ExitCode> {
+    own_file(rt, &task.footpaths, &mut files.footpaths, err)?;
+    own_file(rt, &task.origins, &mut files.origins, err)?;
+    own_file(rt, &task.opportunities, &mut files.opportunities, err)
+}
+
+/// Reads a file that an option names to its place. It has to be there.
 pub fn own_file<E: Write>(
     rt: &HostRuntime,
     path: &Option<String>,
+    place: &mut Option<Vec<u8>>,
     err: &mut E,
-) -> Result<Option<Vec<u8>>, ExitCode> {
-    match path {
-        Some(path) => Ok(Some(there(rt, path.as_str(), err)?)),
-        None => Ok(None),
+) -> Result<(), ExitCode> {
+    if let Some(path) = path {
+        *place = Some(there(rt, path.as_str(), err)?);
     }
+    Ok(())
 }
 
 /// The scenario files, which have to be there, with the names of their scenarios.

@@ -92,7 +92,8 @@ fn reads_nothing(rt: &HostRuntime) -> bool {
 fn own_file_tells(rt: &HostRuntime, path: &str, line: &[u8]) -> io::Result<bool> {
     let mut err = Vec::new(rt.alloc());
     let path = Some(String::from_str(rt.alloc(), path)?);
-    let is_read = own_file(rt, &path, &mut err).is_ok();
+    let mut bytes = None;
+    let is_read = own_file(rt, &path, &mut bytes, &mut err).is_ok();
     Ok(!is_read && err.as_slice() == line)
 }
 

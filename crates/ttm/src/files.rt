@@ -3,12 +3,10 @@
 ghost use Rattle.std.specs.Prelude.{◌≡◌, ◌≤◌, ◌^◌, length, IfOk, IfErr, IfSome};
 ghost use Rattle.ttm.specs.Files.{Tells};
 
+use gtfs_tables::MOST_BYTES;
 use std::alloc::Global;
 use std::io::Read;
 use thiserror::Error;
-
-/// The most bytes that a file may have.
-const LIMIT: usize = 1_073_741_824;
 
 /// Why a file isn't read.
 #[derive(Clone, Copy, Debug, PartialEq, Eq, Error)]
@@ -32,7 +30,7 @@ pub fn read_all<R: Read>(alloc: Global, r: &mut R) -> Result<Vec<u8>, ReadFault>
 {
     let mut bytes = Vec::new(alloc);
     let mut chunk = [0u8; 8192];
-    while bytes.len() <= LIMIT {
+    while bytes.len() <= MOST_BYTES {
         match r.read(&mut chunk) {
             Ok(0) => return Ok(bytes),
             Ok(n) => {

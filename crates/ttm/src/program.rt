@@ -8,7 +8,7 @@ ghost use Rattle.std.specs.Process.{exit_status};
 ghost use Rattle.studies.specs.Inputs.{inputs_of};
 ghost use Rattle.studies.specs.Study.{IsStudyText};
 
-use crate::disk::{feed_files, inputs_from, own_file, scenario_files};
+use crate::disk::{OwnFiles, feed_files, inputs_from, own_files, scenario_files};
 use crate::example::example_feed;
 use crate::lines::{bad_line, fault_line, status};
 use crate::task::{Task, WordFault};
@@ -19,7 +19,7 @@ use matrix_text::put_all;
 use std::env;
 use std::io::{ErrorKind, Write};
 use std::process::ExitCode;
-use studies::{Inputs, Settings, StudyFault, run_study};
+use studies::{FeedFiles, Inputs, Settings, StudyFault, run_study};
 use workers::Open;
 
 /// The exit status of words that aren't the command's.
@@ -78,10 +78,11 @@ fn asked<O: Write, E: Write>(
     err: &mut E,
 ) -> ExitCode {
     match task_of(rt.alloc(), words) {
-        Ok(task) => match study(rt, &task, out, err) {
-            Ok(code) => code,
-            Err(code) => code,
-        },
+        Ok(task) => {
+            let code = study(rt, &task, out, err);
+            drop(task);
+            code
+        }
         Err(fault) => {
             let code = word_status(&fault);
             match fault {
@@ -97,26 +98,44 @@ fn asked<O: Write, E: Write>(
     }
 }
 
-/// The study of a task: its files are read in the order in which they are looked at, then the scenarios.
-fn study<O: Write, E: Write>(
+/// The study of a task. The files are read in the order in which they are looked at: first those of the feed.
+fn study<O: Write, E: Write>(rt: &HostRuntime, task: &Task, out: &mut O, err: &mut E) -> ExitCode {
+    match feed_files(rt, task.feed.as_str(), err) {
+        Ok(feed) => study_of_feed(rt, task, &feed, out, err),
+        Err(code) => code,
+    }
+}
+
+/// The study, once the feed's files are read: the analyst's own tables are.
+fn study_of_feed<O: Write, E: Write>(
     rt: &HostRuntime,
     task: &Task,
+    feed: &FeedFiles,
     out: &mut O,
     err: &mut E,
-) -> Result<ExitCode, ExitCode> {
-    let feed = feed_files(rt, task.feed.as_str(), err)?;
-    let footpaths = own_file(rt, &task.footpaths, err)?;
-    let origins = own_file(rt, &task.origins, err)?;
-    let opportunities = own_file(rt, &task.opportunities, err)?;
-    let scenarios = scenario_files(rt, task.scenarios.as_slice(), err)?;
-    let inputs = inputs_from(
-        &feed,
-        &footpaths,
-        &origins,
-        &opportunities,
-        scenarios.as_slice(),
-    );
-    Ok(answer(rt, &inputs, &task.settings, out, err))
+) -> ExitCode {
+    match own_files(rt, task, err) {
+        Ok(own) => study_of_tables(rt, task, feed, &own, out, err),
+        Err(code) => code,
+    }
+}
+
+/// The study, once all tables are read: the scenario files are.
+fn study_of_tables<O: Write, E: Write>(
+    rt: &HostRuntime,
+    task: &Task,
+    feed: &FeedFiles,
+    own: &OwnFiles,
+    out: &mut O,
+    err: &mut E,
+) -> ExitCode {
+    match scenario_files(rt, task.scenarios.as_slice(), err) {
+        Ok(scenarios) => {
+            let inputs = inputs_from(feed, own, scenarios.as_slice());
+            answer(rt, &inputs, &task.settings, out, err)
+        }
+        Err(code) => code,
+    }
 }
 
 /// Puts out the matrix of a study, or tells why there is none.

@@ -25,4 +25,4 @@ pub use gates::{Gate, Open, Verdict};
 pub use jobs::one_thread;
 pub use laws::{matrices_are_unique, rows_are_unique, rows_depend_on_their_network};
 pub use rows::row_of;
-pub use study::{MOST_RIDES, MOST_SCENARIOS, Study};
+pub use study::{MOST_RIDES, MOST_SCENARIOS, Study, limits_are_as_stated};

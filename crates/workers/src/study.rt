@@ -1,6 +1,7 @@
 //! Studies: what is asked of the networks.
 ghost use Rattle.std.specs.Prelude.{◌≡◌, ◌<◌, ◌↔◌, IsTrue, All, length};
 ghost use Rattle.workers.specs.Study.{study_of, StudyFits};
+ghost use Rattle.workers.specs.declared.study.TheConstants as limit;
 
 use rounds::Window;
 use timetable::{MOST_STOPS, Network, StopNo};
@@ -10,6 +11,12 @@ pub const MOST_SCENARIOS: usize = 16;
 
 /// The most rides that a study may allow a journey.
 pub const MOST_RIDES: u32 = 8;
+
+/// A law: the limits of a study in numbers.
+pub fn limits_are_as_stated()
+    ensures scenarios { limit.MOST_SCENARIOS ≡ 16 }
+    ensures rides { limit.MOST_RIDES ≡ 8 }
+{}
 
 /// What is asked for: one row per scenario and origin, with one cell per stop.
 #[derive(Clone, Copy)]
