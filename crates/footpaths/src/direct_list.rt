@@ -9,7 +9,7 @@ use timetable::{MOST_FOOTPATHS, MOST_STOPS, StopNo};
 /// Each leads one way, from a stop to another; a pair may come again with other seconds.
 ///
 /// At most 65,535 stops and 4,000,000 footpaths.
-#[derive(Debug, Drop)]
+#[derive(Drop)]
 pub struct Direct {
     stops: u32,
     pairs: Vec<(StopNo, StopNo, u32)>,

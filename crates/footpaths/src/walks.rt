@@ -18,7 +18,7 @@ use table_records::{
 };
 
 /// A walk from one place to another. A station stands for all its stops.
-#[derive(Clone, Copy, Debug, PartialEq, Eq)]
+#[derive(Clone, Copy)]
 pub(crate) struct Walk {
     pub origin: Place,
     pub target: Place,
@@ -27,7 +27,7 @@ pub(crate) struct Walk {
 }
 
 /// The columns of the file of footpaths that are read.
-#[derive(Clone, Copy, Debug, PartialEq, Eq)]
+#[derive(Clone, Copy)]
 pub(crate) struct WalkColumns {
     pub from: Option<usize>,
     pub to: Option<usize>,
@@ -101,7 +101,9 @@ fn add_walks(alloc: Global, direct: &mut Direct, feed: &Feed, bytes: &[u8]) -> R
         columns: columns_in(&file.header),
         feed,
     };
-    read_records(alloc, &reader, direct, &mut file.rows)
+    let read = read_records(alloc, &reader, direct, &mut file.rows);
+    drop(file);
+    read
 }
 
 fn columns_in(header: &ByteRecord) -> WalkColumns

@@ -51,7 +51,10 @@ pub fn read_catalog(alloc: Global, files: &FeedBytes<'_>) -> Result<Catalog, Fee
             exceptions: routed.served.dated.exceptions,
             trips: routed.served.dated.trips,
         }),
-        Err(fault) => Err(fault),
+        Err(fault) => {
+            drop(places);
+            Err(fault)
+        }
     }
 }
 
@@ -85,7 +88,10 @@ fn routes_with_trips(alloc: Global, files: &FeedBytes<'_>) -> Result<RoutesWithT
     let routes = routes_of(alloc, files)?;
     match services_with_trips(alloc, files, &routes) {
         Ok(served) => Ok(RoutesWithTrips { routes, served }),
-        Err(fault) => Err(fault),
+        Err(fault) => {
+            drop(routes);
+            Err(fault)
+        }
     }
 }
 

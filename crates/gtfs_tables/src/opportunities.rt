@@ -15,7 +15,7 @@ use table_records::{
 };
 
 /// The columns of the opportunities file that are read.
-#[derive(Clone, Copy, Debug, PartialEq, Eq)]
+#[derive(Clone, Copy)]
 pub struct OpportunityColumns {
     pub stop: Option<usize>,
     pub count: Option<usize>,

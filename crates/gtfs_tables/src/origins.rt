@@ -15,7 +15,7 @@ use table_records::{FeedFault, FileName, RecordReader, column, field, open_table
 use timetable::StopNo;
 
 /// The columns of the origins file that are read.
-#[derive(Clone, Copy, Debug, PartialEq, Eq)]
+#[derive(Clone, Copy)]
 pub struct OriginColumns {
     pub stop: Option<usize>,
 }

@@ -7,7 +7,7 @@ use table_files::Departures;
 use timetable::Events;
 
 /// The identifier of a trip, `trip_id`. Contracts see its bytes.
-#[derive(Debug, Drop)]
+#[derive(Drop)]
 pub struct TripId {
     bytes: Vec<u8>,
 }
@@ -37,7 +37,7 @@ impl TripId {
 }
 
 /// The rows of `frequencies.txt` for a trip, in file order. Contracts see the list.
-#[derive(Debug, Drop)]
+#[derive(Drop)]
 pub struct DepartureList {
     items: Vec<Departures>,
 }
@@ -68,7 +68,7 @@ impl DepartureList {
 }
 
 /// A trip of a feed.
-#[derive(Debug, Drop)]
+#[derive(Drop)]
 pub struct FeedTrip {
     /// The number of its route.
     pub route: u32,

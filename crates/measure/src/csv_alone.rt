@@ -1,6 +1,6 @@
 //! The yardstick: the `csv` crate alone, over every record of the same bytes.
 
-use csv::{ByteRecord, ReaderBuilder};
+use csv::{ByteRecord, Reader, ReaderBuilder};
 use gtfs_tables::FeedBytes;
 use std::alloc::{AllocError, Global};
 
@@ -36,8 +36,13 @@ fn count_records(alloc: Global, bytes: &[u8]) -> Result<u64, AllocError> {
         .flexible(true)
         .from_reader(alloc, bytes);
     let mut row = ByteRecord::new(alloc);
+    count_with(&mut reader, &mut row)
+}
+
+// The same, of a reader, over one record's room.
+fn count_with(reader: &mut Reader<&[u8]>, row: &mut ByteRecord) -> Result<u64, AllocError> {
     for count in 0..u64::MAX {
-        let Ok(found) = reader.read_byte_record(&mut row) else {
+        let Ok(found) = reader.read_byte_record(row) else {
             return Err(AllocError);
         };
         if !found {

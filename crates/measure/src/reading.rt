@@ -4,7 +4,7 @@ ghost use Rattle.gtfs_tables.specs.Files.{AreWithinLimit, files_of};
 use crate::csv_alone;
 use crate::feed_files::read_feed_files;
 use crate::figures::{hundredths, millis, per_second};
-use crate::telling::{refuse, tell, tell_stage};
+use crate::telling::{refuse, tell, tell_fault, tell_stage};
 use gtfs_tables::{Feed, FeedBytes, read_feed};
 use std::io;
 use std::time::Instant;
@@ -39,8 +39,12 @@ fn time_reading(
 {
     let start = Instant::now(rt)?;
     match read_feed(rt.alloc(), files) {
-        Ok(feed) => report(rt, &feed, records, csv_time, start),
-        Err(fault) => println!(rt; "refused: {fault:?}"),
+        Ok(feed) => {
+            let reported = report(rt, &feed, records, csv_time, start);
+            drop(feed);
+            reported
+        }
+        Err(fault) => tell_fault(rt, &fault),
     }
 }
 

@@ -10,7 +10,7 @@ use crate::networks::make_networks;
 use crate::own_files::{ScenarioFile, read_all, read_own};
 use crate::sizes::{event_count, pair_count};
 use crate::tables::{Tables, names_of, read_tables};
-use crate::telling::{refuse, tell, tell_stage};
+use crate::telling::{refuse, tell, tell_fault, tell_stage};
 use collector::Matrix;
 use footpaths::{close, limit_fits};
 use gtfs_tables::{Feed, FeedBytes, read_feed};
@@ -77,8 +77,12 @@ fn time_reading(
     }
     let start = Instant::now(rt)?;
     match read_feed(rt.alloc(), files) {
-        Ok(feed) => time_tables(rt, asked, &feed, footpaths, origins, scenarios, start),
-        Err(fault) => println!(rt; "refused: {fault:?}"),
+        Ok(feed) => {
+            let timed = time_tables(rt, asked, &feed, footpaths, origins, scenarios, start);
+            drop(feed);
+            timed
+        }
+        Err(fault) => tell_fault(rt, &fault),
     }
 }
 
@@ -94,7 +98,7 @@ fn time_tables(
 ) -> io::Result<()> {
     match read_tables(rt.alloc(), feed, footpaths, origins, scenarios) {
         Ok(tables) => time_days(rt, asked, feed, &tables, start),
-        Err(fault) => println!(rt; "refused: {fault:?}"),
+        Err(fault) => tell_fault(rt, &fault),
     }
 }
 
@@ -112,7 +116,7 @@ fn time_days(
     let start = Instant::now(rt)?;
     match active(rt.alloc(), feed, asked.date, 0, 0) {
         Ok(runs) => time_walks(rt, asked, feed, tables, runs.as_slice(), start),
-        Err(fault) => println!(rt; "refused: {fault:?}"),
+        Err(fault) => tell_fault(rt, &fault),
     }
 }
 
@@ -143,7 +147,7 @@ fn time_walks(
     let start = Instant::now(rt)?;
     match close(rt.alloc(), &tables.direct, asked.walk) {
         Ok(feet) => time_networks(rt, asked, feed, tables, runs, &feet, start),
-        Err(fault) => println!(rt; "refused: {fault:?}"),
+        Err(fault) => tell_fault(rt, &fault),
     }
 }
 
@@ -167,7 +171,7 @@ fn time_networks(
     let start = Instant::now(rt)?;
     match make_networks(rt.alloc(), feed, &tables.scenarios, runs, feet) {
         Ok(networks) => time_durations(rt, asked, feed, tables, &networks, start),
-        Err(fault) => println!(rt; "refused: {fault:?}"),
+        Err(fault) => tell_fault(rt, &fault),
     }
 }
 
@@ -203,7 +207,7 @@ fn time_rows(rt: &HostRuntime, feed: &Feed, tables: &Tables, study: &Study<'_>) 
     let start = Instant::now(rt)?;
     match one_thread(rt.alloc(), study) {
         Ok(matrix) => time_text(rt, feed, tables, &matrix, start),
-        Err(fault) => println!(rt; "refused: {fault:?}"),
+        Err(fault) => tell_fault(rt, &fault),
     }
 }
 
@@ -244,6 +248,6 @@ fn time_writing(
             tell_stage(rt, "text", start)?;
             tell(rt, "bytes of text", text.len() as u64)
         }
-        Err(fault) => println!(rt; "refused: {fault:?}"),
+        Err(fault) => tell_fault(rt, &fault),
     }
 }

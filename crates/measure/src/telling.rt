@@ -1,6 +1,7 @@
 //! The lines of the report.
 
 use crate::figures::millis;
+use std::fmt::Debug;
 use std::io;
 use std::time::Instant;
 
@@ -19,4 +20,9 @@ pub(crate) fn tell_stage(rt: &HostRuntime, stage: &str, start: Instant) -> io::R
 /// Prints that a study isn't one.
 pub(crate) fn refuse(rt: &HostRuntime, why: &str) -> io::Result<()> {
     println!(rt; "refused: {why}")
+}
+
+/// Prints the fault for which a study isn't one.
+pub(crate) fn tell_fault<F: Debug>(rt: &HostRuntime, fault: &F) -> io::Result<()> {
+    println!(rt; "refused: {fault:?}")
 }

@@ -1,5 +1,5 @@
 -- The first fault of a scenario's file, and the trips that its edits shift.
-use Rattle.std.proofs.Common.{◌≡◌, ◌<◌, ◌++◌, ℕ, ℤ, false, List, [], ◌∷◌, Option, Some, None, length, map, refl, subst, inl, inr, arith}
+use Rattle.std.proofs.Common.{◌≡◌, ◌<◌, ◌≤◌, ◌++◌, ℕ, ℤ, false, List, [], ◌∷◌, Option, Some, None, length, map, refl, sym, subst, inl, inr, arith}
 use Rattle.std.specs.Prelude.{All, option_and_then, option_map, slice_get}
 use Rattle.std.proofs.lemmas.List.{length-map}
 use Rattle.std.proofs.lemmas.List.Elements.{All-cons, All-nil}
@@ -7,6 +7,7 @@ use Rattle.std.proofs.lemmas.List.Quantifiers.{position-Some}
 use Rattle.std.proofs.lemmas.Option.{same_Some}
 use Rattle.std.specs.List.{cons_option}
 use Rattle.std.specs.Str.{bytes_eq}
+use Rattle.table_records.proofs.ReadingFacts.{few_records}
 use Rattle.table_records.specs.Reading.{lacks_column}
 use Rattle.table_records.specs.Table.{records_of}
 use Rattle.gtfs_tables.specs.Feed.{FeedData}
@@ -70,3 +71,8 @@ all_named feed (r ∷ rows) = by (edit_of feed r) (λ e h. named_by feed r e _ h
     by : (o : Option Edit) → ((e : Edit) → o ≡ Some e → NamesTrip feed e) → All (NamesTrip feed) (edits_of feed rows) → All (NamesTrip feed) (cons_option o (edits_of feed rows))
     by None h rest = rest
     by (Some e) h rest = All-cons (NamesTrip feed) e (edits_of feed rows) (h e refl) rest
+
+-- a file has few records, its header among them
+pub few_in_all : (bytes : List ℕ) (rows : List (List (List ℕ))) → rows ≡ records_of bytes → length bytes ≤ 1073741824 → length rows ≤ 1073741825
+few_in_all bytes [] e h = omega arith
+few_in_all bytes (header ∷ rest) e h = let few = few_records bytes header rest (sym e) h in omega (arith, few)

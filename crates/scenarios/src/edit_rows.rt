@@ -13,7 +13,7 @@ use gtfs_tables::Feed;
 use table_records::{column, field, number, trim};
 
 /// The columns of a scenario's file that are read.
-#[derive(Clone, Copy, Debug, PartialEq, Eq)]
+#[derive(Clone, Copy)]
 pub(crate) struct EditColumns {
     pub(crate) action: Option<usize>,
     pub(crate) id: Option<usize>,
@@ -21,7 +21,7 @@ pub(crate) struct EditColumns {
 }
 
 /// What a record does.
-#[derive(Clone, Copy, Debug, PartialEq, Eq)]
+#[derive(Clone, Copy)]
 pub(crate) enum Action {
     RemoveRoute,
     RemoveTrip,

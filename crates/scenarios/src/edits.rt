@@ -19,7 +19,7 @@ pub fn limits_are_as_stated()
 {}
 
 /// What a row of a scenario does, by the feed's numbers.
-#[derive(Clone, Copy, Debug, PartialEq, Eq)]
+#[derive(Clone, Copy)]
 pub enum Edit {
     /// Removes all trips of a route.
     RemoveRoute(u32),

@@ -1,12 +1,11 @@
 //! The files of scenarios.
-ghost use Rattle.std.specs.Prelude.{◌≡◌, ◌≤◌, ◌⊎◌, [], IfErr, IfOk, OnOk, false, length, map, true};
+ghost use Rattle.std.specs.Prelude.{◌≡◌, ◌≤◌, ◌⊎◌, ◌+◌, ◌∷◌, [], if◌then◌else◌, IfErr, IfOk, OnOk, false, length, map, true};
 ghost use Rattle.csv.specs.Records.{fields_of};
-ghost use Rattle.table_records.specs.Reading.{lacks_column};
-ghost use Rattle.table_records.specs.Table.{records_of};
-ghost use Rattle.scenarios.specs.EditRows.{row_at};
+ghost use Rattle.table_records.specs.Reading.{lacks_column, table_rows};
+ghost use Rattle.scenarios.specs.EditRows.{row_at, row_of};
 ghost use Rattle.scenarios.specs.declared.faults.ScenarioWhat.TheVariants.{Memory};
 ghost use Rattle.scenarios.specs.Faults.{Tells};
-ghost use Rattle.scenarios.specs.Files.{edits_of, faults_from, missing_column, required, rows_in, scenario_faults, scenario_in};
+ghost use Rattle.scenarios.specs.Files.{edits_of, faults_from, faults_of, missing_column, required, scenario_faults, scenario_in};
 
 use crate::edit_rows::{EditColumns, columns_in, edit_in};
 use crate::faults::{ScenarioFault, ScenarioWhat};
@@ -34,38 +33,46 @@ pub fn read_scenario(
     ensures good { IfOk result (λ s. (scenario_faults bytes.now feed.now ≡ []) × (s ≡ scenario_in name.now bytes.now feed.now)) }
     ensures fault { IfErr result (λ e. Tells e (scenario_faults bytes.now feed.now)) }
 {
-    let mut file = open_file(alloc, bytes)?;
     let mut scenario = Scenario::named(alloc, Vec::from_slice(alloc, name)?);
-    read_edits(alloc, feed, file.columns, &mut file.rows, &mut scenario)?;
-    check_times(alloc, feed, &scenario)?;
-    Ok(scenario)
+    let mut rows = Rows::new(alloc, bytes);
+    let read = read_rows(alloc, feed, &mut rows, &mut scenario);
+    drop(rows);
+    read.and(Ok(scenario))
 }
 
-/// The file of a scenario whose header was read: its columns, and the records after it.
-#[derive(Drop)]
-struct EditFile<'a> {
-    columns: EditColumns,
-    rows: Rows<'a>,
+/// Adds the edits of a file of which nothing is read yet, and checks the times that they shift.
+fn read_rows(
+    alloc: Global,
+    feed: &Feed,
+    rows: &mut Rows<'_>,
+    scenario: &mut Scenario,
+) -> Result<(), ScenarioFault>
+    requires few { length rows.old ≤ 1073741825 }
+    requires first { scenario.old.edits ≡ [] }
+    ensures good { OnOk result ((lacks_column required rows.old ≡ false) × (faults_of feed.now (table_rows row_of rows.old) ≡ [])
+        × (scenario.new ≡ record scenario.old { edits = edits_of feed.now (table_rows row_of rows.old) })) }
+    ensures fault { IfErr result (λ e. Tells e (if lacks_column required rows.old then missing_column ∷ [] else faults_of feed.now (table_rows row_of rows.old))) }
+{
+    let columns = read_header(alloc, rows)?;
+    read_edits(alloc, feed, columns, rows, scenario)?;
+    check_times(alloc, feed, scenario)
 }
 
 /// Reads the header, which must name each required column.
-fn open_file<'a>(alloc: Global, bytes: &'a [u8]) -> Result<EditFile<'a>, ScenarioFault>
-    requires { length bytes.now ≤ 1073741824 }
-    ensures columns { IfOk result (λ _. lacks_column required (records_of bytes.now) ≡ false) }
-    ensures rows { IfOk result (λ file. rows_in bytes.now ≡ map (row_at file.columns) file.rows) }
-    ensures few { IfOk result (λ file. length file.rows ≤ 1073741824) }
-    ensures fault { IfErr result (λ e. (e.what ≡ Memory) ⊎ ((lacks_column required (records_of bytes.now) ≡ true) × (e ≡ missing_column))) }
+fn read_header(alloc: Global, rows: &mut Rows<'_>) -> Result<EditColumns, ScenarioFault>
+    ensures columns { IfOk result (λ _. lacks_column required rows.old ≡ false) }
+    ensures rows { IfOk result (λ columns. table_rows row_of rows.old ≡ map (row_at columns) rows.new) }
+    ensures count { IfOk result (λ _. length rows.old ≡ length rows.new + 1) }
+    ensures fault { IfErr result (λ e. (e.what ≡ Memory) ⊎ ((lacks_column required rows.old ≡ true) × (e ≡ missing_column))) }
 {
-    let mut rows = Rows::new(alloc, bytes);
     let mut header = ByteRecord::new(alloc);
-    if !rows.next(&mut header)? {
-        return Err(ScenarioFault::missing_column());
-    }
+    let found = rows.next(&mut header);
     let columns = columns_in(&header);
-    if columns.action.is_none() || columns.id.is_none() {
+    drop(header);
+    if !found? || columns.action.is_none() || columns.id.is_none() {
         return Err(ScenarioFault::missing_column());
     }
-    Ok(EditFile { columns, rows })
+    Ok(columns)
 }
 
 /// Adds the edits of all records that are left, in order, up to the first fault.

@@ -15,7 +15,7 @@ use table_records::{
 };
 
 /// A row of `calendar.txt`: a service runs on some weekdays, from its first date to its last, both included.
-#[derive(Clone, Copy, PartialEq, Eq)]
+#[derive(Clone, Copy)]
 pub struct CalendarRow {
     /// The service's number: services are numbered from 0 as they are first named.
     pub service: u32,
@@ -33,7 +33,7 @@ pub struct Calendar {
 }
 
 /// The columns of `calendar.txt` that are read.
-#[derive(Clone, Copy, Debug, PartialEq, Eq)]
+#[derive(Clone, Copy)]
 pub struct CalendarColumns {
     pub service: Option<usize>,
     pub monday: Option<usize>,

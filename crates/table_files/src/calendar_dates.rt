@@ -16,7 +16,7 @@ use table_records::{
 };
 
 /// A row of `calendar_dates.txt`: a date is added to a service, or removed from it.
-#[derive(Clone, Copy, PartialEq, Eq)]
+#[derive(Clone, Copy)]
 pub struct ExceptionRow {
     /// The service's number: services are numbered from 0 as they are first named.
     pub service: u32,
@@ -33,7 +33,7 @@ pub struct CalendarDates {
 }
 
 /// The columns of `calendar_dates.txt`.
-#[derive(Clone, Copy, Debug, PartialEq, Eq)]
+#[derive(Clone, Copy)]
 pub struct ExceptionColumns {
     pub service: Option<usize>,
     pub date: Option<usize>,

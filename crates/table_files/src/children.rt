@@ -10,7 +10,7 @@ use table_records::Identifiers;
 use timetable::StopNo;
 
 /// The stops of each station, in file order. Contracts see a list for each station.
-#[derive(Debug, Drop)]
+#[derive(Drop)]
 pub struct Children {
     lists: Vec<Vec<StopNo>>,
 }

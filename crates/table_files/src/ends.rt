@@ -10,7 +10,7 @@ use crate::place::Place;
 use timetable::StopNo;
 
 /// The stops that a place stands for: a stop stands for itself, a station for its stops, another place for none.
-#[derive(Clone, Copy, Debug, Drop)]
+#[derive(Clone, Copy, Drop)]
 pub enum Ends<'a> {
     /// One stop.
     Alone([StopNo; 1]),

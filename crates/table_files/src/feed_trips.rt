@@ -16,7 +16,7 @@ use table_records::{
 pub const MOST_TRIPS: u64 = 1_000_000;
 
 /// The numbers of a trip's route and service.
-#[derive(Clone, Copy, Debug, PartialEq, Eq)]
+#[derive(Clone, Copy, PartialEq, Eq)]
 pub struct TripNumbers {
     /// The route's place in `routes.txt`.
     pub route: u32,
@@ -33,7 +33,7 @@ pub struct FeedTrips {
 }
 
 /// The columns of `trips.txt` that are read.
-#[derive(Clone, Copy, Debug, PartialEq, Eq)]
+#[derive(Clone, Copy)]
 pub struct TripColumns {
     pub route: Option<usize>,
     pub service: Option<usize>,

@@ -9,7 +9,7 @@ use std::alloc::{AllocError, Global};
 use timetable::{Event, StopNo};
 
 /// The nearest timed event on one side of an event.
-#[derive(Clone, Copy, Debug, PartialEq, Eq)]
+#[derive(Clone, Copy)]
 pub struct Neighbour {
     pub times: Times,
     /// How many untimed events stand between the two.

@@ -27,7 +27,7 @@ pub struct Departures {
 }
 
 /// The columns of `frequencies.txt` that are read.
-#[derive(Clone, Copy, Debug, PartialEq, Eq)]
+#[derive(Clone, Copy)]
 pub struct FrequencyColumns {
     pub trip: Option<usize>,
     pub start: Option<usize>,

@@ -90,7 +90,7 @@ impl Places {
 }
 
 /// The columns of `stops.txt` that are read.
-#[derive(Clone, Copy, Debug, PartialEq, Eq)]
+#[derive(Clone, Copy)]
 pub struct PlaceColumns {
     pub id: Option<usize>,
     pub kind: Option<usize>,

@@ -12,7 +12,7 @@ use table_records::{
 };
 
 /// The columns of `routes.txt` that are read.
-#[derive(Clone, Copy, Debug, PartialEq, Eq)]
+#[derive(Clone, Copy)]
 pub struct RouteColumns {
     pub id: Option<usize>,
 }

@@ -16,7 +16,7 @@ pub struct Times {
 }
 
 /// A trip at a stop, as a record of `stop_times.txt` says it.
-#[derive(Clone, Copy, Debug, PartialEq, Eq)]
+#[derive(Clone, Copy)]
 pub struct Stamp {
     /// Its place along the trip, `stop_sequence`.
     pub sequence: u32,

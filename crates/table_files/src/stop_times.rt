@@ -24,7 +24,7 @@ use table_records::{
 pub const MOST_RECORDS: u64 = 8_000_000;
 
 /// The columns of `stop_times.txt` that are read.
-#[derive(Clone, Copy, Debug, PartialEq, Eq)]
+#[derive(Clone, Copy)]
 pub struct TimeColumns {
     pub trip: Option<usize>,
     pub stop: Option<usize>,
@@ -44,7 +44,7 @@ pub struct TimeReader<'a> {
 }
 
 // Which trip a record is of, where it stops, and its place along the trip.
-#[derive(Clone, Copy, Debug, PartialEq, Eq)]
+#[derive(Clone, Copy)]
 struct Place {
     trip: usize,
     stop: Option<u32>,
@@ -52,7 +52,7 @@ struct Place {
 }
 
 // When a trip is at its place, and whether travellers may board and alight there.
-#[derive(Clone, Copy, Debug, PartialEq, Eq)]
+#[derive(Clone, Copy)]
 struct Visit {
     times: Option<Times>,
     board: bool,

@@ -37,7 +37,7 @@ pub struct Transfers {
 }
 
 /// The columns of `transfers.txt` that are read.
-#[derive(Clone, Copy, Debug, PartialEq, Eq)]
+#[derive(Clone, Copy)]
 pub struct TransferColumns {
     pub from: Option<usize>,
     pub to: Option<usize>,

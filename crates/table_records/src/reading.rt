@@ -1,6 +1,6 @@
 //! How each file of a feed is read: its header, and then record by record.
 
-ghost use Rattle.std.specs.Prelude.{◌≡◌, ◌⊎◌, ◌+◌, ◌<◌, ◌≤◌, ◌^◌, ◌∷◌, ◌++◌, [], ℕ, List, true, false, length, map, is_none, IfOk, IfErr};
+ghost use Rattle.std.specs.Prelude.{◌≡◌, ◌⊎◌, ◌+◌, ◌<◌, ◌≤◌, ◌^◌, ◌∷◌, ◌++◌, [], ℕ, List, true, false, length, map, is_none, IfOk, IfErr, OnOk};
 ghost use Rattle.std.specs.List.{list_any};
 ghost use Rattle.table_records.specs.Columns as spec;
 ghost use Rattle.csv.specs.Records.{fields_of};
@@ -111,11 +111,33 @@ pub fn open_table<'a>(
 {
     let mut rows = Rows::new(alloc, bytes);
     let mut header = ByteRecord::new(alloc);
-    if !rows.next(&mut header)? {
+    match read_header(&mut rows, &mut header, file, required) {
+        Ok(()) => Ok(OpenTable { header, rows }),
+        Err(fault) => {
+            drop(rows);
+            drop(header);
+            Err(fault)
+        }
+    }
+}
+
+// Takes the first record, which must name each required column.
+fn read_header(
+    rows: &mut Rows<'_>,
+    header: &mut ByteRecord,
+    file: FileName,
+    required: &[&[u8]],
+) -> Result<(), FeedFault>
+    ensures columns { OnOk result (lacks_column (map (λ name. name.now) required.now) rows.old ≡ false) }
+    ensures records { OnOk result (rows.old ≡ fields_of header.new ∷ rows.new) }
+    ensures fault { IfErr result (λ e. (e.what ≡ Memory)
+        ⊎ ((lacks_column (map (λ name. name.now) required.now) rows.old ≡ true) × (e ≡ missing_column file))) }
+{
+    if !rows.next(header)? {
         return Err(FeedFault::at(file, 1, What::MissingColumn));
     }
-    if lacks_one(&header, required) {
+    if lacks_one(header, required) {
         return Err(FeedFault::at(file, 1, What::MissingColumn));
     }
-    Ok(OpenTable { header, rows })
+    Ok(())
 }

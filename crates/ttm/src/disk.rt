@@ -4,11 +4,9 @@ ghost use Rattle.std.specs.Prelude.{◌≡◌, option_map};
 ghost use Rattle.studies.specs.FeedFiles.{files_read};
 ghost use Rattle.studies.specs.Inputs.{inputs_of};
 
-use crate::files::{ReadFault, read_all};
-use crate::lines::{path_line, path_status};
-use crate::paths::{path_in, scenario_of};
-use crate::task::Task;
-use crate::telling::{tell_made, tell_short};
+use command_line::{
+    ReadFault, Task, path_in, path_line, path_status, read_all, scenario_of, tell_made, tell_short,
+};
 use std::fs;
 use std::io::{ErrorKind, Write};
 use std::process::ExitCode;
@@ -45,7 +43,7 @@ pub fn inputs_from<'a>(
 }
 
 /// The files of a feed. One that isn't found is absent.
-pub fn feed_files<E: Write>(
+pub(crate) fn feed_files<E: Write>(
     rt: &HostRuntime,
     folder: &str,
     err: &mut E,
@@ -98,7 +96,7 @@ fn fill<E: Write>(
 }
 
 /// The analyst's own files beside the feed. Those that an option names have to be there.
-pub fn own_files<E: Write>(
+pub(crate) fn own_files<E: Write>(
     rt: &HostRuntime,
     task: &Task,
     err: &mut E,
@@ -127,7 +125,7 @@ fn fill_own<E: Write>(
 }
 
 /// Reads a file that an option names to its place. It has to be there.
-pub fn own_file<E: Write>(
+pub(crate) fn own_file<E: Write>(
     rt: &HostRuntime,
     path: &Option<String>,
     place: &mut Option<Vec<u8>>,
@@ -140,7 +138,7 @@ pub fn own_file<E: Write>(
 }
 
 /// The scenario files, which have to be there, with the names of their scenarios.
-pub fn scenario_files<E: Write>(
+pub(crate) fn scenario_files<E: Write>(
     rt: &HostRuntime,
     paths: &[String],
     err: &mut E,

@@ -33,7 +33,7 @@ T2,08:30:00,08:30:00,C,2
 ";
 
 /// The files of the small feed.
-pub fn example_feed() -> FeedBytes<'static>
+pub(crate) fn example_feed() -> FeedBytes<'static>
     ensures { AreWithinLimit (files_of result) }
 {
     FeedBytes {

@@ -10,10 +10,10 @@ ghost use Rattle.studies.specs.Study.{IsStudyText};
 
 use crate::disk::{OwnFiles, feed_files, inputs_from, own_files, scenario_files};
 use crate::example::example_feed;
-use crate::lines::{bad_line, fault_line, status};
-use crate::task::{Task, WordFault};
-use crate::telling::{tell, tell_made, tell_short};
-use crate::words::{task_of, word_status};
+use command_line::{
+    Task, WordFault, bad_line, fault_line, status, task_of, tell, tell_made, tell_short,
+    word_status,
+};
 use jiff::civil::Date;
 use matrix_text::put_all;
 use std::env;
@@ -32,7 +32,7 @@ const NOT_WRITTEN: u8 = 5;
 const EXAMPLE_ORIGINS: &[u8] = b"stop_id\nA\n";
 
 /// What the program does, with the words after its name or without any.
-pub fn run<O: Write, E: Write>(rt: &HostRuntime, out: &mut O, err: &mut E) -> ExitCode {
+pub(crate) fn run<O: Write, E: Write>(rt: &HostRuntime, out: &mut O, err: &mut E) -> ExitCode {
     let words = match env::args(rt) {
         Ok(words) => words,
         Err(error) if error.kind() == ErrorKind::OutOfMemory => return tell_short(err),

@@ -1,8 +1,8 @@
 //! Studies that are refused: the line that tells each fault.
 
 use crate::example::example_feed;
-use crate::lines::fault_line;
 use crate::row_feeds::{CUT_OFF, NO_HEADWAY};
+use command_line::fault_line;
 use gtfs_tables::{FeedBytes, read_date};
 use std::alloc::{AllocError, Global};
 use std::test::Fail;

@@ -1,30 +1,7 @@
-use Rattle.std.proofs.Common.{◌∙◌, inr, refl}
 use Rattle.csv.specs.Records.{fields_of}
-use Rattle.table_records.proofs.ReadingFacts.{ended, few_records, lacks_here, opened}
+use Rattle.table_records.proofs.ReadingFacts.{few_records}
 use Rattle.table_records.proofs.reading.open_table.Goals as goal
 
-pub returns-then-not-branch-clause-fault : goal.returns-then-not-branch-clause-fault
-returns-then-not-branch-clause-fault c =
-    let none = ended c.new-rows.result c.next.new.self c.in_ok-next.field-0 (fields_of c.next.new.row) c.if-not-branch.true c.in_ok-next.ensures in
-    inr (rw (← c.new-rows.ensures, none) refl, c.at.ensures)
-
-pub returns-then-lacks_one-clause-fault : goal.returns-then-lacks_one-clause-fault
-returns-then-lacks_one-clause-fault c =
-    let whole = opened c.new-rows.result c.next.new.self c.in_ok-next.field-0 (fields_of c.next.new.row) c.if-not-branch.false c.in_ok-next.ensures in
-    let lacks = lacks_here c.args.required.now c.new-rows.result c.next.new.self (fields_of c.next.new.row) c.lacks_one.result whole c.lacks_one.ensures in
-    inr (rw (← c.new-rows.ensures) (lacks ∙ c.if-lacks_one.true), c.at-then-lacks_one.ensures)
-
-pub returns-clause-columns : goal.returns-clause-columns
-returns-clause-columns c =
-    let whole = opened c.new-rows.result c.next.new.self c.in_ok-next.field-0 (fields_of c.next.new.row) c.if-not-branch.false c.in_ok-next.ensures in
-    let lacks = lacks_here c.args.required.now c.new-rows.result c.next.new.self (fields_of c.next.new.row) c.lacks_one.result whole c.lacks_one.ensures in
-    rw (← c.new-rows.ensures) (lacks ∙ c.if-lacks_one.false)
-
-pub returns-clause-records : goal.returns-clause-records
-returns-clause-records c =
-    rw (← c.new-rows.ensures) (opened c.new-rows.result c.next.new.self c.in_ok-next.field-0 (fields_of c.next.new.row) c.if-not-branch.false c.in_ok-next.ensures)
-
-pub returns-clause-few : goal.returns-clause-few
-returns-clause-few c =
-    few_records c.args.bytes.now (fields_of c.next.new.row) c.next.new.self
-    (rw (← c.new-rows.ensures) (opened c.new-rows.result c.next.new.self c.in_ok-next.field-0 (fields_of c.next.new.row) c.if-not-branch.false c.in_ok-next.ensures)) c.requires
+pub returns-in-Ok-clause-few : goal.returns-in-Ok-clause-few
+returns-in-Ok-clause-few c =
+    few_records c.args.bytes.now (fields_of c.read_header.new.header) c.read_header.new.rows (rw (← c.new-rows.ensures) c.in-Ok.ensures.records) c.requires

@@ -1,0 +1,58 @@
+-- What `clap` says of the command of a study.
+use Rattle.std.proofs.Common.{◌≡◌, ◌∙◌, List, [], true, false, Some, refl, sym, ap, ap₂, subst, codes}
+use Rattle.std.specs.Prelude.{slice_get}
+use Rattle.std.proofs.lemmas.Bool.{false_from_ne_true}
+use Rattle.clap.proofs.OnLiterals.{clap_on_literals}
+use Rattle.clap.specs.Words.{App, Row, Rule, Text, AddsArg, app_of, rule_of, with_rule, is_simple, is_simple_and_free, matches_of, takes, fault_of, HasKind}
+use Rattle.clap.specs.declared.builder.arg.Arg.{Arg}
+use Rattle.clap.specs.declared.builder.command.Command.{Command}
+use Rattle.clap.specs.declared.error.Error.{Error}
+use Rattle.table_records.specs.Faults.{IsFirst}
+use Rattle.studies.specs.declared.settings.Settings.{Settings}
+use Rattle.command_line.specs.declared.task.Opt.{Opt}
+use Rattle.command_line.specs.declared.task.Task.{Task}
+use Rattle.command_line.proofs.Required.{is_fit}
+use Rattle.command_line.specs.Words.{study_app, needed, IsAsked, NamesFiles, bad_options}
+
+pub study_simple : is_simple study_app ≡ true
+unfolding clap_on_literals
+study_simple = refl
+
+pub study_free : is_simple_and_free study_app ≡ true
+unfolding clap_on_literals
+study_free = refl
+
+pub feed_there : slice_get study_app.top.rules 0 ≡ Some (needed (codes "feed"))
+feed_there = refl
+
+pub feed_fit : is_fit study_app (codes "feed") 0 ≡ true
+feed_fit = refl
+
+-- a command with one more argument
+pub added : (old next : Command) (arg : Arg) (rule : Rule) (app : App) → AddsArg old arg next → arg.global ≡ false → rule_of arg ≡ rule → app_of old ≡ app
+    → app_of next ≡ with_rule app rule
+added old next arg rule app adds local is was = adds.shape local ∙ ap₂ with_rule was is
+
+-- the facts of a command are those of the study's
+pub same_rows : (a b : App) (words : List Text) (rows : List Row) → a ≡ b → rows ≡ matches_of a words → rows ≡ matches_of b words
+same_rows a b words rows is e = e ∙ ap (λ (x : App). matches_of x words) is
+
+pub same_faults : (a b : App) (words : List Text) → a ≡ b → fault_of a words ≡ [] → fault_of b words ≡ []
+same_faults a b words is e = ap (λ (x : App). fault_of x words) (sym is) ∙ e
+
+pub same_kind : (a b : App) (words : List Text) (e : Error) → a ≡ b → HasKind (fault_of a words) e → HasKind (fault_of b words) e
+same_kind a b words e is h = subst (λ (x : App). HasKind (fault_of x words) e) is h
+
+-- what isn't taken
+pub not_taken : (a b : App) (words : List Text) → a ≡ b → (takes a words ≡ true → ⊥) → takes b words ≡ false
+not_taken a b words is refused = false_from_ne_true _ (λ e. refused (ap (λ (x : App). takes x words) is ∙ e))
+
+-- what the texts of a command say, the texts of the study's say
+pub same_settings : (a b : List Row) (s : Settings) → a ≡ b → IsAsked a s → IsAsked b s
+same_settings a b s is h = subst (λ rows. IsAsked rows s) is h
+
+pub same_paths : (a b : List Row) (t : Task) → a ≡ b → NamesFiles a t → NamesFiles b t
+same_paths a b t is h = subst (λ rows. NamesFiles rows t) is h
+
+pub same_bad : (a b : List Row) (o : Opt) → a ≡ b → IsFirst o (bad_options a) → IsFirst o (bad_options b)
+same_bad a b o is h = subst (λ rows. IsFirst o (bad_options rows)) is h

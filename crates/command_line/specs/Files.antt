@@ -1,0 +1,10 @@
+-- What a fault of reading says of what there was to read.
+use Rattle.std.specs.Prelude.{◌<◌, ◌^◌, ℕ, List, Option, length, IfSome, ⊤}
+use Rattle.command_line.specs.declared.files.ReadFault.{ReadFault}
+use Rattle.command_line.specs.declared.files.ReadFault.TheVariants as fault
+
+-- what is too long has more bytes than the limit; nothing is said of a read that failed or of want of memory
+abbrev pub Tells : ReadFault → Option (List ℕ) → Type 0
+Tells fault.TooLong known = IfSome known (λ all. 2 ^ 30 < length all)
+Tells fault.Read known = ⊤
+Tells fault.Memory known = ⊤

@@ -1,0 +1,56 @@
+//! What the help says of each option: the name of its value, its unit and its limits.
+
+use crate::task::WordFault;
+use crate::words::task_of;
+use std::alloc::{AllocError, Global};
+use std::test::Fail;
+
+/// The whole help.
+const HELP: &str = "Travel time matrices over a GTFS feed, for a base network and for scenarios.
+
+Usage: ttm [OPTIONS] --feed <DIR> --date <YYYYMMDD> --from <HH:MM> --to <HH:MM> --trips <K> --walk <S> --share <P> --within <S> --workers <N> --tries <N> [SCENARIO]...
+
+Arguments:
+  [SCENARIO]...  Scenario files, at most 15; each is named by its file name without .csv
+
+Options:
+      --feed <DIR>         Folder of the feed's files, as stops.txt
+      --date <YYYYMMDD>    Date of the departures
+      --from <HH:MM>       First minute of departure, 00:00 to 23:59
+      --to <HH:MM>         Last minute of departure, 00:00 to 23:59, not before --from
+      --trips <K>          Most rides of a journey, 1 to 8
+      --walk <S>           Longest walk in seconds, 0 to 7200
+      --share <P>          Share of the minutes in percent that a travel time covers, 1 to 100
+      --within <S>         Travel time in seconds within which a stop counts for access, 0 to 4294967295
+      --workers <N>        Number of threads, 1 to 64
+      --tries <N>          How often each row may be begun, 1 to 8
+      --back <N>           Service days before the date that count, 0 to 6 [default: 1]
+      --ahead <N>          Service days after the date that count, 0 to 6 [default: 1]
+      --origins <F>        File of the stops where journeys begin [default: all stops]
+      --opportunities <F>  File of the opportunities at stops [default: 1 at each]
+      --footpaths <F>      File of further footpaths, in seconds [default: none]
+  -h, --help               Print help
+
+Example: ttm --feed town --date 20260504 --from 08:00 --to 08:59 --trips 3 --walk 600 --share 50 --within 1800 --workers 4 --tries 2 cut.csv
+";
+
+/// The text that words give in place of a study, if `clap` has one for them.
+fn told(alloc: Global, words: &[&str]) -> Result<Option<String>, AllocError> {
+    let mut list = Vec::new(alloc);
+    for word in words {
+        list.push(String::from_str(alloc, word)?)?;
+    }
+    match task_of(alloc, &list) {
+        Err(WordFault::Words(error)) => Ok(Some(format!(in alloc; "{error}")?)),
+        _ => Ok(None),
+    }
+}
+
+#[test]
+fn names_each_option_with_its_limits(rt: HostRuntime) -> Result<(), Fail> {
+    match told(rt.alloc(), &["ttm", "--help"])? {
+        Some(text) => assert_eq!(rt; text.as_str(), HELP),
+        None => panic!(rt; "no help"),
+    }
+    Ok(())
+}

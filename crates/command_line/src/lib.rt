@@ -1,0 +1,31 @@
+//! The command line of a study: what its words ask for, the bytes of a file that they name, and the lines that tell a fault.
+//!
+//! - `words` and `window`: [`task_of`] reads the words into a [`Task`], or tells why they ask for no study ([`WordFault`]).
+//! - `paths`: the path of a file of the feed, and the name of a scenario. `files`: [`read_all`], a file read whole.
+//! - `lines`: the line and the exit status of each fault. `telling` puts a line out.
+//!
+//! `specs/Words` says what the words ask for, `specs/Lines` which line tells a fault.
+#![tactic(auto)]
+
+#[cfg(test)]
+mod file_tests;
+mod files;
+#[cfg(test)]
+mod help_tests;
+#[cfg(test)]
+mod line_tests;
+mod lines;
+mod paths;
+mod task;
+mod telling;
+mod window;
+#[cfg(test)]
+mod word_tests;
+mod words;
+
+pub use files::{ReadFault, read_all};
+pub use lines::{bad_line, fault_line, path_line, path_status, status};
+pub use paths::{path_in, scenario_of};
+pub use task::{Opt, Task, WordFault};
+pub use telling::{tell, tell_made, tell_short};
+pub use words::{task_of, word_status};

@@ -1,0 +1,148 @@
+//! What the words of the command line ask for.
+
+use crate::task::{Opt, WordFault};
+use crate::words::{task_of, word_status};
+use jiff::civil::Date;
+use std::alloc::{AllocError, Global};
+use studies::Settings;
+
+/// The words of a study of one minute.
+const STUDY: [&str; 21] = [
+    "ttm",
+    "--feed",
+    "town",
+    "--date",
+    "20260504",
+    "--from",
+    "08:00",
+    "--to",
+    "08:00",
+    "--trips",
+    "2",
+    "--walk",
+    "0",
+    "--share",
+    "50",
+    "--within",
+    "1800",
+    "--workers",
+    "1",
+    "--tries",
+    "1",
+];
+
+/// Why there is no study: the option that is bad, and the exit status.
+#[derive(Clone, Copy, Debug, PartialEq, Eq)]
+struct Refusal {
+    bad: Option<Opt>,
+    status: u8,
+}
+
+/// The words of the study with one word in another's place, and one more.
+fn changed(alloc: Global, place: usize, word: &str, more: &str) -> Result<Vec<String>, AllocError> {
+    let mut words = Vec::new(alloc);
+    for (k, kept) in STUDY.iter().enumerate() {
+        let chosen = if k == place { word } else { *kept };
+        words.push(String::from_str(alloc, chosen)?)?;
+    }
+    words.push(String::from_str(alloc, more)?)?;
+    Ok(words)
+}
+
+/// What words ask for, or why they ask for no study.
+fn asked(alloc: Global, words: Result<Vec<String>, AllocError>) -> Result<Settings, Refusal> {
+    let none = Refusal {
+        bad: None,
+        status: 3,
+    };
+    let Ok(words) = words else {
+        return Err(none);
+    };
+    match task_of(alloc, &words) {
+        Ok(task) => Ok(task.settings),
+        Err(fault) => {
+            let status = word_status(&fault);
+            match fault {
+                WordFault::Bad(option) => Err(Refusal {
+                    bad: Some(option),
+                    status,
+                }),
+                _ => Err(Refusal { bad: None, status }),
+            }
+        }
+    }
+}
+
+/// Why the changed words ask for no study.
+fn why_not(alloc: Global, place: usize, word: &str, more: &str) -> Option<Refusal> {
+    asked(alloc, changed(alloc, place, word, more)).err()
+}
+
+/// The settings but the date: the days back and ahead, the window, what is asked of journeys, and of the run.
+fn numbers(settings: &Settings) -> [u32; 10] {
+    [
+        settings.back,
+        settings.ahead,
+        settings.first,
+        settings.minutes,
+        settings.rides,
+        settings.walk,
+        settings.share,
+        settings.within,
+        settings.workers,
+        settings.tries,
+    ]
+}
+
+#[test]
+fn asks_for_a_study_of_one_minute(rt: HostRuntime) {
+    match asked(rt.alloc(), changed(rt.alloc(), 0, "ttm", "cut.csv")) {
+        Ok(settings) => {
+            assert!(rt; settings.date == Date::constant(2026, 5, 4));
+            assert_eq!(rt; numbers(&settings), [1, 1, 480, 1, 2, 0, 50, 1800, 1, 1]);
+        }
+        Err(_) => panic!(rt; "refused"),
+    }
+}
+
+#[test]
+fn wrong_words_are_no_study(rt: HostRuntime) {
+    let wrong = Refusal {
+        bad: None,
+        status: 2,
+    };
+    let help = Refusal {
+        bad: None,
+        status: 0,
+    };
+    assert!(rt; why_not(rt.alloc(), 0, "ttm", "--nope") == Some(wrong));
+    assert!(rt; why_not(rt.alloc(), 3, "cut.csv", "late.csv") == Some(wrong));
+    assert!(rt; why_not(rt.alloc(), 0, "ttm", "--help") == Some(help));
+}
+
+/// Whether the changed words are refused for this option.
+fn is_bad(alloc: Global, place: usize, word: &str, option: Opt) -> bool {
+    let want = Refusal {
+        bad: Some(option),
+        status: 2,
+    };
+    why_not(alloc, place, word, "cut.csv") == Some(want)
+}
+
+#[test]
+fn tells_the_option_whose_text_is_bad(rt: HostRuntime) {
+    let cases: [(usize, &str, Opt); 9] = [
+        (4, "20260431", Opt::Date),
+        (6, "08:01", Opt::Window),
+        (10, "9", Opt::Trips),
+        (12, "7201", Opt::Walk),
+        (14, "0", Opt::Share),
+        (16, "4294967296", Opt::Within),
+        (18, "65", Opt::Workers),
+        (20, "two", Opt::Tries),
+        (0, "ttm", Opt::Back),
+    ];
+    for (place, word, option) in &cases {
+        assert_eq!(rt; is_bad(rt.alloc(), *place, word, *option), *place > 0);
+    }
+}

@@ -1,0 +1,399 @@
+//! The words of the command line, and the study that they ask for.
+//!
+//! How words are split into options is `clap`'s rule, of one simple command: each option has one text, and the words
+//! that belong to no option are scenario files. What the texts say is read here.
+
+ghost use Rattle.std.specs.Prelude.{◌≡◌, ◌≤◌, ◌+◌, ℕ, [], ◌∷◌, map, Some, None, is_some, IfOk, IfErr, IfSome, option_map, string_bytes, codes, true, false};
+ghost use Rattle.clap.specs.Words.{app_of, rule_of, found_of, rows_of, fault_of};
+ghost use Rattle.jiff.specs.Words.{epoch_day};
+ghost use Rattle.table_records.specs.Faults.{IsFirst};
+ghost use Rattle.studies.specs.Settings.{SettingsFit};
+ghost use Rattle.command_line.specs.Words as spec;
+
+use crate::task::{Opt, Task, WordFault};
+use crate::window::window_of;
+use clap::error::ErrorKind;
+use clap::{Arg, ArgAction, ArgMatches, Command};
+use jiff::civil::Date;
+use std::alloc::{AllocError, Global};
+use studies::Settings;
+use table_records::{number, read_date, trim};
+
+const ABOUT: &str = "Travel time matrices over a GTFS feed, for a base network and for scenarios.";
+
+const EXAMPLE: &str =
+    "Example: ttm --feed town --date 20260504 --from 08:00 --to 08:59 --trips 3 --walk 600 --share 50 \
+    --within 1800 --workers 4 --tries 2 cut.csv";
+
+/// The study that the words ask for; the first word is the program's name.
+///
+/// The words are taken as one command of `clap`, whose help names each option with its unit and limits. Beside the
+/// options' own limits, `--to` isn't before `--from`. Spaces around a number or a date don't count.
+pub fn task_of(alloc: Global, words: &[String]) -> Result<Task, WordFault>
+    ensures taken { IfOk result (λ _. fault_of spec.study_app (map string_bytes words.now) ≡ []) }
+    ensures asked { IfOk result (λ task. spec.IsAsked (spec.rows_of_words (map string_bytes words.now)) task.settings) }
+    ensures fits { IfOk result (λ task. SettingsFit task.settings) }
+    ensures paths { IfOk result (λ task. spec.NamesFiles (spec.rows_of_words (map string_bytes words.now)) task) }
+    ensures fault { IfErr result (λ fault. spec.Tells fault (map string_bytes words.now)) }
+{
+    let matches = matched(alloc, words)?;
+    let settings = match settings_at(&matches) {
+        Ok(settings) => settings,
+        Err(opt) => return Err(WordFault::Bad(opt)),
+    };
+    match with_paths(alloc, &matches, settings) {
+        Ok(task) => Ok(task),
+        Err(_) => Err(WordFault::Memory),
+    }
+}
+
+/// The exit status where the words ask for no study; help is no fault.
+pub fn word_status(fault: &WordFault) -> u8
+    ensures { result ≡ spec.word_status_of fault.now }
+{
+    match fault {
+        WordFault::Words(error) => match error.kind() {
+            ErrorKind::DisplayHelp => 0,
+            _ => 2,
+        },
+        WordFault::Bad(_) => 2,
+        WordFault::Memory => 3,
+    }
+}
+
+/// An option with one text as value, which may be left out.
+fn optional<'a>(alloc: Global, name: &'a str, value: &'a str, help: &'a str) -> Arg<'a>
+    ensures rule { rule_of result ≡ spec.optional name.entry.now }
+    ensures local { result.global ≡ false }
+{
+    Arg::new(alloc, name)
+        .long(name)
+        .action(ArgAction::Set)
+        .value_name(value)
+        .help(help)
+}
+
+/// An option with one text as value, which must be given.
+fn needed<'a>(alloc: Global, name: &'a str, value: &'a str, help: &'a str) -> Arg<'a>
+    ensures rule { rule_of result ≡ spec.needed name.entry.now }
+    ensures local { result.global ≡ false }
+{
+    optional(alloc, name, value, help).required(true)
+}
+
+/// The scenario files: the words that belong to no option.
+fn scenario_files<'a>(alloc: Global) -> Arg<'a>
+    ensures rule { rule_of result ≡ spec.scenario_rule }
+    ensures local { result.global ≡ false }
+{
+    Arg::new(alloc, "scenario")
+        .action(ArgAction::Append)
+        .num_args(0..)
+        .value_name("SCENARIO")
+        .help("Scenario files, at most 15; each is named by its file name without .csv")
+}
+
+/// The command with the options of the feed and the departures.
+fn with_place<'a>(alloc: Global, command: Command<'a>) -> Result<Command<'a>, AllocError>
+    ensures { IfOk result (λ c. app_of c ≡ spec.with_rules (app_of command.entry) spec.place_rules) }
+{
+    command
+        .arg(needed(
+            alloc,
+            "feed",
+            "DIR",
+            "Folder of the feed's files, as stops.txt",
+        ))?
+        .arg(needed(alloc, "date", "YYYYMMDD", "Date of the departures"))?
+        .arg(needed(
+            alloc,
+            "from",
+            "HH:MM",
+            "First minute of departure, 00:00 to 23:59",
+        ))?
+        .arg(needed(
+            alloc,
+            "to",
+            "HH:MM",
+            "Last minute of departure, 00:00 to 23:59, not before --from",
+        ))
+}
+
+/// The command with the options of the journeys and of what is told of them.
+fn with_journeys<'a>(alloc: Global, command: Command<'a>) -> Result<Command<'a>, AllocError>
+    ensures { IfOk result (λ c. app_of c ≡ spec.with_rules (app_of command.entry) spec.journey_rules) }
+{
+    command
+        .arg(needed(alloc, "trips", "K", "Most rides of a journey, 1 to 8"))?
+        .arg(needed(alloc, "walk", "S", "Longest walk in seconds, 0 to 7200"))?
+        .arg(needed(
+            alloc,
+            "share",
+            "P",
+            "Share of the minutes in percent that a travel time covers, 1 to 100",
+        ))?
+        .arg(needed(
+            alloc,
+            "within",
+            "S",
+            "Travel time in seconds within which a stop counts for access, 0 to 4294967295",
+        ))
+}
+
+/// The command with the options of the run and of the service days beside that of the date.
+fn with_run<'a>(alloc: Global, command: Command<'a>) -> Result<Command<'a>, AllocError>
+    ensures { IfOk result (λ c. app_of c ≡ spec.with_rules (app_of command.entry) spec.run_rules) }
+{
+    command
+        .arg(needed(alloc, "workers", "N", "Number of threads, 1 to 64"))?
+        .arg(needed(
+            alloc,
+            "tries",
+            "N",
+            "How often each row may be begun, 1 to 8",
+        ))?
+        .arg(optional(
+            alloc,
+            "back",
+            "N",
+            "Service days before the date that count, 0 to 6 [default: 1]",
+        ))?
+        .arg(optional(
+            alloc,
+            "ahead",
+            "N",
+            "Service days after the date that count, 0 to 6 [default: 1]",
+        ))
+}
+
+/// The command with the analyst's own files.
+fn with_files<'a>(alloc: Global, command: Command<'a>) -> Result<Command<'a>, AllocError>
+    ensures { IfOk result (λ c. app_of c ≡ spec.with_rules (app_of command.entry) spec.file_rules) }
+{
+    command
+        .arg(optional(
+            alloc,
+            "origins",
+            "F",
+            "File of the stops where journeys begin [default: all stops]",
+        ))?
+        .arg(optional(
+            alloc,
+            "opportunities",
+            "F",
+            "File of the opportunities at stops [default: 1 at each]",
+        ))?
+        .arg(optional(
+            alloc,
+            "footpaths",
+            "F",
+            "File of further footpaths, in seconds [default: none]",
+        ))
+}
+
+/// The command with the scenario files.
+fn with_scenarios<'a>(alloc: Global, command: Command<'a>) -> Result<Command<'a>, AllocError>
+    ensures { IfOk result (λ c. app_of c ≡ spec.with_rules (app_of command.entry) (spec.scenario_rule ∷ [])) }
+{
+    command.arg(scenario_files(alloc))
+}
+
+/// The command.
+fn command<'a>(alloc: Global) -> Result<Command<'a>, AllocError>
+    ensures { IfOk result (λ c. app_of c ≡ spec.study_app) }
+{
+    let command = Command::new(alloc, "ttm").about(ABOUT).after_help(EXAMPLE);
+    let command = with_place(alloc, command)?;
+    let command = with_journeys(alloc, command)?;
+    let command = with_run(alloc, command)?;
+    let command = with_files(alloc, command)?;
+    with_scenarios(alloc, command)
+}
+
+/// What the words give each option.
+fn matched<'a>(alloc: Global, words: &'a [String]) -> Result<ArgMatches<'a>, WordFault>
+    ensures rows { IfOk result (λ m. rows_of (found_of m) ≡ spec.rows_of_words (map string_bytes words.now)) }
+    ensures feed { IfOk result (λ m. is_some (spec.text_at (rows_of (found_of m)) (codes "feed")) ≡ true) }
+    ensures taken { IfOk result (λ _. fault_of spec.study_app (map string_bytes words.now) ≡ []) }
+    ensures fault { IfErr result (λ fault. spec.Tells fault (map string_bytes words.now)) }
+{
+    let command = match command(alloc) {
+        Ok(command) => command,
+        Err(_) => return Err(WordFault::Memory),
+    };
+    match command.try_get_matches_from(words) {
+        Ok(matches) => Ok(matches),
+        Err(error) => match error.kind() {
+            ErrorKind::OutOfMemory => Err(WordFault::Memory),
+            _ => Err(WordFault::Words(error)),
+        },
+    }
+}
+
+/// The text of an option.
+fn text_at<'a>(matches: &ArgMatches<'a>, id: &str) -> Option<&'a str>
+    ensures { option_map (λ text. text.now) result ≡ spec.text_at (rows_of (found_of matches.now)) id.now }
+{
+    matches.get_str(id)
+}
+
+/// The date of the departures.
+fn date_at(matches: &ArgMatches<'_>) -> Result<Date, Opt>
+    ensures ok { IfOk result (λ date. spec.date_of (rows_of (found_of matches.now)) ≡ Some (epoch_day date)) }
+    ensures bad { IfErr result (λ o. (o ≡ Opt.Date) × (spec.date_of (rows_of (found_of matches.now)) ≡ None)) }
+{
+    let Some(text) = text_at(matches, "date") else {
+        return Err(Opt::Date);
+    };
+    match read_date(text.as_bytes()) {
+        Some(date) => Ok(date),
+        None => Err(Opt::Date),
+    }
+}
+
+/// The first minute of the day with a departure, and the number of minutes.
+fn window_at(matches: &ArgMatches<'_>) -> Result<(u32, u32), Opt>
+    ensures ok { IfOk result (λ window. spec.window_of (rows_of (found_of matches.now)) ≡ Some window) }
+    ensures fits { IfOk result (λ window. (1 ≤ window.1) × (window.0 + window.1 ≤ 1440)) }
+    ensures bad { IfErr result (λ o. (o ≡ Opt.Window) × (spec.window_of (rows_of (found_of matches.now)) ≡ None)) }
+{
+    let Some(from) = text_at(matches, "from") else {
+        return Err(Opt::Window);
+    };
+    let Some(to) = text_at(matches, "to") else {
+        return Err(Opt::Window);
+    };
+    match window_of(from.as_bytes(), to.as_bytes()) {
+        Some(window) => Ok(window),
+        None => Err(Opt::Window),
+    }
+}
+
+/// The number of a text, if it is within its limits.
+fn within(low: u32, high: u32, text: &str) -> Option<u32>
+    ensures value { result ≡ spec.number_in low high (Some text.now) }
+    ensures limits { IfSome result (λ n. (low ≤ n) × (n ≤ high)) }
+{
+    let number = number(trim(text.as_bytes()))?;
+    if low <= number && number <= high {
+        Some(number)
+    } else {
+        None
+    }
+}
+
+/// The number of an option, from `low` to `high`.
+fn number_at(matches: &ArgMatches<'_>, opt: Opt, id: &str, low: u32, high: u32) -> Result<u32, Opt>
+    ensures ok { IfOk result (λ n. spec.number_in low high (spec.text_at (rows_of (found_of matches.now)) id.now) ≡ Some n) }
+    ensures limits { IfOk result (λ n. (low ≤ n) × (n ≤ high)) }
+    ensures bad { IfErr result (λ o. (o ≡ opt) × (spec.number_in low high (spec.text_at (rows_of (found_of matches.now)) id.now) ≡ None)) }
+{
+    let Some(text) = text_at(matches, id) else {
+        return Err(opt);
+    };
+    match within(low, high, text) {
+        Some(number) => Ok(number),
+        None => Err(opt),
+    }
+}
+
+/// The number of service days of an option, at most 6; it is one where the option isn't given.
+fn days_at(matches: &ArgMatches<'_>, opt: Opt, id: &str) -> Result<u32, Opt>
+    ensures ok { IfOk result (λ n. spec.number_in 0 6 (spec.or_one (spec.text_at (rows_of (found_of matches.now)) id.now)) ≡ Some n) }
+    ensures limits { IfOk result (λ n. n ≤ 6) }
+    ensures bad { IfErr result (λ o. (o ≡ opt) × (spec.number_in 0 6 (spec.or_one (spec.text_at (rows_of (found_of matches.now)) id.now)) ≡ None)) }
+{
+    let text = match text_at(matches, id) {
+        Some(text) => text,
+        None => "1",
+    };
+    match within(0, 6, text) {
+        Some(number) => Ok(number),
+        None => Err(opt),
+    }
+}
+
+/// The settings that the texts ask for, or the first option whose text is bad.
+fn settings_at(matches: &ArgMatches<'_>) -> Result<Settings, Opt>
+    ensures asked { IfOk result (λ settings. spec.IsAsked (rows_of (found_of matches.now)) settings) }
+    ensures fits { IfOk result (λ settings. SettingsFit settings) }
+    ensures bad { IfErr result (λ o. IsFirst o (spec.bad_options (rows_of (found_of matches.now)))) }
+{
+    let date = date_at(matches)?;
+    let (first, minutes) = window_at(matches)?;
+    let rides = number_at(matches, Opt::Trips, "trips", 1, 8)?;
+    let walk = number_at(matches, Opt::Walk, "walk", 0, 7200)?;
+    let share = number_at(matches, Opt::Share, "share", 1, 100)?;
+    let within = number_at(matches, Opt::Within, "within", 0, u32::MAX)?;
+    let workers = number_at(matches, Opt::Workers, "workers", 1, 64)?;
+    let tries = number_at(matches, Opt::Tries, "tries", 1, 8)?;
+    let back = days_at(matches, Opt::Back, "back")?;
+    let ahead = days_at(matches, Opt::Ahead, "ahead")?;
+    Ok(Settings {
+        date,
+        back,
+        ahead,
+        first,
+        minutes,
+        rides,
+        walk,
+        share,
+        within,
+        workers,
+        tries,
+    })
+}
+
+/// A copy of the text of an option, if it is given.
+fn path_at(alloc: Global, matches: &ArgMatches<'_>, id: &str) -> Result<Option<String>, AllocError>
+    ensures { IfOk result (λ path. spec.text_at (rows_of (found_of matches.now)) id.now ≡ option_map string_bytes path) }
+{
+    match text_at(matches, id) {
+        Some(text) => Ok(Some(String::from_str(alloc, text)?)),
+        None => Ok(None),
+    }
+}
+
+/// Copies of texts.
+fn copies(alloc: Global, texts: &[&str]) -> Result<Vec<String>, AllocError>
+    ensures { IfOk result (λ copies. map string_bytes copies.items ≡ map (λ text. text.now) texts.now) }
+{
+    let mut copies = Vec::new(alloc);
+    for text in texts {
+        copies.push(String::from_str(alloc, text)?)?;
+    }
+    Ok(copies)
+}
+
+/// The paths of the scenario files.
+fn scenarios_at(alloc: Global, matches: &ArgMatches<'_>) -> Result<Vec<String>, AllocError>
+    ensures { IfOk result (λ paths. spec.scenarios_at (rows_of (found_of matches.now)) ≡ map string_bytes paths.items) }
+{
+    match matches.get_strs("scenario") {
+        Some(texts) => copies(alloc, texts),
+        None => Ok(Vec::new(alloc)),
+    }
+}
+
+/// The task of some settings, with copies of the paths.
+fn with_paths(
+    alloc: Global,
+    matches: &ArgMatches<'_>,
+    settings: Settings,
+) -> Result<Task, AllocError>
+    requires { is_some (spec.text_at (rows_of (found_of matches.now)) (codes "feed")) ≡ true }
+    ensures settings { IfOk result (λ task. task.settings ≡ settings) }
+    ensures paths { IfOk result (λ task. spec.NamesFiles (rows_of (found_of matches.now)) task) }
+{
+    let Some(feed) = text_at(matches, "feed") else {
+        unreachable!();
+    };
+    Ok(Task {
+        feed: String::from_str(alloc, feed)?,
+        settings,
+        footpaths: path_at(alloc, matches, "footpaths")?,
+        origins: path_at(alloc, matches, "origins")?,
+        opportunities: path_at(alloc, matches, "opportunities")?,
+        scenarios: scenarios_at(alloc, matches)?,
+    })
+}

@@ -1,5 +1,0 @@
-use Rattle.ttm.proofs.Slashes.{found_whole}
-use Rattle.ttm.proofs.paths.after_slash.Goals as goal
-
-pub loop-rest-init : goal.loop-rest-init
-loop-rest-init c = found_whole c.args.path.now
