@@ -12,8 +12,6 @@ mod laws;
 mod places;
 mod row;
 mod run;
-#[cfg(test)]
-mod tests;
 
 pub use laws::runs_are_right;
 pub use places::{Collector, Matrix, Offer, Unfinished};

@@ -31,14 +31,3 @@ pub use read::read_feed;
 pub use table_files::{CalendarRow, Departures, Ends, ExceptionRow, Link, Place};
 pub use table_records::{FeedFault, FileName, What, read_date, read_time};
 pub use trip::{DepartureList, FeedTrip, TripId};
-
-#[cfg(test)]
-mod fault_tests;
-#[cfg(test)]
-mod origin_tests;
-#[cfg(test)]
-mod place_tests;
-#[cfg(test)]
-mod test_feeds;
-#[cfg(test)]
-mod tests;

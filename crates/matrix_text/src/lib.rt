@@ -13,8 +13,6 @@ mod faults;
 mod labels;
 mod lines;
 mod output;
-#[cfg(test)]
-mod tests;
 mod text;
 
 pub use faults::TextFault;

@@ -16,8 +16,6 @@ mod laws;
 mod minutes;
 mod steps;
 mod table;
-#[cfg(test)]
-mod tests;
 mod window;
 
 pub use laws::durations_are_unique;

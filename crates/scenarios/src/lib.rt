@@ -12,8 +12,6 @@
 mod edit_rows;
 mod edits;
 mod faults;
-#[cfg(test)]
-mod file_tests;
 mod files;
 mod moving;
 mod name;
@@ -21,8 +19,6 @@ mod networks;
 mod places;
 mod scenario;
 mod shifted_times;
-#[cfg(test)]
-mod tests;
 mod trip_list;
 
 pub use edits::{END_OF_TIMES, MOST_EDITS, MOST_SHIFT, limits_are_as_stated};

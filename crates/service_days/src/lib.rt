@@ -14,8 +14,6 @@ mod instances;
 mod run;
 mod run_list;
 mod services;
-#[cfg(test)]
-mod tests;
 
 pub use fault::DayFault;
 pub use instances::active;

@@ -12,8 +12,6 @@
 mod laws;
 mod opportunities;
 mod percentiles;
-#[cfg(test)]
-mod tests;
 
 pub use laws::cells_are_unique;
 pub use opportunities::access;

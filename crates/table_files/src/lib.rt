@@ -27,11 +27,7 @@ mod place;
 mod places;
 mod routes;
 mod services;
-#[cfg(test)]
-mod size_tests;
 mod stamps;
-#[cfg(test)]
-mod stop_time_tests;
 mod stop_times;
 mod transfers;
 mod whole_trips;

@@ -21,8 +21,6 @@ mod fields;
 mod identifiers;
 mod reading;
 mod rows;
-#[cfg(test)]
-mod tests;
 
 pub use columns::{column, field};
 pub use fault::{FeedFault, FileName, What};

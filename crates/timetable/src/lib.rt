@@ -17,8 +17,6 @@ mod footpaths;
 mod least;
 mod limits;
 mod networks;
-#[cfg(test)]
-mod tests;
 mod trips;
 
 pub use faults::NetFault;

@@ -4,6 +4,7 @@ use crate::example::example_feed;
 use crate::row_feeds::*;
 use gtfs_tables::{FeedBytes, read_date};
 use std::alloc::Global;
+use std::process::Abort;
 use studies::{Inputs, Settings, run_study};
 use workers::Open;
 
@@ -59,6 +60,10 @@ fn gives(alloc: Global, inputs: &Inputs<'_>, asked: Asked, text: &[u8]) -> bool 
     }
 }
 
+fn expect(rt: &impl Abort, alloc: Global, inputs: &Inputs<'_>, asked: Asked, text: &[u8]) {
+    assert!(rt; gives(alloc, inputs, asked, text));
+}
+
 // The small feed with these files in place of its own.
 fn inputs_of(feed: FeedBytes<'static>) -> Inputs<'static> {
     Inputs {
@@ -73,22 +78,20 @@ fn inputs_of(feed: FeedBytes<'static>) -> Inputs<'static> {
 #[test]
 fn two_rides_reach_c(rt: HostRuntime) {
     let inputs = inputs_of(example_feed());
-    assert!(rt;
-        gives(
-            rt.alloc(),
-            &inputs,
-            EIGHT,
-            b"scenario,origin,access,A,B,C\nbase,A,3,0,600,1800\n"
-        )
+    expect(
+        &rt,
+        rt.alloc(),
+        &inputs,
+        EIGHT,
+        b"scenario,origin,access,A,B,C\nbase,A,3,0,600,1800\n",
     );
     let one_ride = Asked { rides: 1, ..EIGHT };
-    assert!(rt;
-        gives(
-            rt.alloc(),
-            &inputs,
-            one_ride,
-            b"scenario,origin,access,A,B,C\nbase,A,2,0,600,\n"
-        )
+    expect(
+        &rt,
+        rt.alloc(),
+        &inputs,
+        one_ride,
+        b"scenario,origin,access,A,B,C\nbase,A,2,0,600,\n",
     );
 }
 
@@ -98,13 +101,12 @@ fn a_change_takes_no_time(rt: HostRuntime) {
         stop_times: Some(T2_AT_ONCE),
         ..example_feed()
     });
-    assert!(rt;
-        gives(
-            rt.alloc(),
-            &inputs,
-            EIGHT,
-            b"scenario,origin,access,A,B,C\nbase,A,3,0,600,1800\n"
-        )
+    expect(
+        &rt,
+        rt.alloc(),
+        &inputs,
+        EIGHT,
+        b"scenario,origin,access,A,B,C\nbase,A,3,0,600,1800\n",
     );
 }
 
@@ -114,13 +116,12 @@ fn nobody_boards_where_pickup_is_forbidden(rt: HostRuntime) {
         stop_times: Some(NO_PICKUP),
         ..example_feed()
     });
-    assert!(rt;
-        gives(
-            rt.alloc(),
-            &inputs,
-            EIGHT,
-            b"scenario,origin,access,A,B,C\nbase,A,2,0,600,\n"
-        )
+    expect(
+        &rt,
+        rt.alloc(),
+        &inputs,
+        EIGHT,
+        b"scenario,origin,access,A,B,C\nbase,A,2,0,600,\n",
     );
 }
 
@@ -133,25 +134,23 @@ fn a_trip_of_the_day_before_runs_after_midnight(rt: HostRuntime) {
         ..example_feed()
     });
     let midnight = Asked { first: 0, ..EIGHT };
-    assert!(rt;
-        gives(
-            rt.alloc(),
-            &inputs,
-            midnight,
-            b"scenario,origin,access,A,B,C\nbase,A,2,0,1200,30600\n"
-        )
+    expect(
+        &rt,
+        rt.alloc(),
+        &inputs,
+        midnight,
+        b"scenario,origin,access,A,B,C\nbase,A,2,0,1200,30600\n",
     );
     let alone = Asked {
         back: 0,
         ..midnight
     };
-    assert!(rt;
-        gives(
-            rt.alloc(),
-            &inputs,
-            alone,
-            b"scenario,origin,access,A,B,C\nbase,A,1,0,29400,30600\n"
-        )
+    expect(
+        &rt,
+        rt.alloc(),
+        &inputs,
+        alone,
+        b"scenario,origin,access,A,B,C\nbase,A,1,0,29400,30600\n",
     );
 }
 
@@ -161,26 +160,24 @@ fn exceptions_take_out_and_put_in(rt: HostRuntime) {
         calendar_dates: Some(REMOVED),
         ..example_feed()
     });
-    assert!(rt;
-        gives(
-            rt.alloc(),
-            &removed,
-            EIGHT,
-            b"scenario,origin,access,A,B,C\nbase,A,1,0,,\n"
-        )
+    expect(
+        &rt,
+        rt.alloc(),
+        &removed,
+        EIGHT,
+        b"scenario,origin,access,A,B,C\nbase,A,1,0,,\n",
     );
     let added = inputs_of(FeedBytes {
         calendar: None,
         calendar_dates: Some(ADDED),
         ..example_feed()
     });
-    assert!(rt;
-        gives(
-            rt.alloc(),
-            &added,
-            EIGHT,
-            b"scenario,origin,access,A,B,C\nbase,A,3,0,600,1800\n"
-        )
+    expect(
+        &rt,
+        rt.alloc(),
+        &added,
+        EIGHT,
+        b"scenario,origin,access,A,B,C\nbase,A,3,0,600,1800\n",
     );
 }
 
@@ -195,22 +192,20 @@ fn chains_of_walks_end_at_the_limit(rt: HostRuntime) {
         walk: 100,
         ..EIGHT
     };
-    assert!(rt;
-        gives(
-            rt.alloc(),
-            &inputs,
-            short,
-            b"scenario,origin,access,A,B,C\nbase,A,2,0,60,\n"
-        )
+    expect(
+        &rt,
+        rt.alloc(),
+        &inputs,
+        short,
+        b"scenario,origin,access,A,B,C\nbase,A,2,0,60,\n",
     );
     let long = Asked { walk: 120, ..short };
-    assert!(rt;
-        gives(
-            rt.alloc(),
-            &inputs,
-            long,
-            b"scenario,origin,access,A,B,C\nbase,A,3,0,60,120\n"
-        )
+    expect(
+        &rt,
+        rt.alloc(),
+        &inputs,
+        long,
+        b"scenario,origin,access,A,B,C\nbase,A,3,0,60,120\n",
     );
 }
 
@@ -225,13 +220,12 @@ fn two_walks_never_follow_one_another(rt: HostRuntime) {
         walk: 150,
         ..EIGHT
     };
-    assert!(rt;
-        gives(
-            rt.alloc(),
-            &inputs,
-            walk,
-            b"scenario,origin,access,A,B,C\nbase,A,2,0,100,\n"
-        )
+    expect(
+        &rt,
+        rt.alloc(),
+        &inputs,
+        walk,
+        b"scenario,origin,access,A,B,C\nbase,A,2,0,100,\n",
     );
 }
 
@@ -243,13 +237,12 @@ fn a_stop_without_service_has_an_empty_cell(rt: HostRuntime) {
     });
     for share in [1, 50, 100] {
         let asked = Asked { share, ..EIGHT };
-        assert!(rt;
-            gives(
-                rt.alloc(),
-                &inputs,
-                asked,
-                b"scenario,origin,access,A,B,C,D\nbase,A,3,0,600,1800,\n"
-            )
+        expect(
+            &rt,
+            rt.alloc(),
+            &inputs,
+            asked,
+            b"scenario,origin,access,A,B,C,D\nbase,A,3,0,600,1800,\n",
         );
     }
 }
@@ -265,22 +258,20 @@ const FOUR: Asked = Asked {
 #[test]
 fn small_shares_of_four_minutes(rt: HostRuntime) {
     let inputs = inputs_of(example_feed());
-    assert!(rt;
-        gives(
-            rt.alloc(),
-            &inputs,
-            FOUR,
-            b"scenario,origin,access,A,B,C\nbase,A,3,0,600,1800\n"
-        )
+    expect(
+        &rt,
+        rt.alloc(),
+        &inputs,
+        FOUR,
+        b"scenario,origin,access,A,B,C\nbase,A,3,0,600,1800\n",
     );
     let quarter = Asked { share: 25, ..FOUR };
-    assert!(rt;
-        gives(
-            rt.alloc(),
-            &inputs,
-            quarter,
-            b"scenario,origin,access,A,B,C\nbase,A,3,0,600,1800\n"
-        )
+    expect(
+        &rt,
+        rt.alloc(),
+        &inputs,
+        quarter,
+        b"scenario,origin,access,A,B,C\nbase,A,3,0,600,1800\n",
     );
 }
 
@@ -288,31 +279,28 @@ fn small_shares_of_four_minutes(rt: HostRuntime) {
 fn great_shares_of_four_minutes(rt: HostRuntime) {
     let inputs = inputs_of(example_feed());
     let half = Asked { share: 50, ..FOUR };
-    assert!(rt;
-        gives(
-            rt.alloc(),
-            &inputs,
-            half,
-            b"scenario,origin,access,A,B,C\nbase,A,2,0,660,1860\n"
-        )
+    expect(
+        &rt,
+        rt.alloc(),
+        &inputs,
+        half,
+        b"scenario,origin,access,A,B,C\nbase,A,2,0,660,1860\n",
     );
     let most = Asked { share: 75, ..FOUR };
-    assert!(rt;
-        gives(
-            rt.alloc(),
-            &inputs,
-            most,
-            b"scenario,origin,access,A,B,C\nbase,A,2,0,720,1920\n"
-        )
+    expect(
+        &rt,
+        rt.alloc(),
+        &inputs,
+        most,
+        b"scenario,origin,access,A,B,C\nbase,A,2,0,720,1920\n",
     );
     let all = Asked { share: 100, ..FOUR };
-    assert!(rt;
-        gives(
-            rt.alloc(),
-            &inputs,
-            all,
-            b"scenario,origin,access,A,B,C\nbase,A,1,0,,\n"
-        )
+    expect(
+        &rt,
+        rt.alloc(),
+        &inputs,
+        all,
+        b"scenario,origin,access,A,B,C\nbase,A,1,0,,\n",
     );
 }
 
@@ -325,35 +313,32 @@ fn shares_of_seventeen_and_thirty_three_minutes(rt: HostRuntime) {
         share: 100,
         ..EIGHT
     };
-    assert!(rt;
-        gives(
-            rt.alloc(),
-            &inputs,
-            all,
-            b"scenario,origin,access,A,B,C\nbase,A,2,0,1560,2760\n"
-        )
+    expect(
+        &rt,
+        rt.alloc(),
+        &inputs,
+        all,
+        b"scenario,origin,access,A,B,C\nbase,A,2,0,1560,2760\n",
     );
     let some = Asked { share: 1, ..all };
-    assert!(rt;
-        gives(
-            rt.alloc(),
-            &inputs,
-            some,
-            b"scenario,origin,access,A,B,C\nbase,A,3,0,600,1800\n"
-        )
+    expect(
+        &rt,
+        rt.alloc(),
+        &inputs,
+        some,
+        b"scenario,origin,access,A,B,C\nbase,A,3,0,600,1800\n",
     );
     let half = Asked {
         first: 448,
         minutes: 33,
         ..EIGHT
     };
-    assert!(rt;
-        gives(
-            rt.alloc(),
-            &inputs,
-            half,
-            b"scenario,origin,access,A,B,C\nbase,A,2,0,1560,2760\n"
-        )
+    expect(
+        &rt,
+        rt.alloc(),
+        &inputs,
+        half,
+        b"scenario,origin,access,A,B,C\nbase,A,2,0,1560,2760\n",
     );
 }
 
@@ -363,37 +348,34 @@ fn a_headway_departs_before_its_end(rt: HostRuntime) {
         frequencies: Some(EVERY_TEN_MINUTES),
         ..example_feed()
     });
-    assert!(rt;
-        gives(
-            rt.alloc(),
-            &inputs,
-            EIGHT,
-            b"scenario,origin,access,A,B,C\nbase,A,3,0,600,1800\n"
-        )
+    expect(
+        &rt,
+        rt.alloc(),
+        &inputs,
+        EIGHT,
+        b"scenario,origin,access,A,B,C\nbase,A,3,0,600,1800\n",
     );
     let second = Asked {
         first: 485,
         ..EIGHT
     };
-    assert!(rt;
-        gives(
-            rt.alloc(),
-            &inputs,
-            second,
-            b"scenario,origin,access,A,B,C\nbase,A,2,0,900,\n"
-        )
+    expect(
+        &rt,
+        rt.alloc(),
+        &inputs,
+        second,
+        b"scenario,origin,access,A,B,C\nbase,A,2,0,900,\n",
     );
     let late = Asked {
         first: 491,
         ..EIGHT
     };
-    assert!(rt;
-        gives(
-            rt.alloc(),
-            &inputs,
-            late,
-            b"scenario,origin,access,A,B,C\nbase,A,1,0,,\n"
-        )
+    expect(
+        &rt,
+        rt.alloc(),
+        &inputs,
+        late,
+        b"scenario,origin,access,A,B,C\nbase,A,1,0,,\n",
     );
 }
 
@@ -408,7 +390,7 @@ fn a_feed_of_headers_gives_a_header(rt: HostRuntime) {
             ..example_feed()
         })
     };
-    assert!(rt; gives(rt.alloc(), &inputs, EIGHT, b"scenario,origin,access\n"));
+    expect(&rt, rt.alloc(), &inputs, EIGHT, b"scenario,origin,access\n");
 }
 
 #[test]
@@ -418,13 +400,12 @@ fn a_trip_may_overtake_another(rt: HostRuntime) {
         stop_times: Some(OVERTAKING),
         ..example_feed()
     });
-    assert!(rt;
-        gives(
-            rt.alloc(),
-            &inputs,
-            EIGHT,
-            b"scenario,origin,access,A,B,C\nbase,A,3,0,360,1800\n"
-        )
+    expect(
+        &rt,
+        rt.alloc(),
+        &inputs,
+        EIGHT,
+        b"scenario,origin,access,A,B,C\nbase,A,3,0,360,1800\n",
     );
 }
 
@@ -443,25 +424,23 @@ fn walks_come_first_and_last(rt: HostRuntime) {
         walk: 300,
         ..EIGHT
     };
-    assert!(rt;
-        gives(
-            rt.alloc(),
-            &inputs,
-            early,
-            b"scenario,origin,access,A,B,C,W,X\nbase,W,3,120,720,1920,0,2010\n"
-        )
+    expect(
+        &rt,
+        rt.alloc(),
+        &inputs,
+        early,
+        b"scenario,origin,access,A,B,C,W,X\nbase,W,3,120,720,1920,0,2010\n",
     );
     let late = Asked {
         first: 479,
         ..early
     };
-    assert!(rt;
-        gives(
-            rt.alloc(),
-            &inputs,
-            late,
-            b"scenario,origin,access,A,B,C,W,X\nbase,W,2,120,,,0,\n"
-        )
+    expect(
+        &rt,
+        rt.alloc(),
+        &inputs,
+        late,
+        b"scenario,origin,access,A,B,C,W,X\nbase,W,2,120,,,0,\n",
     );
 }
 
@@ -474,22 +453,20 @@ fn a_change_within_a_station_is_a_walk(rt: HostRuntime) {
         ..example_feed()
     });
     let enough = Asked { walk: 60, ..EIGHT };
-    assert!(rt;
-        gives(
-            rt.alloc(),
-            &inputs,
-            enough,
-            b"scenario,origin,access,A,B,C,B2\nbase,A,4,0,600,1800,660\n"
-        )
+    expect(
+        &rt,
+        rt.alloc(),
+        &inputs,
+        enough,
+        b"scenario,origin,access,A,B,C,B2\nbase,A,4,0,600,1800,660\n",
     );
     let short = Asked { walk: 59, ..EIGHT };
-    assert!(rt;
-        gives(
-            rt.alloc(),
-            &inputs,
-            short,
-            b"scenario,origin,access,A,B,C,B2\nbase,A,2,0,600,,\n"
-        )
+    expect(
+        &rt,
+        rt.alloc(),
+        &inputs,
+        short,
+        b"scenario,origin,access,A,B,C,B2\nbase,A,2,0,600,,\n",
     );
 }
 
@@ -503,13 +480,12 @@ fn commas_are_quoted(rt: HostRuntime) {
             ..example_feed()
         })
     };
-    assert!(rt;
-        gives(
-            rt.alloc(),
-            &inputs,
-            EIGHT,
-            b"scenario,origin,access,\"A,1\",B,C\nbase,\"A,1\",3,0,600,1800\n"
-        )
+    expect(
+        &rt,
+        rt.alloc(),
+        &inputs,
+        EIGHT,
+        b"scenario,origin,access,\"A,1\",B,C\nbase,\"A,1\",3,0,600,1800\n",
     );
 }
 
@@ -519,25 +495,23 @@ fn both_ends_of_a_calendar_are_included(rt: HostRuntime) {
         calendar: Some(LAST_DAY),
         ..example_feed()
     });
-    assert!(rt;
-        gives(
-            rt.alloc(),
-            &last_day,
-            EIGHT,
-            b"scenario,origin,access,A,B,C\nbase,A,3,0,600,1800\n"
-        )
+    expect(
+        &rt,
+        rt.alloc(),
+        &last_day,
+        EIGHT,
+        b"scenario,origin,access,A,B,C\nbase,A,3,0,600,1800\n",
     );
     let before = inputs_of(FeedBytes {
         calendar: Some(WEEK_BEFORE),
         ..example_feed()
     });
-    assert!(rt;
-        gives(
-            rt.alloc(),
-            &before,
-            EIGHT,
-            b"scenario,origin,access,A,B,C\nbase,A,1,0,,\n"
-        )
+    expect(
+        &rt,
+        rt.alloc(),
+        &before,
+        EIGHT,
+        b"scenario,origin,access,A,B,C\nbase,A,1,0,,\n",
     );
 }
 
@@ -547,24 +521,22 @@ fn opportunities_count_where_the_cell_is_within(rt: HostRuntime) {
         opportunities: Some(b"stop_id,opportunities\nB,10\nC,5\n"),
         ..inputs_of(example_feed())
     };
-    assert!(rt;
-        gives(
-            rt.alloc(),
-            &inputs,
-            EIGHT,
-            b"scenario,origin,access,A,B,C\nbase,A,15,0,600,1800\n"
-        )
+    expect(
+        &rt,
+        rt.alloc(),
+        &inputs,
+        EIGHT,
+        b"scenario,origin,access,A,B,C\nbase,A,15,0,600,1800\n",
     );
     let less = Asked {
         within: 1799,
         ..EIGHT
     };
-    assert!(rt;
-        gives(
-            rt.alloc(),
-            &inputs,
-            less,
-            b"scenario,origin,access,A,B,C\nbase,A,10,0,600,1800\n"
-        )
+    expect(
+        &rt,
+        rt.alloc(),
+        &inputs,
+        less,
+        b"scenario,origin,access,A,B,C\nbase,A,10,0,600,1800\n",
     );
 }

@@ -13,8 +13,6 @@ mod laws;
 mod lease;
 mod seat;
 mod steps;
-#[cfg(test)]
-mod tests;
 
 pub use book::Book;
 pub use laws::runs_are_fair;

@@ -17,8 +17,6 @@ mod jobs;
 mod laws;
 mod rows;
 mod study;
-#[cfg(test)]
-mod tests;
 
 pub use faults::RunFault;
 pub use gates::{Gate, Open, Verdict};

@@ -1,8 +1,9 @@
 //! Scenarios that are read from files, over the feed of the other tests: trips T1 and T0 on route R1, T2 on route R2.
 
-use crate::tests::{feed_in, mondays};
-use crate::{Scenario, ScenarioFault, ScenarioWhat, read_scenario};
+use crate::scenario_networks::mondays;
+use crate::small_feeds::feed_in;
 use gtfs_tables::{Feed, FeedBytes};
+use scenarios::{Scenario, ScenarioFault, ScenarioWhat, read_scenario};
 use std::alloc::{AllocError, Global};
 use std::process::Abort;
 use std::test::Fail;

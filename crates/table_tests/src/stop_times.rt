@@ -2,10 +2,10 @@
 
 ghost use Rattle.std.specs.Prelude.{◌≤◌, length};
 
-use crate::{StopTimes, read_stop_times};
 use std::alloc::Global;
 use std::process::Abort;
 use std::test::Fail;
+use table_files::{StopTimes, read_stop_times};
 use table_records::{FeedFault, FileName, Identifiers, What};
 use timetable::{Event, StopNo};
 

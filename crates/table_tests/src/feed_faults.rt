@@ -1,7 +1,7 @@
 //! What becomes of a feed when a byte of a file is wrong: each fault with its file and its record.
 
 use crate::test_feeds::{STOPS, TRIPS, expect_fault, fault_of, feed_of, small_feed};
-use crate::{FeedBytes, FeedFault, FileName, What};
+use gtfs_tables::{FeedBytes, FeedFault, FileName, What};
 use std::alloc::{AllocError, Global};
 use std::process::Abort;
 use std::test::Fail;

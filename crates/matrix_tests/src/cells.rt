@@ -1,63 +1,11 @@
 //! Worked examples of cells and access.
 
-use crate::{access, cell, cells};
-use rounds::{Durations, Window, durations};
+use crate::small_networks::{a_line, of_window, two_trips};
+use rounds::{Durations, Window};
+use shares::{access, cell, cells};
 use std::alloc::{AllocError, Global};
 use std::test::Fail;
-use timetable::{Event, Events, Feet, MOST_STOPS, Network, StopNo, Trip};
-
-/// An event where everybody may board and alight.
-fn at(stop: u32, time: u32) -> Event {
-    Event {
-        stop: StopNo(stop),
-        arrive: time,
-        depart: time,
-        board: true,
-        alight: true,
-    }
-}
-
-/// A trip from a stop at a time to another stop at another time.
-fn trip(alloc: Global, from: Event, to: Event) -> Result<Trip, AllocError> {
-    let mut events = Vec::with_capacity(alloc, 2)?;
-    events.push(from)?;
-    events.push(to)?;
-    Ok(Trip {
-        route: 0,
-        name: 0,
-        events: Events::new(events),
-    })
-}
-
-/// Two trips: from stop 0 at 08:00:00 to 1 at 08:10:00, and from 1 at 08:15:00 to 2 at 08:30:00.
-fn two_trips(alloc: Global) -> Result<Option<Network>, AllocError> {
-    let mut trips = Vec::with_capacity(alloc, 2)?;
-    trips.push(trip(alloc, at(0, 28_800), at(1, 29_400))?)?;
-    trips.push(trip(alloc, at(1, 29_700), at(2, 30_600))?)?;
-    let mut lists = Vec::with_capacity(alloc, 3)?;
-    for _ in 0..3 {
-        lists.push(Vec::new(alloc))?;
-    }
-    let Some(feet) = Feet::new(alloc, 3, lists).ok() else {
-        return Ok(None);
-    };
-    Ok(Network::new(alloc, 3, trips, &feet).ok())
-}
-
-/// The durations from stop 0 with two rides, where the window fits.
-fn from_the_first_stop(
-    alloc: Global,
-    network: &Option<Network>,
-    window: Window,
-) -> Result<Option<Durations>, AllocError> {
-    if let Some(network) = network
-        && 0 < network.stops()
-        && window.fits()
-    {
-        return Ok(Some(durations(alloc, network, StopNo(0), window, 2)?));
-    }
-    Ok(None)
-}
+use timetable::{MOST_STOPS, StopNo};
 
 /// Whether these are the cells of a share, also one by one.
 fn are(
@@ -83,7 +31,7 @@ fn are(
 #[test]
 fn cells_of_shares(rt: HostRuntime) -> Result<(), Fail> {
     let alloc = rt.alloc();
-    let network = two_trips(alloc)?;
+    let network = two_trips(alloc, 29_700, true)?;
     let early = [Some(0), Some(600), Some(1_800)];
     let late = [Some(0), Some(1_560), Some(2_760)];
     for (first, minutes, share, expected) in [
@@ -105,7 +53,7 @@ fn cells_of_shares(rt: HostRuntime) -> Result<(), Fail> {
         (28_800, 1, 100, early),
         (28_860, 1, 1, [Some(0), None, None]),
     ] {
-        let found = from_the_first_stop(alloc, &network, Window { first, minutes })?;
+        let found = of_window(alloc, &network, 0, Window { first, minutes }, 2)?;
         assert!(rt;
             are(alloc, &found, share, expected.as_slice())?,
             "share {share} of {minutes} minutes from {first}"
@@ -134,30 +82,6 @@ fn opportunities_within_reach(rt: HostRuntime) -> Result<(), Fail> {
     Ok(())
 }
 
-/// 400 trips, one a minute from 05:00, along 20 stops that lie two minutes apart.
-fn a_line(alloc: Global) -> Result<Option<Network>, AllocError> {
-    let mut trips = Vec::with_capacity(alloc, 400)?;
-    for name in 0..400u32 {
-        let mut events = Vec::with_capacity(alloc, 20)?;
-        for stop in 0..20u32 {
-            events.push(at(stop, 18_000 + 60 * name + 120 * stop))?;
-        }
-        trips.push(Trip {
-            route: 0,
-            name,
-            events: Events::new(events),
-        })?;
-    }
-    let mut lists = Vec::with_capacity(alloc, 20)?;
-    for _ in 0..20 {
-        lists.push(Vec::new(alloc))?;
-    }
-    let Some(feet) = Feet::new(alloc, 20, lists).ok() else {
-        return Ok(None);
-    };
-    Ok(Network::new(alloc, 20, trips, &feet).ok())
-}
-
 /// The access, where there are as many opportunities as cells.
 fn sum_within(cells: &[Option<u32>], opportunities: &[u32], within: u32) -> Option<u64> {
     if cells.len() == opportunities.len() && cells.len() <= MOST_STOPS {
@@ -174,7 +98,7 @@ fn an_hour_of_a_trip_every_minute(rt: HostRuntime) -> Result<(), Fail> {
         first: 21_600,
         minutes: 60,
     };
-    let found = from_the_first_stop(alloc, &network, window)?;
+    let found = of_window(alloc, &network, 0, window, 2)?;
     let mut rides = [None; 20];
     for stop in 0..20u32 {
         rides[stop as usize] = Some(120 * stop);

@@ -1,8 +1,8 @@
 //! Worked examples of texts, and texts put out by poor writers.
 
-use crate::{Labels, TextFault, put_all, write_matrix};
 use collector::{Collector, Matrix, Row};
 use gtfs_tables::{Feed, FeedBytes, read_feed};
+use matrix_text::{Labels, TextFault, put_all, write_matrix};
 use std::alloc::{AllocError, Global};
 use std::io;
 use std::io::{ErrorKind, Write};

@@ -1,7 +1,7 @@
 //! What is read of a feed: its stops, routes, services, calendars and trips.
 
 use crate::test_feeds::{STOPS, TIMES, TRIPS, feed_in, feed_of, small_feed};
-use crate::{
+use gtfs_tables::{
     CalendarRow, Departures, ExceptionRow, Feed, FeedBytes, FeedTrip, read_date, read_time,
 };
 use std::alloc::Global;

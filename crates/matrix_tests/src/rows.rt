@@ -1,12 +1,13 @@
 //! Worked examples of rows, matrices and limits of studies.
 
-use crate::{Gate, Open, Study, Verdict, one_thread, row_of};
+use crate::small_networks::{at, network_with, trip_of};
 use collector::{Matrix, Row};
 use rounds::Window;
 use std::alloc::{AllocError, Global};
 use std::test::Fail;
-use timetable::{Event, Events, Feet, Network, StopNo, Trip};
+use timetable::{Event, Network, StopNo};
 use work_book::{Lease, Settled};
+use workers::{Gate, Open, Study, Verdict, one_thread, row_of};
 
 /// The stops of the small feed.
 const A: u32 = 0;
@@ -26,44 +27,19 @@ const FIRST: Ride = (A, 28_800, B, 29_400);
 
 const SECOND: Ride = (B, 29_700, C, 30_600);
 
-/// An event where everybody may board and alight.
-fn at(stop: u32, time: u32) -> Event {
+/// An event on the study's day where everybody may board and alight.
+fn at_time(stop: u32, time: u32) -> Event {
     let time = DAY.saturating_add(time);
-    Event {
-        stop: StopNo(stop),
-        arrive: time,
-        depart: time,
-        board: true,
-        alight: true,
-    }
-}
-
-fn trip_of(alloc: Global, ride: Ride) -> Result<Trip, AllocError> {
-    let (from, leaves, to, reaches) = ride;
-    let mut events = Vec::with_capacity(alloc, 2)?;
-    events.push(at(from, leaves))?;
-    events.push(at(to, reaches))?;
-    Ok(Trip {
-        route: 0,
-        name: 0,
-        events: Events::new(events),
-    })
+    at(stop, time, time)
 }
 
 /// The network of so many stops and these rides, if it is one.
 fn network_of(alloc: Global, stops: u32, rides: &[Ride]) -> Result<Option<Network>, AllocError> {
-    let mut lists = Vec::with_capacity(alloc, stops as usize)?;
-    for _ in 0..stops {
-        lists.push(Vec::new(alloc))?;
-    }
     let mut trips = Vec::with_capacity(alloc, rides.len())?;
-    for ride in rides {
-        trips.push(trip_of(alloc, *ride)?)?;
+    for (from, leaves, to, reaches) in rides {
+        trips.push(trip_of(alloc, &[at_time(*from, *leaves), at_time(*to, *reaches)])?)?;
     }
-    let Some(feet) = Feet::new(alloc, stops, lists).ok() else {
-        return Ok(None);
-    };
-    Ok(Network::new(alloc, stops, trips, &feet).ok())
+    network_with(alloc, stops, &[], trips)
 }
 
 /// One network of three stops for each scenario's rides.

@@ -1,11 +1,11 @@
 //! Tables and fields as feeds have them, and what has to be read from them.
 
-use crate::{
-    FeedFault, FileName, Identifiers, Rows, What, column, field, number, read_date, read_time, trim,
-};
 use csv::ByteRecord;
 use std::alloc::{AllocError, Global};
 use std::test::Fail;
+use table_records::{
+    FeedFault, FileName, Identifiers, Rows, What, column, field, number, read_date, read_time, trim,
+};
 
 // The first ten records of a file, with `|` between two fields and `;` after a record.
 fn shown(alloc: Global, bytes: &[u8]) -> Result<Vec<u8>, AllocError> {

@@ -1,8 +1,8 @@
 //! Files with one record more than a feed may have.
 
-use crate::{read_feed_trips, read_stop_times};
 use std::alloc::{AllocError, Global};
 use std::test::Fail;
+use table_files::{read_feed_trips, read_stop_times};
 use table_records::{FeedFault, FileName, Identifiers, What};
 
 // The bytes of a header and of so many records, each ended by its number.

@@ -1,9 +1,9 @@
 //! Worked examples of steps, by hand from the table of steps.
 ghost use Rattle.std.specs.Prelude.{◌≡◌, length, IfOk};
 
-use crate::{Answer, Book, Lease, Step};
 use std::alloc::{AllocError, Global};
 use std::test::Fail;
+use work_book::{Answer, Book, Lease, Step};
 
 const FIRST: Answer = Answer::Lease(Lease {
     number: 0,

@@ -1,66 +1,19 @@
 //! Days of services, and runs of studies, over small feeds.
 
-use crate::{DayFault, Run, active, runs};
-use gtfs_tables::{Feed, FeedBytes, read_date, read_feed};
+use crate::small_feeds::{LONG_TRIP, feed_in, in_may};
+use gtfs_tables::{Feed, FeedBytes, read_date};
 use jiff::civil::Date;
+use service_days::{DayFault, Run, active, runs};
 use std::alloc::Global;
-
-const STOPS: &[u8] = b"stop_id,stop_name\nA,Alpha\nB,Beta\nC,Gamma\n";
-
-const ROUTES: &[u8] = b"route_id,route_type\nR1,3\nR2,3\n";
-
-const CALENDAR: &[u8] =
-    b"service_id,monday,tuesday,wednesday,thursday,friday,saturday,sunday,start_date,end_date\nMON,1,0,0,0,0,0,0,20260504,20260531\nSUN,0,0,0,0,0,0,1,20260503,20260531\n";
 
 const TRIPS: &[u8] = b"route_id,service_id,trip_id\nR1,MON,T1\nR2,MON,T2\n";
 
 const TIMES: &[u8] =
     b"trip_id,arrival_time,departure_time,stop_id,stop_sequence\nT1,07:58:00,08:00:00,A,1\nT1,08:10:00,08:10:00,B,2\nT2,08:15:00,08:15:00,B,1\nT2,08:30:00,08:30:00,C,2\n";
 
-// A trip of twenty events.
-const LONG_TRIP: &[u8] = b"trip_id,arrival_time,departure_time,stop_id,stop_sequence
-T1,08:10:00,08:10:00,A,10
-T1,08:11:00,08:11:00,A,11
-T1,08:12:00,08:12:00,A,12
-T1,08:13:00,08:13:00,A,13
-T1,08:14:00,08:14:00,A,14
-T1,08:15:00,08:15:00,A,15
-T1,08:16:00,08:16:00,A,16
-T1,08:17:00,08:17:00,A,17
-T1,08:18:00,08:18:00,A,18
-T1,08:19:00,08:19:00,A,19
-T1,08:20:00,08:20:00,A,20
-T1,08:21:00,08:21:00,A,21
-T1,08:22:00,08:22:00,A,22
-T1,08:23:00,08:23:00,A,23
-T1,08:24:00,08:24:00,A,24
-T1,08:25:00,08:25:00,A,25
-T1,08:26:00,08:26:00,A,26
-T1,08:27:00,08:27:00,A,27
-T1,08:28:00,08:28:00,A,28
-T1,08:29:00,08:29:00,A,29
-";
-
 // Two trips on Mondays in May 2026, from 08:00 and from 08:15.
 fn mondays() -> FeedBytes<'static> {
-    FeedBytes {
-        stops: Some(STOPS),
-        routes: Some(ROUTES),
-        calendar: Some(CALENDAR),
-        calendar_dates: None,
-        trips: Some(TRIPS),
-        stop_times: Some(TIMES),
-        frequencies: None,
-        transfers: None,
-    }
-}
-
-// The feed of the files, none where they have a fault.
-fn feed_in(alloc: Global, files: FeedBytes<'_>) -> Option<Feed> {
-    if !files.fits() {
-        return None;
-    }
-    read_feed(alloc, &files).ok()
+    in_may(TRIPS, TIMES)
 }
 
 // What a test expects of a feed.

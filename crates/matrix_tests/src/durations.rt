@@ -1,61 +1,10 @@
 //! Worked examples of least durations.
 
-use crate::{Durations, Window, one_minute};
+use crate::small_networks::{a_line, at, network_of, of_window, two_trips};
+use rounds::{Durations, Window, one_minute};
 use std::alloc::{AllocError, Global};
 use std::test::Fail;
-use timetable::{END_OF_AXIS, Event, Events, Feet, NEVER, Network, StopNo, Trip};
-
-/// An event where everybody may board and alight.
-fn at(stop: u32, arrive: u32, depart: u32) -> Event {
-    Event {
-        stop: StopNo(stop),
-        arrive,
-        depart,
-        board: true,
-        alight: true,
-    }
-}
-
-/// A footpath: from a stop, to a stop, in seconds.
-type Footpath = (usize, u32, u32);
-
-/// The network of these trips and footpaths, if it is one.
-fn network_of(
-    alloc: Global,
-    stops: u32,
-    footpaths: &[Footpath],
-    trips: &[&[Event]],
-) -> Result<Option<Network>, AllocError> {
-    let mut lists = Vec::with_capacity(alloc, stops as usize)?;
-    for _ in 0..stops {
-        lists.push(Vec::new(alloc))?;
-    }
-    for (from, to, seconds) in footpaths {
-        if let Some(list) = lists.get_mut(*from) {
-            list.push((StopNo(*to), *seconds))?;
-        }
-    }
-    let mut all = Vec::with_capacity(alloc, trips.len())?;
-    for events in trips {
-        all.push(trip_of(alloc, events)?)?;
-    }
-    let Some(feet) = Feet::new(alloc, stops, lists).ok() else {
-        return Ok(None);
-    };
-    Ok(Network::new(alloc, stops, all, &feet).ok())
-}
-
-fn trip_of(alloc: Global, events: &[Event]) -> Result<Trip, AllocError> {
-    let mut list = Vec::with_capacity(alloc, events.len())?;
-    for event in events {
-        list.push(*event)?;
-    }
-    Ok(Trip {
-        route: 0,
-        name: 0,
-        events: Events::new(list),
-    })
-}
+use timetable::{END_OF_AXIS, NEVER, Network, StopNo};
 
 /// The least durations, where origin and departure are in range.
 fn durations(
@@ -80,16 +29,6 @@ fn are(found: &Option<Vec<u32>>, expected: &[u32]) -> bool {
         Some(found) => found.as_slice() == expected,
         None => false,
     }
-}
-
-/// Two trips: from stop 0 at 08:00:00 to 1 at 08:10:00, and from 1 at `leave` to 2 at 08:30:00.
-fn two_trips(alloc: Global, leave: u32, board: bool) -> Result<Option<Network>, AllocError> {
-    let first = [at(0, 28_800, 28_800), at(1, 29_400, 29_400)];
-    let on = Event {
-        board,
-        ..at(1, leave, leave)
-    };
-    network_of(alloc, 3, &[], &[&first, &[on, at(2, 30_600, 30_600)]])
 }
 
 #[test]
@@ -203,31 +142,6 @@ fn the_faster_of_two_trips(rt: HostRuntime) -> Result<(), Fail> {
     Ok(())
 }
 
-/// 400 trips, one a minute from 05:00, along 20 stops that lie two minutes apart.
-fn a_line(alloc: Global) -> Result<Option<Network>, AllocError> {
-    let mut trips = Vec::with_capacity(alloc, 400)?;
-    for trip in 0..400u32 {
-        let mut events = Vec::with_capacity(alloc, 20)?;
-        for stop in 0..20u32 {
-            let time = 18_000 + 60 * trip + 120 * stop;
-            events.push(at(stop, time, time))?;
-        }
-        trips.push(Trip {
-            route: 0,
-            name: trip,
-            events: Events::new(events),
-        })?;
-    }
-    let mut lists = Vec::with_capacity(alloc, 20)?;
-    for _ in 0..20 {
-        lists.push(Vec::new(alloc))?;
-    }
-    let Some(feet) = Feet::new(alloc, 20, lists).ok() else {
-        return Ok(None);
-    };
-    Ok(Network::new(alloc, 20, trips, &feet).ok())
-}
-
 #[test]
 fn a_trip_every_minute(rt: HostRuntime) -> Result<(), Fail> {
     let alloc = rt.alloc();
@@ -251,23 +165,6 @@ fn a_trip_every_minute(rt: HostRuntime) -> Result<(), Fail> {
         assert!(rt; are(&found, expected.as_slice()), "at {depart}");
     }
     Ok(())
-}
-
-/// The durations of a window, where origin and window are in range.
-fn of_window(
-    alloc: Global,
-    network: &Option<Network>,
-    origin: u32,
-    window: Window,
-    rides: u32,
-) -> Result<Option<Durations>, AllocError> {
-    if let Some(network) = network
-        && origin < network.stops()
-        && window.fits()
-    {
-        return Ok(Some(crate::durations(alloc, network, StopNo(origin), window, rides)?));
-    }
-    Ok(None)
 }
 
 /// Whether this is the duration to a stop for a minute.

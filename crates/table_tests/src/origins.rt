@@ -1,7 +1,7 @@
 //! Origins and opportunities over the small feed.
 
 use crate::test_feeds::{feed_in, small_feed};
-use crate::{Feed, FeedFault, FileName, What, file_fits, read_opportunities, read_origins};
+use gtfs_tables::{Feed, FeedFault, FileName, What, file_fits, read_opportunities, read_origins};
 use std::alloc::Global;
 use std::process::Abort;
 use timetable::StopNo;

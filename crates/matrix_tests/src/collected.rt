@@ -1,7 +1,7 @@
 //! Worked examples of offers, of finishing, and of steps of a book and a collector together.
 ghost use Rattle.std.specs.Prelude.{◌≡◌, IfOk};
 
-use crate::{Collector, CoreAnswer, CoreStep, Offer, Row, run_core};
+use collector::{Collector, CoreAnswer, CoreStep, Offer, Row, run_core};
 use std::alloc::{AllocError, Global};
 use std::test::Fail;
 use work_book::{Answer, Book, Lease, Step};

@@ -1,28 +1,9 @@
 //! Worked examples of footpaths and networks, their refusals and their limits.
 
-use crate::{Event, Events, Feet, NetFault, Network, StopNo, Trip};
+use crate::small_networks::{Footpath, at, lists_of};
 use std::alloc::{AllocError, Global};
 use std::test::Fail;
-
-/// A footpath: from a stop, to a stop, in seconds.
-type Footpath = (usize, u32, u32);
-
-fn lists_of(
-    alloc: Global,
-    lists: usize,
-    footpaths: &[Footpath],
-) -> Result<Vec<Vec<(StopNo, u32)>>, AllocError> {
-    let mut all = Vec::with_capacity(alloc, lists)?;
-    for _ in 0..lists {
-        all.push(Vec::new(alloc))?;
-    }
-    for (from, to, seconds) in footpaths {
-        if let Some(list) = all.get_mut(*from) {
-            list.push((StopNo(*to), *seconds))?;
-        }
-    }
-    Ok(all)
-}
+use timetable::{Event, Events, Feet, NetFault, Network, StopNo, Trip};
 
 /// Why footpaths are refused, if they are, with how many lists were handed back.
 fn feet_fault(
@@ -34,17 +15,6 @@ fn feet_fault(
     match Feet::new(alloc, stops, lists_of(alloc, lists, footpaths)?) {
         Ok(_) => Ok(None),
         Err((fault, back)) => Ok(Some((fault, back.len()))),
-    }
-}
-
-/// An event where everybody may board and alight.
-fn at(stop: u32, arrive: u32, depart: u32) -> Event {
-    Event {
-        stop: StopNo(stop),
-        arrive,
-        depart,
-        board: true,
-        alight: true,
     }
 }
 

@@ -1,7 +1,7 @@
 //! The places of a feed and the walks between them: `location_type`, `parent_station` and `transfers.txt`.
 
 use crate::test_feeds::{expect_fault, feed_in, small_feed, station_feed};
-use crate::{Feed, FeedBytes, FileName, Link, Place, What};
+use gtfs_tables::{Feed, FeedBytes, FileName, Link, Place, What};
 use std::alloc::Global;
 use timetable::StopNo;
 

@@ -1,0 +1,127 @@
+//! Small networks, and the least durations over them.
+
+use rounds::{Durations, Window, durations};
+use std::alloc::{AllocError, Global};
+use timetable::{Event, Events, Feet, Network, StopNo, Trip};
+
+/// A footpath: from a stop, to a stop, in seconds.
+pub(crate) type Footpath = (usize, u32, u32);
+
+/// An event where everybody may board and alight.
+pub(crate) fn at(stop: u32, arrive: u32, depart: u32) -> Event {
+    Event {
+        stop: StopNo(stop),
+        arrive,
+        depart,
+        board: true,
+        alight: true,
+    }
+}
+
+/// So many lists of footpaths, with these in them.
+pub(crate) fn lists_of(
+    alloc: Global,
+    lists: usize,
+    footpaths: &[Footpath],
+) -> Result<Vec<Vec<(StopNo, u32)>>, AllocError> {
+    let mut all = Vec::with_capacity(alloc, lists)?;
+    for _ in 0..lists {
+        all.push(Vec::new(alloc))?;
+    }
+    for (from, to, seconds) in footpaths {
+        if let Some(list) = all.get_mut(*from) {
+            list.push((StopNo(*to), *seconds))?;
+        }
+    }
+    Ok(all)
+}
+
+/// A trip with these events.
+pub(crate) fn trip_of(alloc: Global, events: &[Event]) -> Result<Trip, AllocError> {
+    Ok(Trip {
+        route: 0,
+        name: 0,
+        events: Events::new(Vec::from_slice(alloc, events)?),
+    })
+}
+
+/// The network of these trips and footpaths, if it is one.
+pub(crate) fn network_with(
+    alloc: Global,
+    stops: u32,
+    footpaths: &[Footpath],
+    trips: Vec<Trip>,
+) -> Result<Option<Network>, AllocError> {
+    match Feet::new(alloc, stops, lists_of(alloc, stops as usize, footpaths)?) {
+        Ok(feet) => Ok(Network::new(alloc, stops, trips, &feet).ok()),
+        Err(_) => Ok(None),
+    }
+}
+
+/// The network of trips with these events, and of these footpaths, if it is one.
+pub(crate) fn network_of(
+    alloc: Global,
+    stops: u32,
+    footpaths: &[Footpath],
+    trips: &[&[Event]],
+) -> Result<Option<Network>, AllocError> {
+    let mut all = Vec::with_capacity(alloc, trips.len())?;
+    for events in trips {
+        all.push(trip_of(alloc, events)?)?;
+    }
+    network_with(alloc, stops, footpaths, all)
+}
+
+/// Two trips: from stop 0 at 08:00:00 to 1 at 08:10:00, and from 1 at `leave` to 2 at 08:30:00.
+pub(crate) fn two_trips(
+    alloc: Global,
+    leave: u32,
+    board: bool,
+) -> Result<Option<Network>, AllocError> {
+    let first = [at(0, 28_800, 28_800), at(1, 29_400, 29_400)];
+    let on = Event {
+        board,
+        ..at(1, leave, leave)
+    };
+    network_of(alloc, 3, &[], &[&first, &[on, at(2, 30_600, 30_600)]])
+}
+
+/// A trip along 20 stops that lie two minutes apart.
+fn along_the_line(alloc: Global, name: u32, start: u32) -> Result<Trip, AllocError> {
+    let mut events = Vec::with_capacity(alloc, 20)?;
+    for stop in 0..20u32 {
+        let time = start.saturating_add(120 * stop);
+        events.push(at(stop, time, time))?;
+    }
+    Ok(Trip {
+        route: 0,
+        name,
+        events: Events::new(events),
+    })
+}
+
+/// 400 trips, one a minute from 05:00, along 20 stops that lie two minutes apart.
+pub(crate) fn a_line(alloc: Global) -> Result<Option<Network>, AllocError> {
+    let mut trips = Vec::with_capacity(alloc, 400)?;
+    for minute in 0..400u32 {
+        trips.push(along_the_line(alloc, minute, 18_000 + 60 * minute)?)?;
+    }
+    network_with(alloc, 20, &[], trips)
+}
+
+/// The durations of a window, where origin and window are in range.
+pub(crate) fn of_window(
+    alloc: Global,
+    network: &Option<Network>,
+    origin: u32,
+    window: Window,
+    rides: u32,
+) -> Result<Option<Durations>, AllocError> {
+    if let Some(network) = network
+        && origin < network.stops()
+        && window.fits()
+    {
+        return Ok(Some(durations(alloc, network, StopNo(origin), window, rides)?));
+    }
+    Ok(None)
+}

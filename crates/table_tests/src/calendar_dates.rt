@@ -1,0 +1,104 @@
+//! The dates that `calendar_dates.txt` adds and removes.
+
+ghost use Rattle.std.specs.Prelude.{◌≤◌, length};
+
+use jiff::civil::Date;
+use std::alloc::Global;
+use std::process::Abort;
+use std::test::Fail;
+use table_files::{CalendarDates, ExceptionRow, read_calendar_dates};
+use table_records::{FeedFault, FileName, Identifiers, What};
+
+// The fault of a file, none where it has none.
+fn fault_of(alloc: Global, bytes: &[u8]) -> Option<FeedFault>
+    requires { length bytes.now ≤ 1073741824 }
+{
+    read_calendar_dates(alloc, bytes, Identifiers::new(alloc)).err()
+}
+
+// A day of 2026.
+fn in_2026(month: i8, day: i8) -> Option<Date> {
+    Date::new(2026, month, day).ok()
+}
+
+// Whether a row adds a date to a service, or removes it.
+fn is_row(row: &ExceptionRow, service: u32, date: Option<Date>, adds: bool) -> bool {
+    row.service == service && Some(row.date) == date && row.adds == adds
+}
+
+// Whether the service XMAS is new beside MON, with the 25th and 26th of December, and MON has the 4th of May twice.
+fn has_christmas(dates: &CalendarDates) -> bool {
+    let rows = dates.rows.as_slice();
+    dates.services.len() == 2
+        && dates.services.number(b"XMAS") == Some(1)
+        && rows.len() == 4
+        && is_row(&rows[0], 1, in_2026(12, 25), true)
+        && is_row(&rows[1], 0, in_2026(5, 4), false)
+        && is_row(&rows[2], 1, in_2026(12, 26), true)
+        && is_row(&rows[3], 0, in_2026(5, 4), true)
+}
+
+// Whether a file that names a new service beside MON is read so.
+fn reads_christmas(alloc: Global) -> Result<bool, FeedFault> {
+    let mut services = Identifiers::new(alloc);
+    services.push(alloc, b"MON")?;
+    if services.len() > 1 {
+        return Ok(false);
+    }
+    let dates = read_calendar_dates(
+        alloc,
+        b"service_id,date,exception_type\nXMAS,20261225,1\nMON,20260504,2\nXMAS,20261226,01\nMON,20260504,1\n",
+        services,
+    )?;
+    Ok(has_christmas(&dates))
+}
+
+#[test]
+fn services_are_numbered_on(rt: HostRuntime) -> Result<(), Fail> {
+    assert!(rt; reads_christmas(rt.alloc())?);
+    Ok(())
+}
+
+// A file is refused for this fault.
+fn expect_fault(rt: &impl Abort, alloc: Global, bytes: &'static [u8], at: u64, what: What)
+    requires { length bytes.now ≤ 1073741824 }
+{
+    let fault = fault_of(alloc, bytes);
+    assert_eq!(rt;
+        fault,
+        Some(FeedFault::at(FileName::CalendarDates, at, what))
+    );
+}
+
+#[test]
+fn refusals(rt: HostRuntime) {
+    let alloc = rt.alloc();
+    expect_fault(
+        &rt,
+        alloc,
+        b"service_id,date,exception_type\n,x,3\n",
+        2,
+        What::EmptyId,
+    );
+    expect_fault(
+        &rt,
+        alloc,
+        b"service_id,date,exception_type\nA,20260431,3\n",
+        2,
+        What::BadDate,
+    );
+    expect_fault(
+        &rt,
+        alloc,
+        b"service_id,date,exception_type\nA,20260430,1\nA,20260430,3\n",
+        3,
+        What::BadNumber,
+    );
+    expect_fault(
+        &rt,
+        alloc,
+        b"service_id,date\nA,20260430\n",
+        1,
+        What::MissingColumn,
+    );
+}

@@ -1,0 +1,119 @@
+//! The departures of `frequencies.txt`.
+
+ghost use Rattle.std.specs.Prelude.{◌≤◌, length};
+
+use std::alloc::{AllocError, Global};
+use std::process::Abort;
+use std::test::Fail;
+use table_files::{Departures, read_frequencies};
+use table_records::{FeedFault, FileName, Identifiers, What};
+
+fn two_trips(alloc: Global) -> Result<Identifiers, AllocError> {
+    let mut trips = Identifiers::new(alloc);
+    trips.push(alloc, b"T1")?;
+    trips.push(alloc, b"T2")?;
+    Ok(trips)
+}
+
+// Whether the second of two trips has these departures, and the first has none.
+fn has_departures(rows: &[Vec<Departures>], second: &[Departures]) -> bool {
+    rows.len() == 2 && rows[0].len() == 0 && rows[1].as_slice() == second
+}
+
+// Whether the rows of a file are the departures of the second of two trips.
+fn gives(alloc: Global, bytes: &[u8], second: &[Departures]) -> Result<bool, FeedFault>
+    requires { length bytes.now ≤ 1073741824 }
+{
+    let trips = two_trips(alloc)?;
+    let rows = read_frequencies(alloc, bytes, &trips)?;
+    Ok(has_departures(rows.as_slice(), second))
+}
+
+#[test]
+fn rows_of_each_trip(rt: HostRuntime) -> Result<(), Fail> {
+    let early = Departures {
+        start: 28_800,
+        end: 30_000,
+        headway: 600,
+    };
+    let none = Departures {
+        start: 36_000,
+        end: 32_400,
+        headway: 1,
+    };
+    let holds = gives(
+        rt.alloc(),
+        b"trip_id,start_time,end_time,headway_secs\nT2,08:00:00,08:20:00,600\nT2,10:00:00,09:00:00,1\n",
+        &[early, none],
+    )?;
+    assert!(rt; holds);
+    Ok(())
+}
+
+// The fault of a file beside two trips, none where it has none.
+fn fault_of(alloc: Global, bytes: &[u8]) -> Option<FeedFault>
+    requires { length bytes.now ≤ 1073741824 }
+{
+    let trips = two_trips(alloc).ok()?;
+    read_frequencies(alloc, bytes, &trips).err()
+}
+
+// A file is refused for this fault.
+fn expect_fault(rt: &impl Abort, alloc: Global, bytes: &'static [u8], at: u64, what: What)
+    requires { length bytes.now ≤ 1073741824 }
+{
+    let fault = fault_of(alloc, bytes);
+    assert_eq!(rt; fault, Some(FeedFault::at(FileName::Frequencies, at, what)));
+}
+
+#[test]
+fn columns_and_trips_are_refused(rt: HostRuntime) {
+    let alloc = rt.alloc();
+    expect_fault(
+        &rt,
+        alloc,
+        b"trip_id,start_time,end_time\nT1,08:00:00,08:20:00\n",
+        1,
+        What::MissingColumn,
+    );
+    expect_fault(
+        &rt,
+        alloc,
+        b"trip_id,start_time,end_time,headway_secs\nT9,,,\n",
+        2,
+        What::UnknownTrip,
+    );
+    expect_fault(
+        &rt,
+        alloc,
+        b"trip_id,start_time,end_time,headway_secs\nT1,08:00:00,08:20:00,1\n,,,\n",
+        3,
+        What::EmptyId,
+    );
+}
+
+#[test]
+fn times_and_headways_are_refused(rt: HostRuntime) {
+    let alloc = rt.alloc();
+    expect_fault(
+        &rt,
+        alloc,
+        b"trip_id,start_time,end_time,headway_secs\nT1,,08:20:00,1\n",
+        2,
+        What::BadTime,
+    );
+    expect_fault(
+        &rt,
+        alloc,
+        b"trip_id,start_time,end_time,headway_secs\nT1,08:00:00,168:00:00,1\n",
+        2,
+        What::BadTime,
+    );
+    expect_fault(
+        &rt,
+        alloc,
+        b"trip_id,start_time,end_time,headway_secs\nT1,08:00:00,08:20:00,0\n",
+        2,
+        What::BadNumber,
+    );
+}

@@ -1,0 +1,38 @@
+//! Tests of the tables: worked rows of `table_records`, `table_files` and `gtfs_tables`, by their public calls.
+//!
+//! - `records`: records, columns, fields and identifiers.
+//! - `calendar`, `calendar_dates`, `feed_trips`, `frequencies`, `places`, `routes`, `stop_times`, `transfers`: one file each; `sizes`: files at
+//!   their limits.
+//! - `feeds`, `feed_faults`, `feed_places`, `origins`: whole feeds (`test_feeds`), and an analyst's own files.
+#![tactic(auto)]
+
+#[cfg(test)]
+mod calendar;
+#[cfg(test)]
+mod calendar_dates;
+#[cfg(test)]
+mod feed_faults;
+#[cfg(test)]
+mod feed_places;
+#[cfg(test)]
+mod feed_trips;
+#[cfg(test)]
+mod feeds;
+#[cfg(test)]
+mod frequencies;
+#[cfg(test)]
+mod origins;
+#[cfg(test)]
+mod places;
+#[cfg(test)]
+mod records;
+#[cfg(test)]
+mod routes;
+#[cfg(test)]
+mod sizes;
+#[cfg(test)]
+mod stop_times;
+#[cfg(test)]
+mod test_feeds;
+#[cfg(test)]
+mod transfers;

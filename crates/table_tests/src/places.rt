@@ -1,0 +1,149 @@
+//! The stops, stations and other places of `stops.txt`.
+
+ghost use Rattle.std.specs.Prelude.{◌≤◌, length};
+
+use std::alloc::{AllocError, Global};
+use std::process::Abort;
+use std::test::Fail;
+use table_files::{Place, Places, read_places};
+use table_records::{FeedFault, FileName, What};
+use timetable::StopNo;
+
+// Whether a place stands for these stops.
+fn stands_for(places: &Places, id: &[u8], stops: &[StopNo]) -> bool {
+    match places.place(id) {
+        Some(place) => places.stops_at(place).as_slice() == stops,
+        None => false,
+    }
+}
+
+// Whether three stops, two stations and an entrance have their numbers.
+fn has_six_places(places: &Places) -> bool {
+    places.names().len() == 6
+        && places.stops().len() == 3
+        && places.place(b"A") == Some(Place::Stop(StopNo(0)))
+        && places.place(b"B") == Some(Place::Stop(StopNo(1)))
+        && places.place(b" ") == Some(Place::Stop(StopNo(2)))
+        && places.place(b"S") == Some(Place::Station(0))
+        && places.place(b"T") == Some(Place::Station(1))
+        && places.place(b"E") == Some(Place::Other)
+        && places.place(b"Z") == None
+}
+
+// Whether six places of three kinds are read as such.
+fn reads_six_places(alloc: Global) -> Result<bool, FeedFault> {
+    let places = read_places(
+        alloc,
+        b"stop_id,location_type\nA,\nS,1\nB, 0 \nE,2\nT,1\n\" \",0\n",
+    )?;
+    Ok(has_six_places(&places))
+}
+
+#[test]
+fn stops_and_stations_are_numbered_apart(rt: HostRuntime) -> Result<(), Fail> {
+    assert!(rt; reads_six_places(rt.alloc())?);
+    Ok(())
+}
+
+// Whether the station S stands for the stops A and F, T for B, a stop for itself, and the entrance E for none.
+fn has_two_stations(places: &Places) -> bool {
+    stands_for(places, b"S", &[StopNo(0), StopNo(4)])
+        && stands_for(places, b"T", &[StopNo(1)])
+        && stands_for(places, b"A", &[StopNo(0)])
+        && stands_for(places, b"F", &[StopNo(4)])
+        && stands_for(places, b"E", &[])
+}
+
+// Whether two stations are read with their stops. B's parent comes later in the file, D's is a stop, C's is nowhere,
+// and the entrance E is no stop.
+fn reads_two_stations(alloc: Global) -> Result<bool, FeedFault> {
+    let places = read_places(
+        alloc,
+        b"stop_id,parent_station,location_type\nA,S,\nB,T,0\nS,,1\nT,,1\nC,Z,\nD,A,\nE,S,2\nF,S,0\n",
+    )?;
+    Ok(has_two_stations(&places))
+}
+
+#[test]
+fn a_station_stands_for_its_stops(rt: HostRuntime) -> Result<(), Fail> {
+    assert!(rt; reads_two_stations(rt.alloc())?);
+    Ok(())
+}
+
+// The fault of a file, none where it has none.
+fn fault_of(alloc: Global, bytes: &[u8]) -> Option<FeedFault>
+    requires { length bytes.now ≤ 1073741824 }
+{
+    read_places(alloc, bytes).err()
+}
+
+// A file is refused for this fault.
+fn expect_fault(rt: &impl Abort, alloc: Global, bytes: &'static [u8], at: u64, what: What)
+    requires { length bytes.now ≤ 1073741824 }
+{
+    let fault = fault_of(alloc, bytes);
+    assert_eq!(rt; fault, Some(FeedFault::at(FileName::Stops, at, what)));
+}
+
+#[test]
+fn refusals(rt: HostRuntime) {
+    let alloc = rt.alloc();
+    expect_fault(&rt, alloc, b"", 1, What::MissingColumn);
+    expect_fault(
+        &rt,
+        alloc,
+        b"stop,location_type\nA,\n",
+        1,
+        What::MissingColumn,
+    );
+    expect_fault(
+        &rt,
+        alloc,
+        b"stop_id,location_type\nA,\n,x\n",
+        3,
+        What::EmptyId,
+    );
+    expect_fault(
+        &rt,
+        alloc,
+        b"stop_id,location_type\nA,\nA,x\n",
+        3,
+        What::DuplicateId,
+    );
+    expect_fault(
+        &rt,
+        alloc,
+        b"stop_id,location_type\nA,1 0\n",
+        2,
+        What::BadNumber,
+    );
+}
+
+// The bytes of a file of so many stops.
+fn stops_file(alloc: Global, stops: u32) -> Result<Vec<u8>, AllocError> {
+    let mut bytes = Vec::from_slice(alloc, b"stop_id\n")?;
+    for stop in 0..stops {
+        let line = format!(in alloc; "{stop}\n")?;
+        bytes.extend_from_slice(line.as_bytes())?;
+    }
+    Ok(bytes)
+}
+
+// The fault of a file of so many stops.
+fn fault_of_many(alloc: Global, stops: u32) -> Result<Option<FeedFault>, AllocError> {
+    let bytes = stops_file(alloc, stops)?;
+    if bytes.len() > 1_073_741_824 {
+        return Ok(None);
+    }
+    Ok(fault_of(alloc, &bytes))
+}
+
+#[test]
+fn at_most_65_535_places(rt: HostRuntime) -> Result<(), Fail> {
+    let many = fault_of_many(rt.alloc(), 65_536)?;
+    assert_eq!(rt;
+        many,
+        Some(FeedFault::at(FileName::Stops, 65_537, What::TooMany))
+    );
+    Ok(())
+}

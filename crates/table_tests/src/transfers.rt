@@ -1,0 +1,141 @@
+//! The walks of `transfers.txt`.
+
+ghost use Rattle.std.specs.Prelude.{◌≤◌, length};
+
+use std::alloc::Global;
+use std::process::Abort;
+use std::test::Fail;
+use table_files::{Link, Place, Places, Transfers, read_places, read_transfers};
+use table_records::{FeedFault, FileName, What};
+use timetable::StopNo;
+
+// Stops A and B, station S with the stops B and C, the empty station T, and an entrance E.
+fn some_places(alloc: Global) -> Result<Places, FeedFault> {
+    read_places(
+        alloc,
+        b"stop_id,location_type,parent_station\nA,,\nB,,S\nS,1,\nC,0,S\nT,1,\nE,2,S\n",
+    )
+}
+
+// Whether the walks are these, and so many rows give none.
+fn has_links(transfers: &Transfers, links: &[Link], unused: u32) -> bool {
+    transfers.links.as_slice() == links && transfers.unused == unused
+}
+
+// Whether a file gives these walks, and so many of its rows give none.
+fn gives(alloc: Global, bytes: &[u8], links: &[Link], unused: u32) -> Result<bool, FeedFault>
+    requires { length bytes.now ≤ 1073741824 }
+{
+    let places = some_places(alloc)?;
+    let transfers = read_transfers(alloc, bytes, &places)?;
+    Ok(has_links(&transfers, links, unused))
+}
+
+#[test]
+fn stops_and_stations_are_linked(rt: HostRuntime) -> Result<(), Fail> {
+    let walk = Link {
+        origin: Place::Stop(StopNo(0)),
+        target: Place::Stop(StopNo(1)),
+        seconds: 60,
+        at: 2,
+    };
+    let change = Link {
+        origin: Place::Station(0),
+        target: Place::Station(0),
+        seconds: 30,
+        at: 3,
+    };
+    let short = Link {
+        origin: Place::Stop(StopNo(1)),
+        target: Place::Station(0),
+        seconds: 0,
+        at: 4,
+    };
+    let holds = gives(
+        rt.alloc(),
+        b"from_stop_id,to_stop_id,transfer_type,min_transfer_time\nA,B,2, 60 \nS,S,,30\nB,S,1,0\n",
+        &[walk, change, short],
+        0,
+    )?;
+    assert!(rt; holds);
+    Ok(())
+}
+
+#[test]
+fn rows_without_a_walk_are_counted(rt: HostRuntime) -> Result<(), Fail> {
+    let walk = Link {
+        origin: Place::Stop(StopNo(0)),
+        target: Place::Stop(StopNo(1)),
+        seconds: 60,
+        at: 10,
+    };
+    // A forbidden change, one of a route, one of a trip, no time, no stop, equal stops, a station without stops, an entrance.
+    let holds = gives(
+        rt.alloc(),
+        b"from_stop_id,to_stop_id,transfer_type,min_transfer_time,from_route_id,to_trip_id\n\
+A,B,3,60,,\nA,B,2,60,R1,\nA,Z,2,x,,T1\nA,B,2,  ,,\nA,,2,60,,\nA,A,2,60,,\nS,T,2,60,,\nE,A,2,60,,\nA,B,0,60,,\n",
+        &[walk],
+        8,
+    )?;
+    assert!(rt; holds);
+    Ok(())
+}
+
+#[test]
+fn no_column_and_no_record_is_needed(rt: HostRuntime) -> Result<(), Fail> {
+    let alloc = rt.alloc();
+    assert!(rt; gives(alloc, b"", &[], 0)?);
+    assert!(rt; gives(alloc, b"from_stop_id,to_stop_id\n", &[], 0)?);
+    assert!(rt; gives(alloc, b"x\ny\nz\n", &[], 2)?);
+    Ok(())
+}
+
+// The fault of a file with these records.
+fn fault_of(alloc: Global, bytes: &[u8]) -> Option<FeedFault> {
+    let places = some_places(alloc).ok()?;
+    if bytes.len() > 1_073_741_824 {
+        return None;
+    }
+    read_transfers(alloc, bytes, &places).err()
+}
+
+// A file is refused for this fault.
+fn expect_fault(rt: &impl Abort, alloc: Global, bytes: &'static [u8], at: u64, what: What)
+    requires { length bytes.now ≤ 1073741824 }
+{
+    let fault = fault_of(alloc, bytes);
+    assert_eq!(rt; fault, Some(FeedFault::at(FileName::Transfers, at, what)));
+}
+
+#[test]
+fn refusals(rt: HostRuntime) {
+    let alloc = rt.alloc();
+    expect_fault(
+        &rt,
+        alloc,
+        b"from_stop_id,to_stop_id,transfer_type,min_transfer_time\nA,B,2,60\n,,two,\n",
+        3,
+        What::BadNumber,
+    );
+    expect_fault(
+        &rt,
+        alloc,
+        b"from_stop_id,to_stop_id,transfer_type,min_transfer_time\nZ,Y,2,x\n",
+        2,
+        What::UnknownStop,
+    );
+    expect_fault(
+        &rt,
+        alloc,
+        b"from_stop_id,to_stop_id,transfer_type,min_transfer_time\nA,Y,,x\n",
+        2,
+        What::UnknownStop,
+    );
+    expect_fault(
+        &rt,
+        alloc,
+        b"from_stop_id,to_stop_id,transfer_type,min_transfer_time\nA,B,,60\nA,A,,x\n",
+        3,
+        What::BadNumber,
+    );
+}
