@@ -4,26 +4,26 @@ use gtfs_tables::{Feed, FeedBytes, FeedFault, FileName, What, read_feed};
 use std::alloc::Global;
 use std::process::Abort;
 
-pub const STOPS: &[u8] = b"stop_id,stop_name\nA,Alpha\nB,Beta\nC,Gamma\n";
+pub(crate) const STOPS: &[u8] = b"stop_id,stop_name\nA,Alpha\nB,Beta\nC,Gamma\n";
 
-pub const ROUTES: &[u8] = b"route_id,route_type\nR1,3\nR2,3\n";
+pub(crate) const ROUTES: &[u8] = b"route_id,route_type\nR1,3\nR2,3\n";
 
-pub const CALENDAR: &[u8] =
+pub(crate) const CALENDAR: &[u8] =
     b"service_id,monday,tuesday,wednesday,thursday,friday,saturday,sunday,start_date,end_date\nMON,1,0,0,0,0,0,0,20260504,20260531\n";
 
-pub const TRIPS: &[u8] = b"route_id,service_id,trip_id\nR1,MON,T1\nR2,MON,T2\n";
+pub(crate) const TRIPS: &[u8] = b"route_id,service_id,trip_id\nR1,MON,T1\nR2,MON,T2\n";
 
-pub const TIMES: &[u8] =
+pub(crate) const TIMES: &[u8] =
     b"trip_id,arrival_time,departure_time,stop_id,stop_sequence\nT1,08:00:00,08:00:00,A,1\nT1,08:10:00,08:10:00,B,2\nT2,08:15:00,08:15:00,B,1\nT2,08:30:00,08:30:00,C,2\n";
 
-pub const STATIONS: &[u8] =
+pub(crate) const STATIONS: &[u8] =
     b"stop_id,location_type,parent_station\nA,,S\nS,1,\nB,0,S\nC,,\nE,2,S\nT,1,\n";
 
-pub const TRANSFERS: &[u8] =
+pub(crate) const TRANSFERS: &[u8] =
     b"from_stop_id,to_stop_id,transfer_type,min_transfer_time\nA,B,2,60\nA,B,3,60\nS,C,,120\nT,C,2,60\nE,C,2,60\n";
 
 /// The small feed: two trips on Mondays in May 2026.
-pub fn small_feed() -> FeedBytes<'static> {
+pub(crate) fn small_feed() -> FeedBytes<'static> {
     FeedBytes {
         stops: Some(STOPS),
         routes: Some(ROUTES),
@@ -38,7 +38,7 @@ pub fn small_feed() -> FeedBytes<'static> {
 
 /// The small feed with the station S around its stops A and B, the empty station T, an entrance E, and five rows of
 /// `transfers.txt`, of which the first and the third give walks.
-pub fn station_feed() -> FeedBytes<'static> {
+pub(crate) fn station_feed() -> FeedBytes<'static> {
     FeedBytes {
         stops: Some(STATIONS),
         transfers: Some(TRANSFERS),
@@ -47,7 +47,7 @@ pub fn station_feed() -> FeedBytes<'static> {
 }
 
 /// The small feed with other files for its stops, trips and times.
-pub fn feed_of(
+pub(crate) fn feed_of(
     stops: &'static [u8],
     trips: &'static [u8],
     times: &'static [u8],
@@ -61,7 +61,7 @@ pub fn feed_of(
 }
 
 /// The feed of the files, none where they have a fault.
-pub fn feed_in(alloc: Global, files: FeedBytes<'_>) -> Option<Feed> {
+pub(crate) fn feed_in(alloc: Global, files: FeedBytes<'_>) -> Option<Feed> {
     if !files.fits() {
         return None;
     }
@@ -69,7 +69,7 @@ pub fn feed_in(alloc: Global, files: FeedBytes<'_>) -> Option<Feed> {
 }
 
 /// The fault of the files, none where they have none.
-pub fn fault_of(alloc: Global, files: FeedBytes<'_>) -> Option<FeedFault> {
+pub(crate) fn fault_of(alloc: Global, files: FeedBytes<'_>) -> Option<FeedFault> {
     if !files.fits() {
         return None;
     }
@@ -77,7 +77,7 @@ pub fn fault_of(alloc: Global, files: FeedBytes<'_>) -> Option<FeedFault> {
 }
 
 /// The files are refused for this fault.
-pub fn expect_fault(
+pub(crate) fn expect_fault(
     rt: &impl Abort,
     alloc: Global,
     files: FeedBytes<'_>,
