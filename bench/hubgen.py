@@ -3,9 +3,10 @@
 many others, so that every pair of stops is joined through the hub.
 
     hubgen.py FOLDER [STOPS]      1,974 stops beside the hub by default: 3,898,650 pairs within 120 seconds
+    ttm --feed FOLDER --footpaths FOLDER/footpaths.csv --origins FOLDER/origins.csv --walk 120 --date 20260504 ..
 """
+import argparse
 import os
-import sys
 
 
 def write(folder, name, header, rows):
@@ -15,8 +16,11 @@ def write(folder, name, header, rows):
 
 
 def main():
-    folder = sys.argv[1]
-    stops = int(sys.argv[2]) if len(sys.argv) > 2 else 1974
+    words = argparse.ArgumentParser(description=__doc__, formatter_class=argparse.RawDescriptionHelpFormatter)
+    words.add_argument("folder")
+    words.add_argument("stops", nargs="?", type=int, default=1974)
+    given = words.parse_args()
+    folder, stops = given.folder, given.stops
     os.makedirs(folder, exist_ok=True)
     names = ["S%d" % i for i in range(stops)]
     write(folder, "stops.txt", "stop_id", ["HUB"] + names)
@@ -26,6 +30,7 @@ def main():
     write(folder, "stop_times.txt", "trip_id,stop_id,stop_sequence", [])
     there = ["HUB,%s,60" % n for n in names]
     back = ["%s,HUB,60" % n for n in names]
+    write(folder, "origins.csv", "stop_id", ["HUB"])
     write(folder, "footpaths.csv", "from_stop_id,to_stop_id,seconds", there + back)
 
 
