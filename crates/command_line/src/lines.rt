@@ -102,7 +102,8 @@ pub fn path_line(alloc: Global, path: &str, fault: &ReadFault) -> Result<Vec<u8>
 
 /// The exit status where a file isn't read.
 pub fn path_status(fault: &ReadFault) -> u8
-    ensures { result ≡ spec.read_status fault.now }
+    ensures status { result ≡ spec.read_status fault.now }
+    ensures no_success { 1 ≤ result }
 {
     match fault {
         ReadFault::Read => NOT_MOVED,

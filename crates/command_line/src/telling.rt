@@ -1,8 +1,9 @@
 //! Telling a fault: one line on the error stream, and the exit status.
 
-ghost use Rattle.std.specs.Prelude.{◌≡◌};
+ghost use Rattle.std.specs.Prelude.{◌≡◌, IfErr, IfOk};
 ghost use Rattle.std.specs.Process.{exit_status};
 ghost use Rattle.matrix_text.specs.Prefixes.{PutsPrefix};
+ghost use Rattle.command_line.specs.Lines as spec;
 
 use matrix_text::put_all;
 use std::alloc::AllocError;
@@ -15,16 +16,19 @@ const NO_MEMORY: &[u8] = b"ttm: out of memory\n";
 /// The exit status where memory is short.
 const SHORT: u8 = 3;
 
-/// Tells that memory is short.
+/// Tells that memory is short, as far as the line can be put out.
 pub fn tell_short<E: Write>(err: &mut E) -> ExitCode
-    ensures { exit_status result ≡ 3 }
+    ensures status { exit_status result ≡ 3 }
+    ensures line { PutsPrefix (E.contents err.old) (E.contents err.new) (spec.line spec.no_memory) }
 {
     tell(NO_MEMORY, SHORT, err)
 }
 
-/// Tells by a line, or that there was no memory for it; the status stays.
+/// Tells by a line, or that there was no memory for it, as far as it can be put out; the status stays.
 pub fn tell_made<E: Write>(line: Result<Vec<u8>, AllocError>, status: u8, err: &mut E) -> ExitCode
-    ensures { exit_status result ≡ status }
+    ensures status { exit_status result ≡ status }
+    ensures line { IfOk line (λ made. PutsPrefix (E.contents err.old) (E.contents err.new) made.items) }
+    ensures short { IfErr line (λ _. PutsPrefix (E.contents err.old) (E.contents err.new) (spec.line spec.no_memory)) }
 {
     match line {
         Ok(line) => tell(&line, status, err),

@@ -1,8 +1,11 @@
 //! The files that a study names, read whole from the disk.
 
-ghost use Rattle.std.specs.Prelude.{◌≡◌, option_map};
+ghost use Rattle.std.specs.Prelude.{◌≡◌, ◌≤◌, IfErr, option_map};
+ghost use Rattle.std.specs.Process.{exit_status};
+ghost use Rattle.command_line.specs.Lines.{line, path_rest, read_status};
 ghost use Rattle.studies.specs.FeedFiles.{files_read};
 ghost use Rattle.studies.specs.Inputs.{inputs_of};
+ghost use Rattle.ttm.specs.Answers.{TellsLine};
 
 use command_line::{
     ReadFault, Task, path_in, path_line, path_status, read_all, scenario_of, tell_made, tell_short,
@@ -47,7 +50,9 @@ pub(crate) fn feed_files<E: Write>(
     rt: &HostRuntime,
     folder: &str,
     err: &mut E,
-) -> Result<FeedFiles, ExitCode> {
+) -> Result<FeedFiles, ExitCode>
+    ensures refused { IfErr result (λ code. 1 ≤ exit_status code) }
+{
     let mut files = FeedFiles::none();
     match fill_feed(rt, folder, &mut files, err) {
         Ok(()) => Ok(files),
@@ -61,7 +66,9 @@ fn fill_feed<E: Write>(
     folder: &str,
     files: &mut FeedFiles,
     err: &mut E,
-) -> Result<(), ExitCode> {
+) -> Result<(), ExitCode>
+    ensures refused { IfErr result (λ code. 1 ≤ exit_status code) }
+{
     fill(rt, folder, "stops.txt", &mut files.stops, err)?;
     fill(rt, folder, "routes.txt", &mut files.routes, err)?;
     fill(rt, folder, "calendar.txt", &mut files.calendar, err)?;
@@ -85,7 +92,9 @@ fn fill<E: Write>(
     name: &str,
     place: &mut Option<Vec<u8>>,
     err: &mut E,
-) -> Result<(), ExitCode> {
+) -> Result<(), ExitCode>
+    ensures refused { IfErr result (λ code. 1 ≤ exit_status code) }
+{
     match path_in(rt.alloc(), folder, name) {
         Ok(path) => {
             *place = found(rt, path.as_str(), err)?;
@@ -100,7 +109,9 @@ pub(crate) fn own_files<E: Write>(
     rt: &HostRuntime,
     task: &Task,
     err: &mut E,
-) -> Result<OwnFiles, ExitCode> {
+) -> Result<OwnFiles, ExitCode>
+    ensures refused { IfErr result (λ code. 1 ≤ exit_status code) }
+{
     let mut files = OwnFiles {
         footpaths: None,
         origins: None,
@@ -118,7 +129,9 @@ fn fill_own<E: Write>(
     task: &Task,
     files: &mut OwnFiles,
     err: &mut E,
-) -> Result<(), ExitCode> {
+) -> Result<(), ExitCode>
+    ensures refused { IfErr result (λ code. 1 ≤ exit_status code) }
+{
     own_file(rt, &task.footpaths, &mut files.footpaths, err)?;
     own_file(rt, &task.origins, &mut files.origins, err)?;
     own_file(rt, &task.opportunities, &mut files.opportunities, err)
@@ -130,7 +143,9 @@ pub(crate) fn own_file<E: Write>(
     path: &Option<String>,
     place: &mut Option<Vec<u8>>,
     err: &mut E,
-) -> Result<(), ExitCode> {
+) -> Result<(), ExitCode>
+    ensures refused { IfErr result (λ code. 1 ≤ exit_status code) }
+{
     if let Some(path) = path {
         *place = Some(there(rt, path.as_str(), err)?);
     }
@@ -142,7 +157,9 @@ pub(crate) fn scenario_files<E: Write>(
     rt: &HostRuntime,
     paths: &[String],
     err: &mut E,
-) -> Result<Vec<NamedFile>, ExitCode> {
+) -> Result<Vec<NamedFile>, ExitCode>
+    ensures refused { IfErr result (λ code. 1 ≤ exit_status code) }
+{
     let mut files = Vec::new(rt.alloc());
     for path in paths {
         let bytes = there(rt, path.as_str(), err)?;
@@ -157,7 +174,9 @@ pub(crate) fn scenario_files<E: Write>(
 }
 
 /// A file that has to be there.
-fn there<E: Write>(rt: &HostRuntime, path: &str, err: &mut E) -> Result<Vec<u8>, ExitCode> {
+fn there<E: Write>(rt: &HostRuntime, path: &str, err: &mut E) -> Result<Vec<u8>, ExitCode>
+    ensures refused { IfErr result (λ code. 1 ≤ exit_status code) }
+{
     match found(rt, path, err)? {
         Some(bytes) => Ok(bytes),
         None => Err(not_read(rt, path, &ReadFault::Read, err)),
@@ -165,7 +184,9 @@ fn there<E: Write>(rt: &HostRuntime, path: &str, err: &mut E) -> Result<Vec<u8>,
 }
 
 /// A file, if it is found.
-fn found<E: Write>(rt: &HostRuntime, path: &str, err: &mut E) -> Result<Option<Vec<u8>>, ExitCode> {
+fn found<E: Write>(rt: &HostRuntime, path: &str, err: &mut E) -> Result<Option<Vec<u8>>, ExitCode>
+    ensures refused { IfErr result (λ code. 1 ≤ exit_status code) }
+{
     match read_path(rt, path) {
         Ok(bytes) => Ok(bytes),
         Err(fault) => Err(not_read(rt, path, &fault, err)),
@@ -188,6 +209,10 @@ fn read_path<R: Files + AllocGlobal>(rt: &R, path: &str) -> Result<Option<Vec<u8
 }
 
 /// Tells why a file isn't read.
-fn not_read<E: Write>(rt: &HostRuntime, path: &str, fault: &ReadFault, err: &mut E) -> ExitCode {
+fn not_read<E: Write>(rt: &HostRuntime, path: &str, fault: &ReadFault, err: &mut E) -> ExitCode
+    ensures status { exit_status result ≡ read_status fault.now }
+    ensures no_success { 1 ≤ exit_status result }
+    ensures line { TellsLine (E.contents err.old) (E.contents err.new) (line (path_rest path.now fault.now)) }
+{
     tell_made(path_line(rt.alloc(), path, fault), path_status(fault), err)
 }

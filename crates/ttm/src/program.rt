@@ -2,11 +2,12 @@
 //!
 //! A fault is told by one line on the standard error, and by the exit status. Nothing but the whole matrix is a success.
 
-ghost use Rattle.std.specs.Prelude.{◌≡◌, ℕ, List};
-ghost use Rattle.std.specs.Io.KnownBytes.{Appends};
+ghost use Rattle.std.specs.Prelude.{◌≡◌, ◌≤◌, List, map, string_bytes};
 ghost use Rattle.std.specs.Process.{exit_status};
-ghost use Rattle.studies.specs.Inputs.{inputs_of};
-ghost use Rattle.studies.specs.Study.{IsStudyText};
+ghost use Rattle.clap.specs.Words.{Text};
+ghost use Rattle.studies.specs.Inputs.{AreWithinLimit, inputs_of};
+ghost use Rattle.studies.specs.Settings.{SettingsFit};
+ghost use Rattle.ttm.specs.Answers as spec;
 
 use crate::disk::{OwnFiles, feed_files, inputs_from, own_files, scenario_files};
 use crate::example::example_feed;
@@ -16,6 +17,7 @@ use command_line::{
 };
 use jiff::civil::Date;
 use matrix_text::put_all;
+use std::alloc::Global;
 use std::env;
 use std::io::{ErrorKind, Write};
 use std::process::ExitCode;
@@ -31,22 +33,41 @@ const NOT_WRITTEN: u8 = 5;
 /// The origins of the study that the program carries.
 const EXAMPLE_ORIGINS: &[u8] = b"stop_id\nA\n";
 
-/// What the program does, with the words after its name or without any.
-pub(crate) fn run<O: Write, E: Write>(rt: &HostRuntime, out: &mut O, err: &mut E) -> ExitCode {
+/// What the program does.
+pub(crate) fn run<O: Write, E: Write>(rt: &HostRuntime, out: &mut O, err: &mut E) -> ExitCode
+    ensures success { exit_status result ≡ 0 → (words : List Text) × spec.EndsWell words (O.contents out.old) (O.contents out.new) }
+{
     let words = match env::args(rt) {
         Ok(words) => words,
         Err(error) if error.kind() == ErrorKind::OutOfMemory => return tell_short(err),
         Err(_) => return tell(b"ttm: words that are not UTF-8\n", WRONG_WORDS, err),
     };
     match words.collect::<Vec<String>>(rt.alloc()) {
-        Ok(words) if words.len() <= 1 => example(rt, out, err),
-        Ok(words) => asked(rt, &words, out, err),
+        Ok(words) => told(rt, &words, out, err),
         Err(_) => tell_short(err),
     }
 }
 
+/// What the program does, told by its words: its name, and those after it.
+pub(crate) fn told<O: Write, E: Write>(
+    rt: &HostRuntime,
+    words: &[String],
+    out: &mut O,
+    err: &mut E,
+) -> ExitCode
+    ensures success { exit_status result ≡ 0 → spec.EndsWell (map string_bytes words.now) (O.contents out.old) (O.contents out.new) }
+{
+    if words.len() <= 1 {
+        example(rt, out, err)
+    } else {
+        asked(rt, words, out, err)
+    }
+}
+
 /// The study that the program carries: one minute from stop A of the small feed, by at most two rides.
-fn example<O: Write, E: Write>(rt: &HostRuntime, out: &mut O, err: &mut E) -> ExitCode {
+fn example<O: Write, E: Write>(rt: &HostRuntime, out: &mut O, err: &mut E) -> ExitCode
+    ensures success { exit_status result ≡ 0 → (s : Settings) × spec.IsMade s (O.contents out.old) (O.contents out.new) }
+{
     let settings = Settings {
         date: Date::constant(2026, 5, 4),
         back: 1,
@@ -76,7 +97,9 @@ fn asked<O: Write, E: Write>(
     words: &[String],
     out: &mut O,
     err: &mut E,
-) -> ExitCode {
+) -> ExitCode
+    ensures success { exit_status result ≡ 0 → spec.Succeeds (map string_bytes words.now) (O.contents out.old) (O.contents out.new) }
+{
     match task_of(rt.alloc(), words) {
         Ok(task) => {
             let code = study(rt, &task, out, err);
@@ -99,7 +122,9 @@ fn asked<O: Write, E: Write>(
 }
 
 /// The study of a task. The files are read in the order in which they are looked at: first those of the feed.
-fn study<O: Write, E: Write>(rt: &HostRuntime, task: &Task, out: &mut O, err: &mut E) -> ExitCode {
+fn study<O: Write, E: Write>(rt: &HostRuntime, task: &Task, out: &mut O, err: &mut E) -> ExitCode
+    ensures success { exit_status result ≡ 0 → spec.IsMade task.now.settings (O.contents out.old) (O.contents out.new) }
+{
     match feed_files(rt, task.feed.as_str(), err) {
         Ok(feed) => study_of_feed(rt, task, &feed, out, err),
         Err(code) => code,
@@ -113,7 +138,9 @@ fn study_of_feed<O: Write, E: Write>(
     feed: &FeedFiles,
     out: &mut O,
     err: &mut E,
-) -> ExitCode {
+) -> ExitCode
+    ensures success { exit_status result ≡ 0 → spec.IsMade task.now.settings (O.contents out.old) (O.contents out.new) }
+{
     match own_files(rt, task, err) {
         Ok(own) => study_of_tables(rt, task, feed, &own, out, err),
         Err(code) => code,
@@ -128,7 +155,9 @@ fn study_of_tables<O: Write, E: Write>(
     own: &OwnFiles,
     out: &mut O,
     err: &mut E,
-) -> ExitCode {
+) -> ExitCode
+    ensures success { exit_status result ≡ 0 → spec.IsMade task.now.settings (O.contents out.old) (O.contents out.new) }
+{
     match scenario_files(rt, task.scenarios.as_slice(), err) {
         Ok(scenarios) => {
             let inputs = inputs_from(feed, own, scenarios.as_slice());
@@ -146,18 +175,31 @@ fn answer<O: Write, E: Write>(
     out: &mut O,
     err: &mut E,
 ) -> ExitCode
-    ensures success { exit_status result ≡ 0 → (text : List ℕ) × IsStudyText (inputs_of inputs.now) settings.now text × Appends (O.contents out.old) (O.contents out.new) text }
+    ensures success { exit_status result ≡ 0 → spec.IsPrinted (inputs_of inputs.now) settings.now (O.contents out.old) (O.contents out.new) }
+    ensures answered { AreWithinLimit (inputs_of inputs.now) → SettingsFit settings.now → spec.IsAnswered inputs.now settings.now (O.contents out.old) (O.contents out.new) (E.contents err.old) (E.contents err.new) (exit_status result) }
 {
     // `read_all` and `task_of` have seen to both; the test is what the condition of `run_study` is proved by.
     if !inputs.fits() || !settings.fits() {
         return tell(b"ttm: too long\n", WRONG_WORDS, err);
     }
-    let fault = match run_study(rt.alloc(), inputs, settings, &Open) {
+    match run_study(rt.alloc(), inputs, settings, &Open) {
         Ok(text) => match put_all(&text, out) {
-            Ok(()) => return ExitCode::SUCCESS,
-            Err(fault) => StudyFault::Text(fault),
+            Ok(()) => ExitCode::SUCCESS,
+            Err(fault) => tell_why(rt.alloc(), &StudyFault::Text(fault), inputs, err),
         },
-        Err(fault) => fault,
-    };
-    tell_made(fault_line(rt.alloc(), &fault, inputs), status(&fault), err)
+        Err(fault) => tell_why(rt.alloc(), &fault, inputs, err),
+    }
+}
+
+/// Tells why the matrix isn't out.
+fn tell_why<E: Write>(
+    alloc: Global,
+    fault: &StudyFault,
+    inputs: &Inputs<'_>,
+    err: &mut E,
+) -> ExitCode
+    ensures told { spec.IsTold fault.now inputs.now (E.contents err.old) (E.contents err.new) (exit_status result) }
+    ensures no_success { 1 ≤ exit_status result }
+{
+    tell_made(fault_line(alloc, fault, inputs), status(fault), err)
 }
