@@ -14,6 +14,8 @@ mod disk_tests;
 mod example;
 mod program;
 #[cfg(test)]
+mod program_tests;
+#[cfg(test)]
 mod refusal_tests;
 #[cfg(test)]
 mod row_feeds;

@@ -1,0 +1,141 @@
+//! Whole runs of the program, told by their words: what its two outputs hold, and its exit status.
+
+use crate::example::example_feed;
+use crate::program::told;
+use std::alloc::{AllocError, Global};
+use std::process::ExitCode;
+use std::test::Fail;
+use std::{fs, io};
+
+/// A folder that is there for the length of a test.
+const FOLDER: &str = "feed_of_whole_runs";
+
+/// What is asked: one minute, without walks, by at most two rides.
+const ASKED: &str =
+    "--date 20260504 --from 08:00 --to 08:00 --trips 2 --walk 0 --share 50 --within 1800 --workers 1 --tries 1";
+
+/// The origins and the scenario file of the folder.
+const OWN_FILES: &str = "--origins feed_of_whole_runs/origins.csv feed_of_whole_runs/cut.csv";
+
+/// From every stop at 08:00: nothing leaves C, and nothing comes to A.
+const FROM_ALL: &[u8] = b"scenario,origin,access,A,B,C
+base,A,3,0,600,1800
+base,B,2,,0,1800
+base,C,1,,,0
+";
+
+/// From A, with T2 and without it.
+const WITHOUT_T2: &[u8] = b"scenario,origin,access,A,B,C
+base,A,3,0,600,1800
+cut,A,2,0,600,
+";
+
+const EXAMPLE: &[u8] = b"scenario,origin,access,A,B,C
+base,A,3,0,600,1800
+";
+
+/// Writes a file of the folder, if there is one.
+fn write(rt: &HostRuntime, name: &str, bytes: Option<&[u8]>) -> io::Result<()> {
+    let path = format!(in rt.alloc(); "{FOLDER}/{name}")?;
+    match bytes {
+        Some(bytes) => fs::write(rt, path.as_str(), bytes),
+        None => Ok(()),
+    }
+}
+
+/// Writes the small feed, an origin and a scenario.
+fn write_files(rt: &HostRuntime) -> io::Result<()> {
+    let feed = example_feed();
+    fs::create_dir_all(rt, FOLDER)?;
+    write(rt, "stops.txt", feed.stops)?;
+    write(rt, "routes.txt", feed.routes)?;
+    write(rt, "calendar.txt", feed.calendar)?;
+    write(rt, "trips.txt", feed.trips)?;
+    write(rt, "stop_times.txt", feed.stop_times)?;
+    write(rt, "origins.csv", Some(b"stop_id\nA\n"))?;
+    write(rt, "cut.csv", Some(b"action,id,seconds\nremove_trip,T2,\n"))
+}
+
+/// The words of a line, which spaces part.
+fn words_of(alloc: Global, line: &str) -> Result<Vec<String>, AllocError> {
+    let mut words = Vec::new(alloc);
+    for word in line.split(' ') {
+        if !word.is_empty() {
+            words.push(String::from_str(alloc, word)?)?;
+        }
+    }
+    Ok(words)
+}
+
+/// Whether a run with these words prints and tells this, and ends with this status.
+fn leaves(
+    rt: &HostRuntime,
+    line: &str,
+    printed: &[u8],
+    fault: &[u8],
+    status: u8,
+) -> io::Result<bool> {
+    let mut out = Vec::new(rt.alloc());
+    let mut err = Vec::new(rt.alloc());
+    let words = words_of(rt.alloc(), line)?;
+    let code = told(rt, &words, &mut out, &mut err);
+    Ok(code == ExitCode::from(status) && out.as_slice() == printed && err.as_slice() == fault)
+}
+
+/// Whether a study of a folder, with further words, prints and tells this, and ends with this status.
+fn study_leaves(
+    rt: &HostRuntime,
+    folder: &str,
+    rest: &str,
+    printed: &[u8],
+    fault: &[u8],
+    status: u8,
+) -> io::Result<bool> {
+    let line = format!(in rt.alloc(); "ttm --feed {folder} {ASKED} {rest}")?;
+    leaves(rt, line.as_str(), printed, fault, status)
+}
+
+/// Whether each of these runs leaves what it should.
+fn are_right(rt: &HostRuntime) -> io::Result<bool> {
+    let cases: [(&str, &str, &[u8], &[u8], u8); 6] = [
+        (FOLDER, "", FROM_ALL, b"", 0),
+        (FOLDER, OWN_FILES, WITHOUT_T2, b"", 0),
+        (FOLDER, "--back 7", b"", b"ttm: bad back\n", 2),
+        (
+            "no_such_folder",
+            "",
+            b"",
+            b"ttm: stops.txt: missing file\n",
+            2,
+        ),
+        (
+            FOLDER,
+            "--footpaths none.csv",
+            b"",
+            b"ttm: none.csv: read fault\n",
+            5,
+        ),
+        (FOLDER, "none.csv", b"", b"ttm: none.csv: read fault\n", 5),
+    ];
+    for (folder, rest, printed, fault, status) in &cases {
+        if !study_leaves(rt, folder, rest, printed, fault, *status)? {
+            return Ok(false);
+        }
+    }
+    Ok(true)
+}
+
+#[test]
+fn a_run_ends_in_a_matrix_or_a_line(rt: HostRuntime) -> Result<(), Fail> {
+    write_files(&rt)?;
+    let are_right = are_right(&rt);
+    fs::remove_dir_all(&rt, FOLDER)?;
+    assert!(rt; are_right?);
+    Ok(())
+}
+
+#[test]
+fn without_words_the_small_feed_is_answered(rt: HostRuntime) -> Result<(), Fail> {
+    assert!(rt; leaves(&rt, "ttm", EXAMPLE, b"", 0)?);
+    Ok(())
+}
