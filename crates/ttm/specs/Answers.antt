@@ -58,13 +58,17 @@ IsAnswered i s out printed err told status =
 abbrev pub IsMade : Settings → Option (List ℕ) → Option (List ℕ) → Type 0
 IsMade s out printed = (i : InputFiles) × IsPrinted i s out printed
 
--- the words ask for no study, and that is no fault: they ask for help
-abbrev pub AskForHelp : List Text → Type 0
-AskForHelp words = (e : WordFault) × TellsWords e words × (word_status_of e ≡ 0)
+-- the words ask for no study, and that is no fault: they ask for help, and the whole of a text is out
+pub record IsHelped (words : List Text) (out printed : Option (List ℕ)) : Type 0 where
+  pub fault : WordFault
+  pub told : TellsWords fault words
+  pub no_fault : word_status_of fault ≡ 0
+  pub text : List ℕ
+  pub whole : Appends out printed text
 
--- the whole matrix of the settings that the words ask for is out, or they ask for help
+-- the whole matrix of the settings that the words ask for is out, or the help that they ask for
 abbrev pub Succeeds : List Text → Option (List ℕ) → Option (List ℕ) → Type 0
-Succeeds words out printed = ((s : Settings) × IsAsked (rows_of_words words) s × IsMade s out printed) ⊎ AskForHelp words
+Succeeds words out printed = ((s : Settings) × IsAsked (rows_of_words words) s × IsMade s out printed) ⊎ IsHelped words out printed
 
 -- without words but the program's name, the whole matrix of some settings of its own is out; with words they succeed
 abbrev pub EndsWell : List Text → Option (List ℕ) → Option (List ℕ) → Type 0

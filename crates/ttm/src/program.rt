@@ -2,7 +2,8 @@
 //!
 //! A fault is told by one line on the standard error, and by the exit status. Nothing but the whole matrix is a success.
 
-ghost use Rattle.std.specs.Prelude.{◌≡◌, ◌≤◌, List, map, string_bytes};
+ghost use Rattle.std.specs.Prelude.{◌≡◌, ◌≤◌, ℕ, List, map, string_bytes};
+ghost use Rattle.std.specs.Io.KnownBytes.{Appends};
 ghost use Rattle.std.specs.Process.{exit_status};
 ghost use Rattle.clap.specs.Words.{Text};
 ghost use Rattle.studies.specs.Inputs.{AreWithinLimit, inputs_of};
@@ -11,6 +12,7 @@ ghost use Rattle.ttm.specs.Answers as spec;
 
 use crate::disk::{OwnFiles, feed_files, inputs_from, own_files, scenario_files};
 use crate::example::example_feed;
+use clap::Error;
 use command_line::{
     Task, WordFault, bad_line, fault_line, status, task_of, tell, tell_made, tell_short,
     word_status,
@@ -109,15 +111,38 @@ fn asked<O: Write, E: Write>(
         Err(fault) => {
             let code = word_status(&fault);
             match fault {
-                // Help goes to the standard output. Where it can't be written that is no success.
-                WordFault::Words(error) => match error.print(rt) {
-                    Ok(()) => ExitCode::from(code),
-                    Err(_) => tell(b"ttm: write fault\n", NOT_WRITTEN, err),
-                },
+                WordFault::Words(error) => tell_words(rt.alloc(), &error, code, out, err),
                 WordFault::Bad(option) => tell(bad_line(option), code, err),
                 WordFault::Memory => tell_short(err),
             }
         }
+    }
+}
+
+/// Puts out what `clap` says to words that ask for no study: its help, or what is wrong with them.
+fn tell_words<O: Write, E: Write>(
+    alloc: Global,
+    error: &Error,
+    code: u8,
+    out: &mut O,
+    err: &mut E,
+) -> ExitCode
+    ensures help { exit_status result ≡ 0 → (code ≡ 0) × ((text : List ℕ) × Appends (O.contents out.old) (O.contents out.new) text) }
+{
+    match format!(in alloc; "{error}") {
+        Ok(text) if code == 0 => put_help(text.as_bytes(), out, err),
+        Ok(text) => tell(text.as_bytes(), code, err),
+        Err(_) => tell_short(err),
+    }
+}
+
+/// Puts out the help. Where it can't be written that is no success.
+fn put_help<O: Write, E: Write>(text: &[u8], out: &mut O, err: &mut E) -> ExitCode
+    ensures help { exit_status result ≡ 0 → Appends (O.contents out.old) (O.contents out.new) text.now }
+{
+    match put_all(text, out) {
+        Ok(()) => ExitCode::SUCCESS,
+        Err(_) => tell(b"ttm: write fault\n", NOT_WRITTEN, err),
     }
 }
 

@@ -14,6 +14,9 @@ const FOLDER: &str = "feed_of_whole_runs";
 const ASKED: &str =
     "--date 20260504 --from 08:00 --to 08:00 --trips 2 --walk 0 --share 50 --within 1800 --workers 1 --tries 1";
 
+/// A file in the folder.
+const ORIGINS: &str = "feed_of_whole_runs/origins.csv";
+
 /// The origins and the scenario file of the folder.
 const OWN_FILES: &str = "--origins feed_of_whole_runs/origins.csv feed_of_whole_runs/cut.csv";
 
@@ -32,6 +35,16 @@ cut,A,2,0,600,
 
 const EXAMPLE: &[u8] = b"scenario,origin,access,A,B,C
 base,A,3,0,600,1800
+";
+
+/// What a word that is no option is told by.
+const NO_OPTION: &[u8] = b"error: unexpected argument '--nothing' found
+
+  tip: a similar argument exists: '--within'
+
+Usage: ttm --feed <DIR> --date <YYYYMMDD> --from <HH:MM> --to <HH:MM> --trips <K> --walk <S> --share <P> --within <S> --workers <N> --tries <N> [SCENARIO]...
+
+For more information, try '--help'.
 ";
 
 /// Writes a file of the folder, if there is one.
@@ -97,7 +110,7 @@ fn study_leaves(
 
 /// Whether each of these runs leaves what it should.
 fn are_right(rt: &HostRuntime) -> io::Result<bool> {
-    let cases: [(&str, &str, &[u8], &[u8], u8); 6] = [
+    let cases: [(&str, &str, &[u8], &[u8], u8); 8] = [
         (FOLDER, "", FROM_ALL, b"", 0),
         (FOLDER, OWN_FILES, WITHOUT_T2, b"", 0),
         (FOLDER, "--back 7", b"", b"ttm: bad back\n", 2),
@@ -116,6 +129,21 @@ fn are_right(rt: &HostRuntime) -> io::Result<bool> {
             5,
         ),
         (FOLDER, "none.csv", b"", b"ttm: none.csv: read fault\n", 5),
+        // a folder in place of a file, and a file in place of the folder
+        (
+            FOLDER,
+            FOLDER,
+            b"",
+            b"ttm: feed_of_whole_runs: read fault\n",
+            5,
+        ),
+        (
+            ORIGINS,
+            "",
+            b"",
+            b"ttm: feed_of_whole_runs/origins.csv/stops.txt: read fault\n",
+            5,
+        ),
     ];
     for (folder, rest, printed, fault, status) in &cases {
         if !study_leaves(rt, folder, rest, printed, fault, *status)? {
@@ -137,5 +165,26 @@ fn a_run_ends_in_a_matrix_or_a_line(rt: HostRuntime) -> Result<(), Fail> {
 #[test]
 fn without_words_the_small_feed_is_answered(rt: HostRuntime) -> Result<(), Fail> {
     assert!(rt; leaves(&rt, "ttm", EXAMPLE, b"", 0)?);
+    Ok(())
+}
+
+#[test]
+fn a_word_that_is_no_option_is_told(rt: HostRuntime) -> Result<(), Fail> {
+    assert!(rt; leaves(&rt, "ttm --nothing", b"", NO_OPTION, 2)?);
+    Ok(())
+}
+
+/// Whether a run that asks for help prints a text that begins so, tells nothing and ends with status 0.
+fn helps(rt: &HostRuntime, beginning: &[u8]) -> io::Result<bool> {
+    let mut out = Vec::new(rt.alloc());
+    let mut err = Vec::new(rt.alloc());
+    let words = words_of(rt.alloc(), "ttm --help")?;
+    let code = told(rt, &words, &mut out, &mut err);
+    Ok(code == ExitCode::SUCCESS && out.starts_with(beginning) && err.is_empty())
+}
+
+#[test]
+fn help_goes_to_the_output(rt: HostRuntime) -> Result<(), Fail> {
+    assert!(rt; helps(&rt, b"Travel time matrices over a GTFS feed")?);
     Ok(())
 }
