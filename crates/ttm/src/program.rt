@@ -1,6 +1,7 @@
 //! The program: words name files, the files and settings are a study, and its matrix goes to the standard output.
 //!
-//! A fault is told by one line on the standard error, and by the exit status. Nothing but the whole matrix is a success.
+//! A fault is told by one line on the standard error, and by the exit status. Nothing but the whole matrix, or the
+//! help that was asked for, is a success.
 
 ghost use Rattle.std.specs.Prelude.{◌≡◌, ◌≤◌, ℕ, List, map, string_bytes};
 ghost use Rattle.std.specs.Io.KnownBytes.{Appends};
@@ -45,13 +46,13 @@ pub(crate) fn run<O: Write, E: Write>(rt: &HostRuntime, out: &mut O, err: &mut E
         Err(_) => return tell(b"ttm: words that are not UTF-8\n", WRONG_WORDS, err),
     };
     match words.collect::<Vec<String>>(rt.alloc()) {
-        Ok(words) => told(rt, &words, out, err),
+        Ok(words) => run_words(rt, &words, out, err),
         Err(_) => tell_short(err),
     }
 }
 
-/// What the program does, told by its words: its name, and those after it.
-pub(crate) fn told<O: Write, E: Write>(
+/// What the program does with its words: its name, and those after it.
+pub(crate) fn run_words<O: Write, E: Write>(
     rt: &HostRuntime,
     words: &[String],
     out: &mut O,

@@ -1,7 +1,7 @@
-//! Whole runs of the program, told by their words: what its two outputs hold, and its exit status.
+//! Whole runs of the program, from its words and the files on a disk: what its two outputs hold, and its exit status.
 
 use crate::example::example_feed;
-use crate::program::told;
+use crate::program::run_words;
 use std::alloc::{AllocError, Global};
 use std::process::ExitCode;
 use std::test::Fail;
@@ -91,7 +91,7 @@ fn leaves(
     let mut out = Vec::new(rt.alloc());
     let mut err = Vec::new(rt.alloc());
     let words = words_of(rt.alloc(), line)?;
-    let code = told(rt, &words, &mut out, &mut err);
+    let code = run_words(rt, &words, &mut out, &mut err);
     Ok(code == ExitCode::from(status) && out.as_slice() == printed && err.as_slice() == fault)
 }
 
@@ -179,7 +179,7 @@ fn helps(rt: &HostRuntime, beginning: &[u8]) -> io::Result<bool> {
     let mut out = Vec::new(rt.alloc());
     let mut err = Vec::new(rt.alloc());
     let words = words_of(rt.alloc(), "ttm --help")?;
-    let code = told(rt, &words, &mut out, &mut err);
+    let code = run_words(rt, &words, &mut out, &mut err);
     Ok(code == ExitCode::SUCCESS && out.starts_with(beginning) && err.is_empty())
 }
 

@@ -1,6 +1,6 @@
 use Rattle.std.proofs.Common.{inl, arith, string_bytes}
 use Rattle.std.proofs.lemmas.List.{length-map}
-use Rattle.ttm.proofs.program.told.Goals as goal
+use Rattle.ttm.proofs.program.run_words.Goals as goal
 
 pub returns-then-words-le1 : goal.returns-then-words-le1
 returns-then-words-le1 g c =
