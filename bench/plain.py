@@ -77,11 +77,25 @@ class Feed:
         """The stops that an end of a walk stands for."""
         return {0: [place], 1: self.children[place]}.get(self.kind[place], [])
 
+    def transfers(self):
+        """The rows of transfers.txt that state a time for all routes and trips."""
+        return [r for r in rows(self.path("transfers.txt"))
+                if number(r, "transfer_type") <= 2 and (r.get("min_transfer_time") or "").strip()
+                and not any(r.get(way + kind) for way in ("from_", "to_") for kind in ("route_id", "trip_id"))]
+
+    def change_times(self):
+        """Of each stop the greatest time that a row of type 2 states from it, or from its station, to itself."""
+        changes = [0] * len(self.stops)
+        for r in self.transfers():
+            if number(r, "transfer_type") == 2 and r["from_stop_id"] == r["to_stop_id"]:
+                for stop in self.ends(r["from_stop_id"]):
+                    changes[self.stop_no[stop]] = max(changes[self.stop_no[stop]], int(r["min_transfer_time"]))
+        return changes
+
     def direct_footpaths(self, own):
         """The least seconds of each pair of different stops that a row gives."""
         least = {}
-        walks = [(r["from_stop_id"], r["to_stop_id"], r["min_transfer_time"]) for r in rows(self.path("transfers.txt"))
-                 if number(r, "transfer_type") <= 2 and (r.get("min_transfer_time") or "").strip()]
+        walks = [(r["from_stop_id"], r["to_stop_id"], r["min_transfer_time"]) for r in self.transfers()]
         walks += [(r["from_stop_id"], r["to_stop_id"], r["seconds"]) for r in (rows(own) if own else [])]
         for origin, target, time in walks:
             for a in self.ends(origin):
@@ -139,21 +153,24 @@ def network(feed, options, scenario):
     return runs
 
 
-def walked(ride, feet):
-    ready = ride[:]
+def walked(ride, stayed, feet):
+    """The times after at most one walk from where rides ended; who doesn't walk has those of `stayed`."""
+    times = stayed[:]
     for stop, time in enumerate(ride):
         if time < NEVER:
             for target, more in feet[stop]:
-                ready[target] = min(ready[target], time + more)
-    return ready
+                times[target] = min(times[target], time + more)
+    return times
 
 
-def durations(runs, feet, origin, departure, rides):
+def durations(runs, feet, changes, origin, departure, rides):
     """The least duration to each stop over journeys of at most so many rides."""
     ride = [NEVER] * len(feet)
     ride[origin] = departure
     for _ in range(rides):
-        ready, arrived = walked(ride, feet), ride[:]
+        changed = [time + more if time < NEVER else NEVER for time, more in zip(ride, changes)]
+        changed[origin] = departure
+        ready, arrived = walked(ride, changed, feet), ride[:]
         for run in runs:
             aboard = False
             for event in run:
@@ -161,7 +178,7 @@ def durations(runs, feet, origin, departure, rides):
                     arrived[event.stop] = min(arrived[event.stop], event.arrive)
                 aboard = aboard or (event.board and ready[event.stop] <= event.depart)
         ride = arrived
-    return [time - departure if time < NEVER else None for time in walked(ride, feet)]
+    return [time - departure if time < NEVER else None for time in walked(ride, ride, feet)]
 
 
 def cell(times, share):
@@ -190,6 +207,7 @@ def main():
     asked = options()
     feed = Feed(asked.feed)
     feet = closed_footpaths(len(feed.stops), feed.direct_footpaths(asked.footpaths), asked.walk)
+    changes = feed.change_times()
     origins = [r["stop_id"] for r in rows(asked.origins)] if asked.origins else feed.stops
     counts = {r["stop_id"]: int(r["opportunities"]) for r in rows(asked.opportunities)} if asked.opportunities else None
     out = csv.writer(sys.stdout, lineterminator="\n")
@@ -198,7 +216,7 @@ def main():
         name = os.path.basename(scenario).removesuffix(".csv") if scenario else "base"
         runs = network(feed, asked, scenario)
         for origin in origins:
-            table = [durations(runs, feet, feed.stop_no[origin], d, asked.trips) for d in asked.departures]
+            table = [durations(runs, feet, changes, feed.stop_no[origin], d, asked.trips) for d in asked.departures]
             cells = [cell([times[stop] for times in table], asked.share) for stop in range(len(feed.stops))]
             near = [s for s, c in zip(feed.stops, cells) if c is not None and c <= asked.within]
             access = len(near) if counts is None else sum(counts.get(s, 0) for s in near)

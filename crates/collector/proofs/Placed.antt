@@ -27,7 +27,7 @@ use Rattle.collector.proofs.Offered.{offered_at, offered_sizes, belongs_in, eq_t
 places_are : (s : Setup) (steps : List CoreStep) → (reached s steps).places ≡ offered (opening s).places (handed steps)
 places_are s steps = sym (ap (λ (c : Core). c.places) (run_is steps (opening s).book (opening s).places))
 
-book_is : (s : Setup) (steps : List CoreStep) → (reached s steps).book ≡ book.run_of (opening s).book (book_steps steps)
+pub book_is : (s : Setup) (steps : List CoreStep) → (reached s steps).book ≡ book.run_of (opening s).book (book_steps steps)
 book_is s steps = sym (ap (λ (c : Core). c.book) (run_is steps (opening s).book (opening s).places))
 
 open_size : (s : Setup) → length (opening s).places.rows ≡ s.scenarios * s.origins

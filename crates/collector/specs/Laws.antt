@@ -1,13 +1,14 @@
 -- What holds of every run of a book and a collector: any list of steps, by any seats, from a new book and empty places.
-use Rattle.std.specs.Prelude.{◌≡◌, ◌==◌, ◌*◌, ◌+◌, ◌<◌, ◌&&◌, ℕ, Bool, true, false, List, Option, Some, None, length, slice_get, All}
+use Rattle.std.specs.Prelude.{◌≡◌, ◌==◌, ◌*◌, ◌+◌, ◌<◌, ◌&&◌, ℕ, Bool, true, false, List, Option, Some, None, length, slice_get, take, All}
 use Rattle.std.specs.List.{find}
 use Rattle.work_book.specs.Book.{new_book}
+use Rattle.work_book.specs.Steps as book
 use Rattle.work_book.specs.Laws.{drawn_count}
 use Rattle.work_book.specs.declared.steps.Answer.TheVariants.{Nothing}
 use Rattle.collector.specs.Row.{RowData}
 use Rattle.collector.specs.Places.{PlacesData, MatrixData, empty_places, place_of, row_at}
 use Rattle.collector.specs.Offers.{belongs, IsFinished}
-use Rattle.collector.specs.Run.{Core, core, answers_of, run_of, handed}
+use Rattle.collector.specs.Run.{Core, core, answers_of, run_of, book_steps, book_answers, handed}
 use Rattle.collector.specs.declared.run.CoreStep.{CoreStep}
 use Rattle.collector.specs.declared.run.CoreAnswer.TheVariants as answer
 
@@ -65,3 +66,12 @@ AreMissingUnhanded s steps = (k : ℕ) → k < s.scenarios * s.origins → row_a
 abbrev pub AreDrawnAtNothing : Setup → List CoreStep → Type 0
 AreDrawnAtNothing s steps = (i : ℕ) → slice_get (answers_of (opening s) steps) i ≡ Some (answer.Book Nothing)
     → (job pass : ℕ) → job < s.jobs → pass < s.tries → drawn_count (pass * s.jobs + job) (reached s steps).book ≡ 1
+
+-- the book and its answers are those of its own steps, made without the rows that are handed over between them
+pub record IsRunOfBook (s : Setup) (steps : List CoreStep) : Type 0 where
+  pub state : (reached s steps).book ≡ book.run_of (opening s).book (book_steps steps)
+  pub answers : book_answers (answers_of (opening s) steps) ≡ book.answers_of (opening s).book (book_steps steps)
+
+-- before a step that the book answers with `Nothing` all its numbers are drawn
+abbrev pub IsNothingLast : Setup → List CoreStep → Type 0
+IsNothingLast s steps = (k : ℕ) → slice_get (answers_of (opening s) steps) k ≡ Some (answer.Book Nothing) → (reached s (take k steps)).book.next ≡ s.jobs * s.tries

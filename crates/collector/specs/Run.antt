@@ -46,6 +46,12 @@ book_steps [] = []
 book_steps (Book step ∷ steps) = step ∷ book_steps steps
 book_steps (Hand seat row ∷ steps) = book_steps steps
 
+-- the answers of the book
+abbrev pub book_answers : List CoreAnswer → List Answer
+book_answers [] = []
+book_answers (answer.Book told ∷ answers) = told ∷ book_answers answers
+book_answers (answer.Hand offer ∷ answers) = book_answers answers
+
 -- the rows that are handed over, in order
 abbrev pub handed : List CoreStep → List RowData
 handed [] = []

@@ -3,7 +3,7 @@
 //!
 //! - `Row` is what one scenario and one origin give; `Collector` has a place for each, and `finish` makes the `Matrix`.
 //! - `CoreStep` and `CoreAnswer` are steps of a book of work and rows handed over, as data; `run_core` makes a list of them.
-//! - `runs_are_right` is what holds of every list of such steps.
+//! - `runs_are_right` is what holds of every list of such steps, and `core_runs_are_fair` what holds of the book in it.
 //!
 //! What an offer and a finish do stands in `specs/Places.antt`; the laws stand in `specs/Laws.antt`.
 #![tactic(auto)]
@@ -13,7 +13,7 @@ mod places;
 mod row;
 mod run;
 
-pub use laws::runs_are_right;
+pub use laws::{core_runs_are_fair, runs_are_right};
 pub use places::{Collector, Matrix, Offer, Unfinished};
 pub use row::Row;
 pub use run::{CoreAnswer, CoreStep, run_core};

@@ -1,5 +1,6 @@
 -- What `clap` says of the command of a study.
-use Rattle.std.proofs.Common.{◌≡◌, ◌∙◌, List, [], true, false, Some, refl, sym, ap, ap₂, subst, codes}
+use Rattle.std.proofs.Common.{◌≡◌, ◌∙◌, ◌<◌, ◌+◌, ℕ, zero, suc, List, [], ◌∷◌, map, take, length, true, false, Some, refl, sym, ap, ap₂, subst, arith, codes}
+use Rattle.std.specs.List.{slice_index_or}
 use Rattle.std.specs.Prelude.{slice_get}
 use Rattle.std.proofs.lemmas.Bool.{false_from_ne_true}
 use Rattle.clap.proofs.OnLiterals.{clap_on_literals}
@@ -9,10 +10,11 @@ use Rattle.clap.specs.declared.builder.command.Command.{Command}
 use Rattle.clap.specs.declared.error.Error.{Error}
 use Rattle.table_records.specs.Faults.{IsFirst}
 use Rattle.studies.specs.declared.settings.Settings.{Settings}
+use Rattle.command_line.specs.declared.option_text.OptionText.{OptionText}
 use Rattle.command_line.specs.declared.task.Opt.{Opt}
 use Rattle.command_line.specs.declared.task.Task.{Task}
 use Rattle.command_line.proofs.Required.{is_fit}
-use Rattle.command_line.specs.Words.{study_app, needed, IsAsked, NamesFiles, bad_options}
+use Rattle.command_line.specs.Words.{study_app, needed, rule_in, with_rules, IsAsked, NamesFiles, bad_options}
 
 pub study_simple : is_simple study_app ≡ true
 unfolding clap_on_literals
@@ -32,6 +34,22 @@ feed_fit = refl
 pub added : (old next : Command) (arg : Arg) (rule : Rule) (app : App) → AddsArg old arg next → arg.global ≡ false → rule_of arg ≡ rule → app_of old ≡ app
     → app_of next ≡ with_rule app rule
 added old next arg rule app adds local is was = adds.shape local ∙ ap₂ with_rule was is
+
+-- the options up to one, and that one
+next : (a : App) (xs : List OptionText) (i : ℕ) (d : OptionText) → i < length xs
+    → with_rules a (map rule_in (take (suc i) xs)) ≡ with_rule (with_rules a (map rule_in (take i xs))) (rule_in (slice_index_or xs i d))
+next a [] i d few = absurd (omega arith)
+next a (x ∷ xs) zero d few = refl
+next a (x ∷ xs) (suc i) d few = next (with_rule a (rule_in x)) xs i d (omega arith)
+
+pub next_rule : (a : App) (xs : List OptionText) (i : ℕ) (d : OptionText) → i < length xs
+    → with_rules a (map rule_in (take (i + 1) xs)) ≡ with_rule (with_rules a (map rule_in (take i xs))) (rule_in (slice_index_or xs i d))
+next_rule a xs i d few =
+    subst (λ n. with_rules a (map rule_in (take n xs)) ≡ with_rule (with_rules a (map rule_in (take i xs))) (rule_in (slice_index_or xs i d))) (suc_is i)
+    (next a xs i d few)
+  where
+    suc_is : (n : ℕ) → suc n ≡ n + 1
+    suc_is n = omega arith
 
 -- the facts of a command are those of the study's
 pub same_rows : (a b : App) (words : List Text) (rows : List Row) → a ≡ b → rows ≡ matches_of a words → rows ≡ matches_of b words

@@ -1,5 +1,5 @@
--- What a fault of reading says of what there was to read.
-use Rattle.std.specs.Prelude.{◌<◌, ◌^◌, ℕ, List, Option, length, IfSome, ⊤}
+-- What a fault of reading says of what there was to read, and the words that tell it.
+use Rattle.std.specs.Prelude.{◌<◌, ◌^◌, ℕ, List, Option, codes, length, IfSome, ⊤}
 use Rattle.command_line.specs.declared.files.ReadFault.{ReadFault}
 use Rattle.command_line.specs.declared.files.ReadFault.TheVariants as fault
 
@@ -8,3 +8,8 @@ abbrev pub Tells : ReadFault → Option (List ℕ) → Type 0
 Tells fault.TooLong known = IfSome known (λ all. 2 ^ 30 < length all)
 Tells fault.Read known = ⊤
 Tells fault.Memory known = ⊤
+
+abbrev pub words_of : ReadFault → List ℕ
+words_of fault.Read = codes "read fault"
+words_of fault.TooLong = codes "too long"
+words_of fault.Memory = codes "out of memory"

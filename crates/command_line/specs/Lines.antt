@@ -9,24 +9,31 @@ use Rattle.table_records.specs.declared.fault.What.{What}
 use Rattle.table_records.specs.declared.fault.What.TheVariants as what
 use Rattle.scenarios.specs.declared.faults.ScenarioWhat.{ScenarioWhat}
 use Rattle.scenarios.specs.declared.faults.ScenarioWhat.TheVariants as edit
+use Rattle.service_days.specs.FaultWords.{words_of as day_words}
 use Rattle.service_days.specs.declared.fault.DayFault.{DayFault}
 use Rattle.service_days.specs.declared.fault.DayFault.TheVariants as day
+use Rattle.footpaths.specs.FaultWords.{words_of as foot_words}
 use Rattle.footpaths.specs.declared.faults.FootFault.{FootFault}
 use Rattle.footpaths.specs.declared.faults.FootFault.TheVariants as foot
+use Rattle.timetable.specs.FaultWords.{words_of as net_words}
 use Rattle.timetable.specs.declared.faults.NetFault.{NetFault}
 use Rattle.timetable.specs.declared.faults.NetFault.TheVariants as net
+use Rattle.workers.specs.FaultWords.{words_of as run_words}
 use Rattle.workers.specs.declared.faults.RunFault.{RunFault}
 use Rattle.workers.specs.declared.faults.RunFault.TheVariants as run
+use Rattle.matrix_text.specs.FaultWords.{words_of as text_words}
 use Rattle.matrix_text.specs.declared.faults.TextFault.{TextFault}
 use Rattle.matrix_text.specs.declared.faults.TextFault.TheVariants as text
 use Rattle.studies.specs.NamedFile.{NamedBytes}
 use Rattle.studies.specs.declared.fault.StudyFault.{StudyFault}
 use Rattle.studies.specs.declared.fault.StudyFault.TheVariants as fault
+use Rattle.command_line.specs.Files.{words_of}
 use Rattle.command_line.specs.declared.files.ReadFault.{ReadFault}
 use Rattle.command_line.specs.declared.files.ReadFault.TheVariants as read
 use Rattle.studies.specs.declared.inputs.Inputs.{Inputs}
 use Rattle.command_line.specs.declared.task.Opt.{Opt}
 use Rattle.command_line.specs.declared.task.Opt.TheVariants as opt
+use Rattle.command_line.specs.declared.statuses.TheConstants.{NO_ROOM, NOT_MOVED, REFUSED, UNFINISHED}
 
 -- ---- lines
 
@@ -110,28 +117,14 @@ scenario_text name at w = at_record (codes "scenario " ++ name) at (edit_text w)
 
 -- ---- the other faults
 
-abbrev pub day_text : DayFault → List ℕ
-day_text day.DateRange = codes "date out of range"
-day_text day.TooMany = codes "too many runs"
-day_text day.Memory = no_memory
-
-abbrev pub foot_text : FootFault → List ℕ
-foot_text foot.TooMany = codes "too many footpaths"
-foot_text foot.Memory = no_memory
-
 -- of a scenario's network only that it is too large can be told; its stops and times are the feed's, which are sound
 abbrev pub net_text : List ℕ → NetFault → List ℕ
 net_text name net.Memory = no_memory
-net_text name _ = codes "scenario " ++ name ++ codes ": network too large"
+net_text name _ = codes "scenario " ++ name ++ codes ": " ++ net_words net.TooLarge
 
 abbrev pub run_text : RunFault → List ℕ
-run_text run.Memory = no_memory
-run_text run.Spawn = codes "no worker started"
-run_text (run.Unfinished s o) = codes "unfinished: scenario " ++ decimal s ++ codes ", origin " ++ decimal o
-
-abbrev pub write_text : TextFault → List ℕ
-write_text text.Write = codes "write fault"
-write_text text.Memory = no_memory
+run_text (run.Unfinished s o) = run_words (run.Unfinished s o) ++ codes ": scenario " ++ decimal s ++ codes ", origin " ++ decimal o
+run_text f = run_words f
 
 -- why there is no study
 abbrev pub rest_of : StudyFault → List (List ℕ) → List ℕ
@@ -139,21 +132,20 @@ rest_of fault.Scenarios names = codes "too many scenarios"
 rest_of (fault.Name k) names = codes "scenario name: " ++ file_name names k
 rest_of (fault.Feed f) names = feed_text f.file f.at f.what
 rest_of (fault.Scenario k f) names = scenario_text (file_name names k) f.at f.what
-rest_of (fault.Days f) names = day_text f
-rest_of (fault.Feet f) names = foot_text f
+rest_of (fault.Days f) names = day_words f
+rest_of (fault.Feet f) names = foot_words f
 rest_of (fault.Net k f) names = net_text (scenario_name names k) f
 rest_of (fault.Run f) names = run_text f
-rest_of (fault.Text f) names = write_text f
+rest_of (fault.Text f) names = text_words f
 rest_of fault.Memory names = no_memory
 
 abbrev pub line_of : StudyFault → List (List ℕ) → List ℕ
 line_of f names = line (rest_of f names)
 
--- why a file isn't read
+-- why a file isn't read: want of memory has no path
 abbrev pub path_rest : List ℕ → ReadFault → List ℕ
-path_rest path read.Read = path ++ codes ": read fault"
-path_rest path read.TooLong = path ++ codes ": too long"
 path_rest path read.Memory = no_memory
+path_rest path f = path ++ codes ": " ++ words_of f
 
 -- which option is bad
 abbrev pub opt_text : Opt → List ℕ
@@ -171,37 +163,37 @@ opt_text opt.Ahead = codes "ahead"
 -- ---- exit statuses
 
 abbrev pub feed_status : What → ℕ
-feed_status what.Memory = 3
-feed_status _ = 2
+feed_status what.Memory = NO_ROOM
+feed_status _ = REFUSED
 
 abbrev pub edit_status : ScenarioWhat → ℕ
-edit_status edit.Memory = 3
-edit_status _ = 2
+edit_status edit.Memory = NO_ROOM
+edit_status _ = REFUSED
 
 abbrev pub day_status : DayFault → ℕ
-day_status day.Memory = 3
-day_status _ = 2
+day_status day.Memory = NO_ROOM
+day_status _ = REFUSED
 
 abbrev pub foot_status : FootFault → ℕ
-foot_status foot.Memory = 3
-foot_status _ = 2
+foot_status foot.Memory = NO_ROOM
+foot_status _ = REFUSED
 
 abbrev pub net_status : NetFault → ℕ
-net_status net.Memory = 3
-net_status _ = 2
+net_status net.Memory = NO_ROOM
+net_status _ = REFUSED
 
 abbrev pub run_status : RunFault → ℕ
-run_status run.Memory = 3
-run_status run.Spawn = 3
-run_status (run.Unfinished s o) = 4
+run_status run.Memory = NO_ROOM
+run_status run.Spawn = NO_ROOM
+run_status (run.Unfinished s o) = UNFINISHED
 
 abbrev pub text_status : TextFault → ℕ
-text_status text.Write = 5
-text_status text.Memory = 3
+text_status text.Write = NOT_MOVED
+text_status text.Memory = NO_ROOM
 
 abbrev pub status_of : StudyFault → ℕ
-status_of fault.Scenarios = 2
-status_of (fault.Name k) = 2
+status_of fault.Scenarios = REFUSED
+status_of (fault.Name k) = REFUSED
 status_of (fault.Feed f) = feed_status f.what
 status_of (fault.Scenario k f) = edit_status f.what
 status_of (fault.Days f) = day_status f
@@ -209,9 +201,9 @@ status_of (fault.Feet f) = foot_status f
 status_of (fault.Net k f) = net_status f
 status_of (fault.Run f) = run_status f
 status_of (fault.Text f) = text_status f
-status_of fault.Memory = 3
+status_of fault.Memory = NO_ROOM
 
 abbrev pub read_status : ReadFault → ℕ
-read_status read.Read = 5
-read_status read.TooLong = 2
-read_status read.Memory = 3
+read_status read.Read = NOT_MOVED
+read_status read.TooLong = REFUSED
+read_status read.Memory = NO_ROOM

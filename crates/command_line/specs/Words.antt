@@ -12,7 +12,9 @@ use Rattle.jiff.specs.Words.{epoch_day}
 use Rattle.table_records.specs.Fields.{trimmed, number_of, day_of}
 use Rattle.table_records.specs.Faults.{IsFirst}
 use Rattle.command_line.specs.Window.{window_between}
+use Rattle.command_line.specs.declared.statuses.TheConstants.{DONE, NO_ROOM, REFUSED}
 use Rattle.studies.specs.declared.settings.Settings.{Settings}
+use Rattle.command_line.specs.declared.option_text.OptionText.{OptionText}
 use Rattle.command_line.specs.declared.task.Opt.{Opt}
 use Rattle.command_line.specs.declared.task.Opt.TheVariants as opt
 use Rattle.command_line.specs.declared.task.Task.{Task}
@@ -32,6 +34,10 @@ needed name = option_rule true name
 abbrev pub optional : Text → Rule
 optional name = option_rule false name
 
+-- an option of the table
+abbrev pub rule_in : OptionText → Rule
+rule_in option = option_rule option.is_needed option.name.now
+
 -- the scenario files: the words that belong to no option
 abbrev pub scenario_rule : Rule
 scenario_rule = record (new_rule (codes "scenario")) { action = Some Append; range = Some (record { start_inclusive = 0; end_inclusive = usize_max }); value_names = 1 }
@@ -41,24 +47,16 @@ abbrev pub with_rules : App → List Rule → App
 with_rules a [] = a
 with_rules a (r ∷ rs) = with_rules (with_rule a r) rs
 
--- the feed and the departures
-abbrev pub place_rules : List Rule
-place_rules = needed (codes "feed") ∷ needed (codes "date") ∷ needed (codes "from") ∷ needed (codes "to") ∷ []
-
--- the journeys and what is told of them
-abbrev pub journey_rules : List Rule
-journey_rules = needed (codes "trips") ∷ needed (codes "walk") ∷ needed (codes "share") ∷ needed (codes "within") ∷ []
-
--- the run, and the service days beside that of the date
-abbrev pub run_rules : List Rule
-run_rules = needed (codes "workers") ∷ needed (codes "tries") ∷ optional (codes "back") ∷ optional (codes "ahead") ∷ []
-
--- the analyst's own files
-abbrev pub file_rules : List Rule
-file_rules = optional (codes "origins") ∷ optional (codes "opportunities") ∷ optional (codes "footpaths") ∷ []
+-- the options: the feed and the departures; the journeys and what is told of them; the run, and the service days beside
+-- that of the date; the analyst's own files
+abbrev pub option_rules : List Rule
+option_rules =
+    needed (codes "feed") ∷ needed (codes "date") ∷ needed (codes "from") ∷ needed (codes "to") ∷ needed (codes "trips") ∷ needed (codes "walk")
+    ∷ needed (codes "share") ∷ needed (codes "within") ∷ needed (codes "workers") ∷ needed (codes "tries") ∷ optional (codes "back")
+    ∷ optional (codes "ahead") ∷ optional (codes "origins") ∷ optional (codes "opportunities") ∷ optional (codes "footpaths") ∷ []
 
 abbrev pub study_app : App
-study_app = with_rules (with_rules (with_rules (with_rules (with_rules (new_app (codes "ttm")) place_rules) journey_rules) run_rules) file_rules) (scenario_rule ∷ [])
+study_app = with_rule (with_rules (new_app (codes "ttm")) option_rules) scenario_rule
 
 -- what the words give each option, by `clap`
 abbrev pub rows_of_words : List Text → List Row
@@ -158,20 +156,20 @@ bad_options rows =
     ++ unless opt.Share (share_of rows) ++ unless opt.Within (within_of rows) ++ unless opt.Workers (workers_of rows) ++ unless opt.Tries (tries_of rows)
     ++ unless opt.Back (back_of rows) ++ unless opt.Ahead (ahead_of rows)
 
--- what a fault says of the words: they aren't the command's or ask for its help, or this option is the first bad one
+-- what a fault says of the words: they aren't the command's or ask for its help, or they are and this option is the first bad one
 abbrev pub Tells : WordFault → List Text → Type 0
 Tells (fault.Words e) words = (takes study_app words ≡ false) × HasKind (fault_of study_app words) e
-Tells (fault.Bad o) words = IsFirst o (bad_options (rows_of_words words))
+Tells (fault.Bad o) words = (fault_of study_app words ≡ []) × IsFirst o (bad_options (rows_of_words words))
 Tells fault.Memory words = ⊤
 
 -- ---- what the program ends with
 
 -- help is no fault
 abbrev pub words_status : ErrorKind → ℕ
-words_status DisplayHelp = 0
-words_status _ = 2
+words_status DisplayHelp = DONE
+words_status _ = REFUSED
 
 abbrev pub word_status_of : WordFault → ℕ
 word_status_of (fault.Words e) = words_status (kind_of e)
-word_status_of (fault.Bad o) = 2
-word_status_of fault.Memory = 3
+word_status_of (fault.Bad o) = REFUSED
+word_status_of fault.Memory = NO_ROOM

@@ -1,11 +1,14 @@
-//! Files read whole, windows, paths and the names of scenarios.
+//! Files read whole, windows, paths and the names of scenarios, and lines put out.
 
 use crate::files::{ReadFault, read_all};
 use crate::lines::{path_line, path_status};
 use crate::paths::{path_in, scenario_of};
+use crate::statuses::REFUSED;
+use crate::telling::{tell, tell_short};
 use crate::window::window_of;
 use std::alloc::Global;
 use std::io::Read;
+use std::process::ExitCode;
 
 /// Gives so many bytes, and fails at a call after so many calls.
 #[derive(Drop)]
@@ -110,4 +113,15 @@ fn finds_the_files_of_a_feed_in_its_folder(rt: HostRuntime) {
         Ok(path) => assert_eq!(rt; path.as_str(), "town/stops.txt"),
         Err(_) => panic!(rt; "out of memory"),
     }
+}
+
+#[test]
+fn a_line_is_told_whole(rt: HostRuntime) {
+    let mut err = Vec::new(rt.alloc());
+    assert!(rt; tell(b"ttm: bad date\n", REFUSED, &mut err) == ExitCode::from(2));
+    assert!(rt; tell_short(&mut err) == ExitCode::from(3));
+    assert_eq!(rt;
+        err.as_slice(),
+        b"ttm: bad date\nttm: out of memory\n".as_slice()
+    );
 }

@@ -1,7 +1,7 @@
 //! Files read whole.
 
 ghost use Rattle.std.specs.Prelude.{◌≡◌, ◌≤◌, ◌^◌, length, IfOk, IfErr, IfSome};
-ghost use Rattle.command_line.specs.Files.{Tells};
+ghost use Rattle.command_line.specs.Files.{Tells, words_of};
 
 use gtfs_tables::MOST_BYTES;
 use std::alloc::Global;
@@ -10,16 +10,27 @@ use thiserror::Error;
 
 /// Why a file isn't read.
 #[derive(Clone, Copy, Debug, PartialEq, Eq, Error)]
+#[error("{}", self.words())]
 pub enum ReadFault {
     /// It can't be opened, or a read of it failed.
-    #[error("read fault")]
     Read,
     /// It has more than 1,073,741,824 bytes.
-    #[error("too long")]
     TooLong,
     /// A growth of memory was refused.
-    #[error("out of memory")]
     Memory,
+}
+
+impl ReadFault {
+    /// What is wrong, in words.
+    pub fn words(&self) -> &'static str
+        ensures { result.now ≡ words_of self.now }
+    {
+        match self {
+            ReadFault::Read => "read fault",
+            ReadFault::TooLong => "too long",
+            ReadFault::Memory => "out of memory",
+        }
+    }
 }
 
 /// All the bytes that a reader has left, at most 1,073,741,824.

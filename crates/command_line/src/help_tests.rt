@@ -24,8 +24,8 @@ Options:
       --within <S>         Travel time in seconds within which a stop counts for access, 0 to 4294967295
       --workers <N>        Number of threads, 1 to 64
       --tries <N>          How often each row may be begun, 1 to 8
-      --back <N>           Service days before the date that count, 0 to 6 [default: 1]
-      --ahead <N>          Service days after the date that count, 0 to 6 [default: 1]
+      --back <N>           Service days before the date that count, 0 to 6; 0 where the network is too large [default: 1]
+      --ahead <N>          Service days after the date that count, 0 to 6; 0 where the network is too large [default: 1]
       --origins <F>        File of the stops where journeys begin [default: all stops]
       --opportunities <F>  File of the opportunities at stops [default: 1 at each]
       --footpaths <F>      File of further footpaths, in seconds [default: none]

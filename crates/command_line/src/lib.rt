@@ -1,8 +1,10 @@
 //! The command line of a study: what its words ask for, the bytes of a file that they name, and the lines that tell a fault.
 //!
-//! - `words` and `window`: [`task_of`] reads the words into a [`Task`], or tells why they ask for no study ([`WordFault`]).
+//! - `options`: the command that the words are taken by.
+//! - `words`: [`task_of`] reads the words into a [`Task`], or tells why they ask for no study ([`WordFault`]). `window`: [`window_of`],
+//!   the departures that two times name.
 //! - `paths`: the path of a file of the feed, and the name of a scenario. `files`: [`read_all`], a file read whole.
-//! - `lines`: the line and the exit status of each fault. `telling` puts a line out.
+//! - `lines`: the line and the exit status of each fault. `statuses`: the statuses in numbers. `telling` puts a line out.
 //!
 //! `specs/Words` says what the words ask for, `specs/Lines` which line tells a fault.
 #![tactic(auto)]
@@ -15,7 +17,10 @@ mod help_tests;
 #[cfg(test)]
 mod line_tests;
 mod lines;
+mod option_text;
+mod options;
 mod paths;
+mod statuses;
 mod task;
 mod telling;
 mod window;
@@ -26,6 +31,8 @@ mod words;
 pub use files::{ReadFault, read_all};
 pub use lines::{bad_line, fault_line, path_line, path_status, status};
 pub use paths::{path_in, scenario_of};
+pub use statuses::{DONE, NO_ROOM, NOT_MOVED, REFUSED, UNFINISHED, statuses_are_as_stated};
 pub use task::{Opt, Task, WordFault};
 pub use telling::{tell, tell_made, tell_short};
+pub use window::window_of;
 pub use words::{task_of, word_status};

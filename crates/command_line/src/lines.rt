@@ -5,6 +5,7 @@ ghost use Rattle.studies.specs.NamedFile.{NamedBytes};
 ghost use Rattle.command_line.specs.Lines as spec;
 
 use crate::files::ReadFault;
+use crate::statuses::{NO_ROOM, NOT_MOVED, REFUSED, UNFINISHED};
 use crate::task::Opt;
 use footpaths::FootFault;
 use gtfs_tables::{FeedFault, FileName, What};
@@ -16,18 +17,6 @@ use std::alloc::{AllocError, Global};
 use studies::{Inputs, NamedFile, StudyFault};
 use timetable::NetFault;
 use workers::RunFault;
-
-/// Refused input, or words that aren't the command's.
-const REFUSED: u8 = 2;
-
-/// No memory, or no thread.
-const NO_ROOM: u8 = 3;
-
-/// Work that wasn't finished.
-const UNFINISHED: u8 = 4;
-
-/// A read or a write that failed.
-const NOT_MOVED: u8 = 5;
 
 const OUT_OF_MEMORY: &[u8] = b"out of memory";
 
@@ -93,9 +82,8 @@ pub fn path_line(alloc: Global, path: &str, fault: &ReadFault) -> Result<Vec<u8>
     ensures { IfOk result (λ line. line.items ≡ spec.line (spec.path_rest path.now fault.now)) }
 {
     let rest = match fault {
-        ReadFault::Read => two(alloc, path.as_bytes(), b": read fault")?,
-        ReadFault::TooLong => two(alloc, path.as_bytes(), b": too long")?,
         ReadFault::Memory => Vec::from_slice(alloc, OUT_OF_MEMORY)?,
+        fault => of_place(alloc, path.as_bytes(), fault.words())?,
     };
     whole(alloc, &rest)
 }
@@ -131,6 +119,15 @@ fn two(alloc: Global, first: &[u8], last: &[u8]) -> Result<Vec<u8>, AllocError>
     Ok(text)
 }
 
+/// What is wrong with a place.
+fn of_place(alloc: Global, place: &[u8], words: &str) -> Result<Vec<u8>, AllocError>
+    ensures { IfOk result (λ text. text.items ≡ place.now ++ codes ": " ++ words.now) }
+{
+    let mut text = two(alloc, place, b": ")?;
+    text.extend_from_slice(words.as_bytes())?;
+    Ok(text)
+}
+
 /// Why there is no study.
 fn rest(alloc: Global, fault: &StudyFault, files: &[NamedFile]) -> Result<Vec<u8>, AllocError>
     ensures { IfOk result (λ text. text.items ≡ spec.rest_of fault.now (map (λ (f : NamedBytes). f.name) files.now)) }
@@ -140,12 +137,11 @@ fn rest(alloc: Global, fault: &StudyFault, files: &[NamedFile]) -> Result<Vec<u8
         StudyFault::Name(k) => two(alloc, b"scenario name: ", file_name(files, k)),
         StudyFault::Feed(fault) => feed_text(alloc, fault),
         StudyFault::Scenario(k, fault) => scenario_text(alloc, file_name(files, k), fault),
-        StudyFault::Days(fault) => Vec::from_slice(alloc, day_text(fault)),
-        StudyFault::Feet(fault) => Vec::from_slice(alloc, foot_text(fault)),
+        StudyFault::Days(fault) => Vec::from_slice(alloc, fault.words().as_bytes()),
+        StudyFault::Feet(fault) => Vec::from_slice(alloc, fault.words().as_bytes()),
         StudyFault::Net(k, fault) => net_text(alloc, scenario_name(files, k), fault),
         StudyFault::Run(fault) => run_text(alloc, fault),
-        StudyFault::Text(TextFault::Write) => Vec::from_slice(alloc, b"write fault"),
-        StudyFault::Text(TextFault::Memory) => Vec::from_slice(alloc, OUT_OF_MEMORY),
+        StudyFault::Text(fault) => Vec::from_slice(alloc, fault.words().as_bytes()),
         StudyFault::Memory => Vec::from_slice(alloc, OUT_OF_MEMORY),
     }
 }
@@ -264,27 +260,6 @@ fn edit_text(what: ScenarioWhat) -> &'static [u8]
     }
 }
 
-/// Why the runs of the days aren't listed.
-fn day_text(fault: DayFault) -> &'static [u8]
-    ensures { result.now ≡ spec.day_text fault }
-{
-    match fault {
-        DayFault::DateRange => b"date out of range",
-        DayFault::TooMany => b"too many runs",
-        DayFault::Memory => OUT_OF_MEMORY,
-    }
-}
-
-/// Why the footpaths aren't closed.
-fn foot_text(fault: FootFault) -> &'static [u8]
-    ensures { result.now ≡ spec.foot_text fault }
-{
-    match fault {
-        FootFault::TooMany => b"too many footpaths",
-        FootFault::Memory => OUT_OF_MEMORY,
-    }
-}
-
 /// Why a scenario has no network.
 fn net_text(alloc: Global, name: &[u8], fault: NetFault) -> Result<Vec<u8>, AllocError>
     ensures { IfOk result (λ text. text.items ≡ spec.net_text name.now fault) }
@@ -292,9 +267,8 @@ fn net_text(alloc: Global, name: &[u8], fault: NetFault) -> Result<Vec<u8>, Allo
     match fault {
         NetFault::Memory => Vec::from_slice(alloc, OUT_OF_MEMORY),
         _ => {
-            let mut text = two(alloc, b"scenario ", name)?;
-            text.extend_from_slice(b": network too large")?;
-            Ok(text)
+            let place = two(alloc, b"scenario ", name)?;
+            of_place(alloc, &place, NetFault::TooLarge.words())
         }
     }
 }
@@ -303,17 +277,14 @@ fn net_text(alloc: Global, name: &[u8], fault: NetFault) -> Result<Vec<u8>, Allo
 fn run_text(alloc: Global, fault: RunFault) -> Result<Vec<u8>, AllocError>
     ensures { IfOk result (λ text. text.items ≡ spec.run_text fault) }
 {
-    match fault {
-        RunFault::Memory => Vec::from_slice(alloc, OUT_OF_MEMORY),
-        RunFault::Spawn => Vec::from_slice(alloc, b"no worker started"),
-        RunFault::Unfinished { scenario, origin } => {
-            let mut text = Vec::from_slice(alloc, b"unfinished: scenario ")?;
-            text.extend_from_slice(Buffer::new().format(scenario).as_bytes())?;
-            text.extend_from_slice(b", origin ")?;
-            text.extend_from_slice(Buffer::new().format(origin).as_bytes())?;
-            Ok(text)
-        }
+    let mut text = Vec::from_slice(alloc, fault.words().as_bytes())?;
+    if let RunFault::Unfinished { scenario, origin } = fault {
+        text.extend_from_slice(b": scenario ")?;
+        text.extend_from_slice(Buffer::new().format(scenario).as_bytes())?;
+        text.extend_from_slice(b", origin ")?;
+        text.extend_from_slice(Buffer::new().format(origin).as_bytes())?;
     }
+    Ok(text)
 }
 
 /// The status where a file of the feed is refused.

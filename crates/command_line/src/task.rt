@@ -4,7 +4,7 @@ use studies::Settings;
 
 /// The options whose texts have a kind and limits, in the order in which they are looked at.
 /// `Window` is `--from` with `--to`; the others are the options of these names.
-#[derive(Clone, Copy, Debug, PartialEq, Eq)]
+#[derive(Clone, Copy, PartialEq, Eq)]
 pub enum Opt {
     Date,
     Window,
@@ -32,11 +32,11 @@ pub struct Task {
 }
 
 /// Why the words ask for no study.
-#[derive(Debug, Drop)]
+#[derive(Drop)]
 pub enum WordFault {
     /// The words aren't those of the command, or they ask for its help; the error has the text to show.
     Words(clap::Error),
-    /// The first option whose text isn't of its kind or within its limits.
+    /// The words are the command's; this is the first option whose text isn't of its kind or within its limits.
     Bad(Opt),
     /// A growth of memory was refused.
     Memory,

@@ -5,6 +5,7 @@ ghost use Rattle.std.specs.Process.{exit_status};
 ghost use Rattle.matrix_text.specs.Prefixes.{PutsPrefix};
 ghost use Rattle.command_line.specs.Lines as spec;
 
+use crate::statuses::NO_ROOM;
 use matrix_text::put_all;
 use std::alloc::AllocError;
 use std::io::Write;
@@ -13,15 +14,12 @@ use std::process::ExitCode;
 /// The line where memory is short, which takes no memory.
 const NO_MEMORY: &[u8] = b"ttm: out of memory\n";
 
-/// The exit status where memory is short.
-const SHORT: u8 = 3;
-
 /// Tells that memory is short, as far as the line can be put out.
 pub fn tell_short<E: Write>(err: &mut E) -> ExitCode
-    ensures status { exit_status result ≡ 3 }
+    ensures status { exit_status result ≡ NO_ROOM }
     ensures line { PutsPrefix (E.contents err.old) (E.contents err.new) (spec.line spec.no_memory) }
 {
-    tell(NO_MEMORY, SHORT, err)
+    tell(NO_MEMORY, NO_ROOM, err)
 }
 
 /// Tells by a line, or that there was no memory for it, as far as it can be put out; the status stays.

@@ -32,7 +32,7 @@ const STUDY: [&str; 21] = [
 ];
 
 /// Why there is no study: the option that is bad, and the exit status.
-#[derive(Clone, Copy, Debug, PartialEq, Eq)]
+#[derive(Clone, Copy, PartialEq, Eq)]
 struct Refusal {
     bad: Option<Opt>,
     status: u8,

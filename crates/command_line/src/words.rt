@@ -4,26 +4,22 @@
 //! that belong to no option are scenario files. What the texts say is read here.
 
 ghost use Rattle.std.specs.Prelude.{◌≡◌, ◌≤◌, ◌+◌, ℕ, [], ◌∷◌, map, Some, None, is_some, IfOk, IfErr, IfSome, option_map, string_bytes, codes, true, false};
-ghost use Rattle.clap.specs.Words.{app_of, rule_of, found_of, rows_of, fault_of};
+ghost use Rattle.clap.specs.Words.{found_of, rows_of, fault_of};
 ghost use Rattle.jiff.specs.Words.{epoch_day};
 ghost use Rattle.table_records.specs.Faults.{IsFirst};
 ghost use Rattle.studies.specs.Settings.{SettingsFit};
 ghost use Rattle.command_line.specs.Words as spec;
 
+use crate::options::command;
+use crate::statuses::{DONE, NO_ROOM, REFUSED};
 use crate::task::{Opt, Task, WordFault};
 use crate::window::window_of;
+use clap::ArgMatches;
 use clap::error::ErrorKind;
-use clap::{Arg, ArgAction, ArgMatches, Command};
 use jiff::civil::Date;
 use std::alloc::{AllocError, Global};
 use studies::Settings;
 use table_records::{number, read_date, trim};
-
-const ABOUT: &str = "Travel time matrices over a GTFS feed, for a base network and for scenarios.";
-
-const EXAMPLE: &str =
-    "Example: ttm --feed town --date 20260504 --from 08:00 --to 08:59 --trips 3 --walk 600 --share 50 \
-    --within 1800 --workers 4 --tries 2 cut.csv";
 
 /// The study that the words ask for; the first word is the program's name.
 ///
@@ -53,161 +49,12 @@ pub fn word_status(fault: &WordFault) -> u8
 {
     match fault {
         WordFault::Words(error) => match error.kind() {
-            ErrorKind::DisplayHelp => 0,
-            _ => 2,
+            ErrorKind::DisplayHelp => DONE,
+            _ => REFUSED,
         },
-        WordFault::Bad(_) => 2,
-        WordFault::Memory => 3,
+        WordFault::Bad(_) => REFUSED,
+        WordFault::Memory => NO_ROOM,
     }
-}
-
-/// An option with one text as value, which may be left out.
-fn optional<'a>(alloc: Global, name: &'a str, value: &'a str, help: &'a str) -> Arg<'a>
-    ensures rule { rule_of result ≡ spec.optional name.entry.now }
-    ensures local { result.global ≡ false }
-{
-    Arg::new(alloc, name)
-        .long(name)
-        .action(ArgAction::Set)
-        .value_name(value)
-        .help(help)
-}
-
-/// An option with one text as value, which must be given.
-fn needed<'a>(alloc: Global, name: &'a str, value: &'a str, help: &'a str) -> Arg<'a>
-    ensures rule { rule_of result ≡ spec.needed name.entry.now }
-    ensures local { result.global ≡ false }
-{
-    optional(alloc, name, value, help).required(true)
-}
-
-/// The scenario files: the words that belong to no option.
-fn scenario_files<'a>(alloc: Global) -> Arg<'a>
-    ensures rule { rule_of result ≡ spec.scenario_rule }
-    ensures local { result.global ≡ false }
-{
-    Arg::new(alloc, "scenario")
-        .action(ArgAction::Append)
-        .num_args(0..)
-        .value_name("SCENARIO")
-        .help("Scenario files, at most 15; each is named by its file name without .csv")
-}
-
-/// The command with the options of the feed and the departures.
-fn with_place<'a>(alloc: Global, command: Command<'a>) -> Result<Command<'a>, AllocError>
-    ensures { IfOk result (λ c. app_of c ≡ spec.with_rules (app_of command.entry) spec.place_rules) }
-{
-    command
-        .arg(needed(
-            alloc,
-            "feed",
-            "DIR",
-            "Folder of the feed's files, as stops.txt",
-        ))?
-        .arg(needed(alloc, "date", "YYYYMMDD", "Date of the departures"))?
-        .arg(needed(
-            alloc,
-            "from",
-            "HH:MM",
-            "First minute of departure, 00:00 to 23:59",
-        ))?
-        .arg(needed(
-            alloc,
-            "to",
-            "HH:MM",
-            "Last minute of departure, 00:00 to 23:59, not before --from",
-        ))
-}
-
-/// The command with the options of the journeys and of what is told of them.
-fn with_journeys<'a>(alloc: Global, command: Command<'a>) -> Result<Command<'a>, AllocError>
-    ensures { IfOk result (λ c. app_of c ≡ spec.with_rules (app_of command.entry) spec.journey_rules) }
-{
-    command
-        .arg(needed(alloc, "trips", "K", "Most rides of a journey, 1 to 8"))?
-        .arg(needed(alloc, "walk", "S", "Longest walk in seconds, 0 to 7200"))?
-        .arg(needed(
-            alloc,
-            "share",
-            "P",
-            "Share of the minutes in percent that a travel time covers, 1 to 100",
-        ))?
-        .arg(needed(
-            alloc,
-            "within",
-            "S",
-            "Travel time in seconds within which a stop counts for access, 0 to 4294967295",
-        ))
-}
-
-/// The command with the options of the run and of the service days beside that of the date.
-fn with_run<'a>(alloc: Global, command: Command<'a>) -> Result<Command<'a>, AllocError>
-    ensures { IfOk result (λ c. app_of c ≡ spec.with_rules (app_of command.entry) spec.run_rules) }
-{
-    command
-        .arg(needed(alloc, "workers", "N", "Number of threads, 1 to 64"))?
-        .arg(needed(
-            alloc,
-            "tries",
-            "N",
-            "How often each row may be begun, 1 to 8",
-        ))?
-        .arg(optional(
-            alloc,
-            "back",
-            "N",
-            "Service days before the date that count, 0 to 6 [default: 1]",
-        ))?
-        .arg(optional(
-            alloc,
-            "ahead",
-            "N",
-            "Service days after the date that count, 0 to 6 [default: 1]",
-        ))
-}
-
-/// The command with the analyst's own files.
-fn with_files<'a>(alloc: Global, command: Command<'a>) -> Result<Command<'a>, AllocError>
-    ensures { IfOk result (λ c. app_of c ≡ spec.with_rules (app_of command.entry) spec.file_rules) }
-{
-    command
-        .arg(optional(
-            alloc,
-            "origins",
-            "F",
-            "File of the stops where journeys begin [default: all stops]",
-        ))?
-        .arg(optional(
-            alloc,
-            "opportunities",
-            "F",
-            "File of the opportunities at stops [default: 1 at each]",
-        ))?
-        .arg(optional(
-            alloc,
-            "footpaths",
-            "F",
-            "File of further footpaths, in seconds [default: none]",
-        ))
-}
-
-/// The command with the scenario files.
-fn with_scenarios<'a>(alloc: Global, command: Command<'a>) -> Result<Command<'a>, AllocError>
-    ensures { IfOk result (λ c. app_of c ≡ spec.with_rules (app_of command.entry) (spec.scenario_rule ∷ [])) }
-{
-    command.arg(scenario_files(alloc))
-}
-
-/// The command.
-fn command<'a>(alloc: Global) -> Result<Command<'a>, AllocError>
-    ensures { IfOk result (λ c. app_of c ≡ spec.study_app) }
-{
-    let command = Command::new(alloc, "ttm").about(ABOUT).after_help(EXAMPLE);
-    let command = with_place(alloc, command)?;
-    let command = with_journeys(alloc, command)?;
-    let command = with_run(alloc, command)?;
-    let command = with_files(alloc, command)?;
-    with_scenarios(alloc, command)
 }
 
 /// What the words give each option.

@@ -12,7 +12,7 @@ use Rattle.footpaths.specs.declared.adjacency.Adjacency.{Adjacency}
 use Rattle.footpaths.specs.Direct.{Footpath, DirectLists, LeadsBetween, AreDirect}
 use Rattle.footpaths.specs.Chains.{Leads, HasChain, Foot}
 use Rattle.footpaths.specs.Closure.{Ascends, AllAscend, AreClosed, HasTooMany}
-use Rattle.footpaths.specs.Adjacency.{Legs, legs_of, part, IsAdjacency}
+use Rattle.footpaths.specs.Adjacency.{Leaving, legs_of, part, IsAdjacency}
 use Rattle.footpaths.specs.Settling.{Marks, LeadToStops, IsSettled, row_of}
 use Rattle.footpaths.proofs.Ways.{has_chain, way_of_chain}
 use Rattle.footpaths.proofs.Spreading.{way_end}
@@ -71,10 +71,10 @@ labelled : Marks → ℕ → StopNo × ℕ
 labelled m stop = (record { 0 = stop }, get_or m.labels stop 0)
 
 -- the stops that are reached, with their labels, are the walking times from the source
-pub row_closed : (direct : DirectLists) (limit source : ℕ) (legs : Legs) (m : Marks) → AreDirect direct
-    → ((u : ℕ) → u < direct.stops → legs u ≡ legs_of direct.pairs limit u) → LeadToStops direct.stops legs → source < direct.stops → limit ≤ 7200
-    → IsSettled legs direct.stops source limit m → IsClosedRow direct.pairs limit source (row_of m)
-row_closed direct limit source legs m given same all here low st = record {
+pub row_closed : (direct : DirectLists) (limit source : ℕ) (leaving : Leaving) (m : Marks) → AreDirect direct
+    → ((u : ℕ) → u < direct.stops → leaving u ≡ legs_of direct.pairs limit u) → LeadToStops direct.stops leaving → source < direct.stops → limit ≤ 7200
+    → IsSettled leaving direct.stops source limit m → IsClosedRow direct.pairs limit source (row_of m)
+row_closed direct limit source leaving m given same all here low st = record {
   ascending = λ k x y e f.
       let p = map_at _ m.touched k x e in
       let q = map_at _ m.touched (k + 1) y f in
@@ -93,12 +93,12 @@ row_closed direct limit source legs m given same all here low st = record {
       foot b s (subst (λ (q : ℕ). q < direct.stops) (sym b_is) (subst (λ (n : ℕ). p.0 < n) st.count r.0)) (λ e. r.1 (sym (e ∙ b_is)))
       (s_is ∙ ap (λ (q : ℕ). get_or m.labels q 0) (sym b_is)) (let h = r.2 in omega (arith, h, s_is));
   complete = λ b s other chain within.
-      let way = way_of_chain direct.pairs limit direct.stops legs chain.0 source source b 0 0 same given.between here chain.1.given chain.1.leads
+      let way = way_of_chain direct.pairs limit direct.stops leaving chain.0 source source b 0 0 same given.between here chain.1.given chain.1.leads
       (let e = chain.1.sum in omega (arith, e, within)) (refl, refl) in
       let sum = chain.1.sum in
       let total : 0 + sum_by (λ (path : Footpath). path.2) chain.0 ≤ limit = omega (arith, sum, within) in
       let label = st.least b way.0 _ way.1 total in
-      let place = way_end legs direct.stops source b way.0 _ all here way.1 in
+      let place = way_end leaving direct.stops source b way.0 _ all here way.1 in
       elim (st.touched.all b (subst (λ (n : ℕ). b < n) (sym st.count) place) (λ e. other (sym e))) [
         | inl c ↦ (get_or m.labels b 0, (c.0, at_map (λ (stop : ℕ). (record { 0 = stop }, get_or m.labels stop 0)) m.touched c.0 b (slice_get-get_or m.touched c.0 b c.1 ∙ ap Some c.2)))
         | inr never ↦ absurd (omega (arith, never, label, total, low))
@@ -111,7 +111,7 @@ row_closed direct limit source legs m given same all here low st = record {
         record {
           other = other;
           least = record {
-            holds = subst (HasChain direct.pairs source b) (sym label) (has_chain direct.pairs limit direct.stops legs source b way.0 _ same all here other way.1);
+            holds = subst (HasChain direct.pairs source b) (sym label) (has_chain direct.pairs limit direct.stops leaving source b way.0 _ same all here other way.1);
             least = λ t chain. elim (cases_lt limit t) [
               | inl lt ↦ omega (arith, lt, within)
               | inr ge ↦ shorter b s t label ge chain
@@ -123,7 +123,7 @@ row_closed direct limit source legs m given same all here low st = record {
         shorter : (b s t : ℕ) → s ≡ get_or m.labels b 0 → t ≤ limit → HasChain direct.pairs source b t → s ≤ t
         shorter b s t label ge chain =
             let sum = chain.1.sum in
-            let way = way_of_chain direct.pairs limit direct.stops legs chain.0 source source b 0 0 same given.between here chain.1.given chain.1.leads
+            let way = way_of_chain direct.pairs limit direct.stops leaving chain.0 source source b 0 0 same given.between here chain.1.given chain.1.leads
             (omega (arith, sum, ge)) (refl, refl) in
             let total : 0 + sum_by (λ (path : Footpath). path.2) chain.0 ≤ limit = omega (arith, sum, ge) in
             let l = st.least b way.0 _ way.1 total in
@@ -184,12 +184,13 @@ chain_end direct a b s given chain = go a chain.0 (chain_start direct a b s give
     go a (x ∷ xs) here all l = go x.1.0 xs (All-contains (LeadsBetween direct.stops) direct.pairs x given.between (All-head (Contains direct.pairs) x xs all)).to (All-tail (Contains direct.pairs) x xs all) l.1
 
 -- all stops
-pub closed_all : (direct : DirectLists) (limit n : ℕ) (feet : FootLists) → AreDirect direct → n ≡ direct.stops → AreClosedBelow direct.pairs limit n feet → AreClosed direct limit feet
+pub closed_all : (direct : DirectLists) (limit n : ℕ) (feet : FootLists) → AreDirect direct → n ≡ direct.stops → AreClosedBelow direct.pairs limit n feet → AreClosed direct limit (record { walks = feet; changes = direct.changes })
 closed_all direct limit n feet given e h = record {
   lists = h.lists ∙ e;
   ascending = h.ascending;
   least = h.least;
   complete = λ a b s other chain within. h.complete a b s (let w = chain_start direct a b s given chain in omega (arith, w, e)) other chain within;
+  changes = refl;
 }
 
 pub sum_more : (feet : FootLists) (row : List (StopNo × ℕ)) → sum_by length (feet ++ row ∷ []) ≡ sum_by length feet + length row

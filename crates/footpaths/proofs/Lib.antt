@@ -3,9 +3,10 @@ mod Steps
 mod Spreading
 mod Ways
 mod Ascending
+mod ChangeFacts
 mod Unique
 mod Closing
-mod Places
+mod Positions
 mod Fits
 mod PairFacts
 mod WalkFacts

@@ -9,40 +9,40 @@ use Rattle.std.proofs.lemmas.List.{length-set, get_or-set_same, get_or-set_other
 use Rattle.std.proofs.lemmas.List.Elements.{All-contains}
 use Rattle.std.proofs.lemmas.List.Sorted.{Contains-permutation, IsPermutation-sym}
 use Rattle.timetable.specs.declared.trips.StopNo.{StopNo}
-use Rattle.footpaths.specs.Adjacency.{Legs}
+use Rattle.footpaths.specs.Adjacency.{Leaving}
 use Rattle.footpaths.specs.Settling.{Marks, AreFresh, Way, LeadToStops, PassedOn, Spreads, IsSettled}
 use Rattle.footpaths.proofs.Steps.{Contains-front, Contains-later, Contains-split}
 use Rattle.footpaths.proofs.Touched.{touched_none, touched_sorted, touched_ascend}
 
 -- a way from a stop leads to a stop
-pub way_end : (legs : Legs) (stops a b n s : ℕ) → LeadToStops stops legs → a < stops → Way legs a b n s → b < stops
-way_end legs stops a b zero s all here c = subst (λ (x : ℕ). x < stops) c.0 here
-way_end legs stops a b (suc n) s all here c =
-    All-contains (λ (leg : StopNo × ℕ). leg.0.0 < stops) (legs c.0) (record { 0 = b }, c.2) (all c.0 (way_end legs stops a c.0 n c.1 all here c.3)) c.4
+pub way_end : (leaving : Leaving) (stops a b n s : ℕ) → LeadToStops stops leaving → a < stops → Way leaving a b n s → b < stops
+way_end leaving stops a b zero s all here c = subst (λ (x : ℕ). x < stops) c.0 here
+way_end leaving stops a b (suc n) s all here c =
+    All-contains (λ (footpath : StopNo × ℕ). footpath.0.0 < stops) (leaving c.0) (record { 0 = b }, c.2) (all c.0 (way_end leaving stops a c.0 n c.1 all here c.3)) c.4
 
 -- where nothing is noted, no way is shorter
-pub least : (legs : Legs) (stops source limit : ℕ) (m : Marks) → LeadToStops stops legs → length m.noted ≡ 0 → Spreads legs stops source limit m
-    → source < stops → (n p s : ℕ) → Way legs source p n s → s ≤ limit → get_or m.labels p 0 ≤ s
-least legs stops source limit m all none st here zero p s c low =
+pub least : (leaving : Leaving) (stops source limit : ℕ) (m : Marks) → LeadToStops stops leaving → length m.noted ≡ 0 → Spreads leaving stops source limit m
+    → source < stops → (n p s : ℕ) → Way leaving source p n s → s ≤ limit → get_or m.labels p 0 ≤ s
+least leaving stops source limit m all none st here zero p s c low =
     subst (λ (q : ℕ). get_or m.labels q 0 ≤ s) c.0 (let z = st.start in omega arith)
-least legs stops source limit m all none st here (suc n) p s c low =
-    let before = least legs stops source limit m all none st here n c.0 c.1 c.3 (let e = c.5 in omega arith) in
-    let place = way_end legs stops source c.0 n c.1 all here c.3 in
+least leaving stops source limit m all none st here (suc n) p s c low =
+    let before = least leaving stops source limit m all none st here n c.0 c.1 c.3 (let e = c.5 in omega arith) in
+    let place = way_end leaving stops source c.0 n c.1 all here c.3 in
     elim (st.passed c.0 place (let e = c.5 in omega arith)) [
       | inl noted ↦ (let h = noted.1 in absurd (omega arith))
       | inr on ↦ (let h = on p c.2 c.4 (let e = c.5 in omega arith) in let e = c.5 in omega arith)
     ]
 
 -- the note that is taken is of a stop
-pub note_taken : (legs : Legs) (stops source limit : ℕ) (m : Marks) (ks : List (ℕ × ℕ)) (x : ℕ × ℕ) → IsPermutation m.noted (x ∷ ks)
-    → Spreads legs stops source limit m → (x.0 ≤ limit) × (x.1 < stops)
-note_taken legs stops source limit m ks x moved st = st.noted x (Contains-permutation _ _ x (IsPermutation-sym _ _ moved) (Contains-front x ks))
+pub note_taken : (leaving : Leaving) (stops source limit : ℕ) (m : Marks) (ks : List (ℕ × ℕ)) (x : ℕ × ℕ) → IsPermutation m.noted (x ∷ ks)
+    → Spreads leaving stops source limit m → (x.0 ≤ limit) × (x.1 < stops)
+note_taken leaving stops source limit m ks x moved st = st.noted x (Contains-permutation _ _ x (IsPermutation-sym _ _ moved) (Contains-front x ks))
 
 -- a note that is out of date
-pub note_dropped : (legs : Legs) (stops source limit : ℕ) (m : Marks) (ks : List (ℕ × ℕ)) (x : ℕ × ℕ) → IsPermutation m.noted (x ∷ ks)
-    → Spreads legs stops source limit m → (limit - x.0 ≡ get_or m.labels x.1 0 → ⊥)
-    → Spreads legs stops source limit (record { labels = m.labels; touched = m.touched; noted = ks })
-note_dropped legs stops source limit m ks x moved st stale = record {
+pub note_dropped : (leaving : Leaving) (stops source limit : ℕ) (m : Marks) (ks : List (ℕ × ℕ)) (x : ℕ × ℕ) → IsPermutation m.noted (x ∷ ks)
+    → Spreads leaving stops source limit m → (limit - x.0 ≡ get_or m.labels x.1 0 → ⊥)
+    → Spreads leaving stops source limit (record { labels = m.labels; touched = m.touched; noted = ks })
+note_dropped leaving stops source limit m ks x moved st stale = record {
   count = st.count;
   start = st.start;
   way = st.way;
@@ -58,25 +58,25 @@ note_dropped legs stops source limit m ks x moved st stale = record {
 }
 
 -- a note that is up to date, once the label was passed on
-pub note_served : (legs : Legs) (stops source limit : ℕ) (m new : Marks) (ks : List (ℕ × ℕ)) (x : ℕ × ℕ)
-    → IsPermutation m.noted (x ∷ ks) → Spreads legs stops source limit m → limit - x.0 ≡ get_or m.labels x.1 0
-    → PassedOn limit (limit - x.0) (legs x.1) (record { labels = m.labels; touched = m.touched; noted = ks }) new → Spreads legs stops source limit new
-note_served legs stops source limit m new ks x moved st fresh p =
+pub note_served : (leaving : Leaving) (stops source limit : ℕ) (m new : Marks) (ks : List (ℕ × ℕ)) (x : ℕ × ℕ)
+    → IsPermutation m.noted (x ∷ ks) → Spreads leaving stops source limit m → limit - x.0 ≡ get_or m.labels x.1 0
+    → PassedOn limit (limit - x.0) (leaving x.1) (record { labels = m.labels; touched = m.touched; noted = ks }) new → Spreads leaving stops source limit new
+note_served leaving stops source limit m new ks x moved st fresh p =
     let first = st.noted x (Contains-permutation _ _ x (IsPermutation-sym _ _ moved) (Contains-front x ks)) in
     record {
       count = p.count ∙ st.count;
       start = let a = p.lower source in let b = st.start in omega arith;
       way = λ q here low. elim (p.cause q) [
-        | inl same ↦ subst (λ (l : ℕ). (n : ℕ) × Way legs source q n l) (sym same) (st.way q here (omega arith))
+        | inl same ↦ subst (λ (l : ℕ). (n : ℕ) × Way leaving source q n l) (sym same) (st.way q here (omega arith))
         | inr f ↦ let c = st.way x.1 first.1 (omega arith) in (suc c.0, (x.1, get_or m.labels x.1 0, f.0, c.1, f.1, f.3 ∙ ap (λ (l : ℕ). l + f.0) fresh))
       ];
       passed = λ u here low. elim (p.cause u) [
         | inr f ↦ inl f.4
         | inl same ↦ elim (st.passed u here (omega arith)) [
-          | inr on ↦ inr (λ v w leg within. let a = on v w leg (omega arith) in let b = p.lower v in omega arith)
+          | inr on ↦ inr (λ v w footpath within. let a = on v w footpath (omega arith) in let b = p.lower v in omega arith)
           | inl noted ↦ elim (Contains-split x _ ks (Contains-permutation _ _ _ moved noted)) [
             | inl c ↦ inl (p.kept _ (subst (λ (l : ℕ). Contains ks (limit - l, u)) (sym same) c))
-            | inr e ↦ inr (λ v w leg within. fresh_on u v w e leg within same)
+            | inr e ↦ inr (λ v w footpath within. fresh_on u v w e footpath within same)
           ]
         ]
       ];
@@ -87,21 +87,21 @@ note_served legs stops source limit m new ks x moved st fresh p =
       touched = p.touched source st.start (record { reached = st.touched.reached; all = st.touched.all; once = st.touched.once });
     }
   where
-    -- the stop itself: its label was passed on along its legs
-    fresh_on : (u v w : ℕ) → (limit - get_or m.labels u 0, u) ≡ x → Contains (legs u) (record { 0 = v }, w) → get_or new.labels u 0 + w ≤ limit
+    -- the stop itself: its label was passed on along its leaving
+    fresh_on : (u v w : ℕ) → (limit - get_or m.labels u 0, u) ≡ x → Contains (leaving u) (record { 0 = v }, w) → get_or new.labels u 0 + w ≤ limit
         → get_or new.labels u 0 ≡ get_or m.labels u 0 → get_or new.labels v 0 ≤ get_or new.labels u 0 + w
-    fresh_on u v w e leg within same =
+    fresh_on u v w e footpath within same =
         let stop : u ≡ x.1 = ap (λ (y : ℕ × ℕ). y.1) e in
         let label : get_or new.labels u 0 ≡ limit - x.0 = same ∙ ap (λ (q : ℕ). get_or m.labels q 0) stop ∙ sym fresh in
-        let known : Contains (legs x.1) (record { 0 = v }, w) = subst (λ (q : ℕ). Contains (legs q) (record { 0 = v }, w)) stop leg in
+        let known : Contains (leaving x.1) (record { 0 = v }, w) = subst (λ (q : ℕ). Contains (leaving q) (record { 0 = v }, w)) stop footpath in
         let a = p.met v w known (omega arith) in
         omega arith
 
 -- at first the source alone has a label, and is noted
-pub started : (legs : Legs) (stops source limit : ℕ) (m : Marks) (ks : List (ℕ × ℕ)) → limit ≤ 7200 → source < stops → AreFresh stops m
+pub started : (leaving : Leaving) (stops source limit : ℕ) (m : Marks) (ks : List (ℕ × ℕ)) → limit ≤ 7200 → source < stops → AreFresh stops m
     → IsPermutation ((limit, source) ∷ []) ks
-    → Spreads legs stops source limit (record { labels = set m.labels source 0; touched = []; noted = ks })
-started legs stops source limit m ks low here fresh moved =
+    → Spreads leaving stops source limit (record { labels = set m.labels source 0; touched = []; noted = ks })
+started leaving stops source limit m ks low here fresh moved =
     let place : source < length m.labels = rw fresh.count here in
     let at : get_or (set m.labels source 0) source 0 ≡ 0 = get_or-set_same m.labels source 0 0 place in
     let other : (p : ℕ) → p < stops → p ≢ source → get_or (set m.labels source 0) p 0 ≡ 4294967295 = λ p h n. get_or-set_other m.labels source p 0 0 n ∙ fresh.never p 0 (rw fresh.count h) in
@@ -136,10 +136,10 @@ started legs stops source limit m ks low here fresh moved =
     start_note p e = pair _ _ _ _ (less limit _ (zero_at p e)) (sym e)
 
 -- when nothing is noted and the stops that are reached are sorted
-pub settled : (legs : Legs) (stops source limit : ℕ) (m : Marks) (ts : List ℕ) (ks : List (ℕ × ℕ)) → LeadToStops stops legs → source < stops → length m.noted ≡ 0 → length ks ≡ 0
-    → Spreads legs stops source limit m → IsPermutation m.touched ts → IsSorted nat_cmp ts
-    → IsSettled legs stops source limit (record { labels = m.labels; touched = ts; noted = ks })
-settled legs stops source limit m ts ks all here none left st moved sorted =
+pub settled : (leaving : Leaving) (stops source limit : ℕ) (m : Marks) (ts : List ℕ) (ks : List (ℕ × ℕ)) → LeadToStops stops leaving → source < stops → length m.noted ≡ 0 → length ks ≡ 0
+    → Spreads leaving stops source limit m → IsPermutation m.touched ts → IsSorted nat_cmp ts
+    → IsSettled leaving stops source limit (record { labels = m.labels; touched = ts; noted = ks })
+settled leaving stops source limit m ts ks all here none left st moved sorted =
     let touched = touched_sorted source limit m ts ks moved st.touched in
     record {
       count = st.count;
@@ -147,5 +147,5 @@ settled legs stops source limit m ts ks all here none left st moved sorted =
       noted = nil_from_length ks left;
       touched = touched;
       way = st.way;
-      least = λ p n s c low. least legs stops source limit m all none st here n p s c low;
+      least = λ p n s c low. least leaving stops source limit m all none st here n p s c low;
     }

@@ -1,4 +1,4 @@
--- One step of settling: a label is offered to a stop, and to one leg more.
+-- One step of settling: a label is offered to a stop, and to one footpath more.
 use Rattle.std.proofs.Common.{◌≡◌, ◌<◌, ◌≤◌, ◌+◌, ◌-◌, ◌++◌, ◌⊎◌, inl, inr, ℕ, zero, suc, List, [], ◌∷◌, length, take, get_or, arith, refl, sym, ◌∙◌, ap, subst}
 use Rattle.std.proofs.Math.ListN.{set}
 use Rattle.std.specs.List.{Contains}
@@ -82,7 +82,7 @@ unrelaxed limit stop label old h = record {
   touched = λ source start t. t;
 }
 
--- a leg of one more is a leg of those before, or that leg
+-- a footpath of one more is a footpath of those before, or that footpath
 pub Contains-more : {X : Type 0} (xs : List X) (i : ℕ) (x d : X) → i < length xs → Contains (take (i + 1) xs) x → (Contains (take i xs) x) ⊎ (x ≡ get_or xs i d)
 Contains-more xs i x d here c =
     let below : c.0 < i + 1 = rw (← length-take-le (i + 1) xs (omega arith)) c.1 in
@@ -96,11 +96,11 @@ Contains-kept xs i x here c =
     let below : c.0 < i = rw (← length-take-le i xs (omega arith)) c.1 in
     (c.0, rw (length-take-le (i + 1) xs (omega arith)) (omega arith), get_or-take (i + 1) xs c.0 x (omega arith) ∙ sym (get_or-take i xs c.0 x below) ∙ c.2)
 
--- the leg at i is a leg of one more
+-- the footpath at i is a footpath of one more
 pub Contains-last : {X : Type 0} (xs : List X) (i : ℕ) (d : X) → i < length xs → Contains (take (i + 1) xs) (get_or xs i d)
 Contains-last xs i d here = subst (Contains (take (i + 1) xs)) (get_or-take (i + 1) xs i d (omega arith)) (Contains-get_or (take (i + 1) xs) i d (rw (length-take-le (i + 1) xs (omega arith)) (omega arith)))
 
--- no leg yet
+-- no footpath yet
 pub passed_none : (limit label : ℕ) (m : Marks) → PassedOn limit label [] m m
 passed_none limit label m = record {
   count = refl;
@@ -113,19 +113,19 @@ passed_none limit label m = record {
   touched = λ source start t. t;
 }
 
--- one leg more, whose label is past the limit
-pub leg_skipped : (limit label i : ℕ) (legs : List (StopNo × ℕ)) (old new : Marks) (d : StopNo × ℕ) → i < length legs
-    → limit < label + (get_or legs i d).1 → PassedOn limit label (take i legs) old new → PassedOn limit label (take (i + 1) legs) old new
-leg_skipped limit label i legs old new d here high p = record {
+-- one footpath more, whose label is past the limit
+pub leg_skipped : (limit label i : ℕ) (leaving : List (StopNo × ℕ)) (old new : Marks) (d : StopNo × ℕ) → i < length leaving
+    → limit < label + (get_or leaving i d).1 → PassedOn limit label (take i leaving) old new → PassedOn limit label (take (i + 1) leaving) old new
+leg_skipped limit label i leaving old new d here high p = record {
   count = p.count;
   lower = p.lower;
-  met = λ v w c low. elim (Contains-more legs i (record { 0 = v }, w) d here c) [
+  met = λ v w c low. elim (Contains-more leaving i (record { 0 = v }, w) d here c) [
     | inl before ↦ p.met v w before low
-    | inr e ↦ let f : w ≡ (get_or legs i d).1 = ap (λ (q : StopNo × ℕ). q.1) e in absurd (omega arith)
+    | inr e ↦ let f : w ≡ (get_or leaving i d).1 = ap (λ (q : StopNo × ℕ). q.1) e in absurd (omega arith)
   ];
   cause = λ q. elim (p.cause q) [
     | inl e ↦ inl e
-    | inr f ↦ inr (f.0, Contains-kept legs i _ here f.1, f.2, f.3, f.4)
+    | inr f ↦ inr (f.0, Contains-kept leaving i _ here f.1, f.2, f.3, f.4)
   ];
   kept = p.kept;
   only = p.only;
@@ -133,28 +133,28 @@ leg_skipped limit label i legs old new d here high p = record {
   touched = p.touched;
 }
 
--- one leg more, along which the label was passed
-pub leg_passed : (limit label i : ℕ) (legs : List (StopNo × ℕ)) (old now new : Marks) (d : StopNo × ℕ) → i < length legs
-    → (get_or legs i d).0.0 < length old.labels → label + (get_or legs i d).1 ≤ limit → PassedOn limit label (take i legs) old now
-    → Relaxed limit (get_or legs i d).0.0 (label + (get_or legs i d).1) now new → PassedOn limit label (take (i + 1) legs) old new
-leg_passed limit label i legs old now new d here to low p r = record {
+-- one footpath more, along which the label was passed
+pub leg_passed : (limit label i : ℕ) (leaving : List (StopNo × ℕ)) (old now new : Marks) (d : StopNo × ℕ) → i < length leaving
+    → (get_or leaving i d).0.0 < length old.labels → label + (get_or leaving i d).1 ≤ limit → PassedOn limit label (take i leaving) old now
+    → Relaxed limit (get_or leaving i d).0.0 (label + (get_or leaving i d).1) now new → PassedOn limit label (take (i + 1) leaving) old new
+leg_passed limit label i leaving old now new d here to low p r = record {
   count = r.count ∙ p.count;
   lower = λ q. let a = r.lower q in let b = p.lower q in omega arith;
-  met = λ v w c within. elim (Contains-more legs i (record { 0 = v }, w) d here c) [
+  met = λ v w c within. elim (Contains-more leaving i (record { 0 = v }, w) d here c) [
     | inl before ↦ let a = r.lower v in let b = p.met v w before within in omega arith
     | inr e ↦ subst (λ (x : StopNo × ℕ). get_or new.labels x.0.0 0 ≤ label + x.1) (sym e) r.met
   ];
   cause = λ q. elim (r.cause q) [
     | inl same ↦ elim (p.cause q) [
       | inl e ↦ inl (same ∙ e)
-      | inr f ↦ inr (f.0, Contains-kept legs i _ here f.1, f.2, same ∙ f.3, r.kept _ (subst (λ (l : ℕ). Contains now.noted (limit - l, q)) (sym same) f.4))
+      | inr f ↦ inr (f.0, Contains-kept leaving i _ here f.1, f.2, same ∙ f.3, r.kept _ (subst (λ (l : ℕ). Contains now.noted (limit - l, q)) (sym same) f.4))
     ]
     | inr f ↦ inr (
-      (get_or legs i d).1,
-      subst (λ (x : ℕ). Contains (take (i + 1) legs) (record { 0 = x }, (get_or legs i d).1)) (sym f.0) (Contains-last legs i d here),
+      (get_or leaving i d).1,
+      subst (λ (x : ℕ). Contains (take (i + 1) leaving) (record { 0 = x }, (get_or leaving i d).1)) (sym f.0) (Contains-last leaving i d here),
       low,
       f.1,
-      subst (λ (l : ℕ). Contains new.noted (limit - l, q)) (sym f.1) (subst (λ (x : ℕ). Contains new.noted (limit - (label + (get_or legs i d).1), x)) (sym f.0) f.2),
+      subst (λ (l : ℕ). Contains new.noted (limit - l, q)) (sym f.1) (subst (λ (x : ℕ). Contains new.noted (limit - (label + (get_or leaving i d).1), x)) (sym f.0) f.2),
     )
   ];
   kept = λ x c. r.kept x (p.kept x c);

@@ -1,4 +1,4 @@
--- Ways along the legs within a limit are chains of direct footpaths, and the other way round.
+-- Ways along the leaving within a limit are chains of direct footpaths, and the other way round.
 use Rattle.std.proofs.Common.{◌≡◌, ◌≢◌, ◌<◌, ◌≤◌, ◌+◌, ◌++◌, inl, inr, ℕ, zero, suc, List, [], ◌∷◌, Bool, true, false, cond, length, map, sum_by, arith, refl, sym, ◌∙◌, ap, subst}
 use Rattle.std.specs.List.{Contains, All, filter}
 use Rattle.std.specs.Prelude.{nat_eq, nat_le}
@@ -9,7 +9,7 @@ use Rattle.std.proofs.lemmas.List.Sums.{sum_by_push, sum_by-cons}
 use Rattle.timetable.specs.declared.trips.StopNo.{StopNo}
 use Rattle.footpaths.specs.Direct.{Footpath, LeadsBetween}
 use Rattle.footpaths.specs.Chains.{Leads, HasChain}
-use Rattle.footpaths.specs.Adjacency.{Legs, leaves, legs_of}
+use Rattle.footpaths.specs.Adjacency.{Leaving, leaves, legs_of}
 use Rattle.footpaths.specs.Settling.{Way, LeadToStops}
 use Rattle.footpaths.proofs.Steps.{Contains-front, Contains-later, Contains-split}
 use Rattle.footpaths.proofs.Spreading.{way_end}
@@ -27,15 +27,15 @@ leaves_true limit stop path e = elim (cases_Bool (nat_eq path.0.0 stop)) [
 true_leaves : (limit : ℕ) (path : Footpath) → path.2 ≤ limit → leaves limit path.0.0 path ≡ true
 true_leaves limit path low = rw (eq-eqb path.0.0 path.0.0 refl) (le-leb path.2 limit low)
 
--- a leg from a stop is a direct footpath within the limit
-pub direct_leg : (direct : List Footpath) (limit stop : ℕ) (to : StopNo) (w : ℕ) → Contains {X = StopNo × ℕ} (legs_of direct limit stop) (to, w)
+-- a footpath from a stop is a direct footpath within the limit
+pub direct_leaving : (direct : List Footpath) (limit stop : ℕ) (to : StopNo) (w : ℕ) → Contains {X = StopNo × ℕ} (legs_of direct limit stop) (to, w)
     → Contains {X = Footpath} direct (record { 0 = stop }, to, w) × (w ≤ limit)
-direct_leg [] limit stop to w c = let z = c.1 in absurd (omega (arith, z))
-direct_leg (x ∷ xs) limit stop to w c = elim (cases_Bool (leaves limit stop x)) [
+direct_leaving [] limit stop to w c = let z = c.1 in absurd (omega (arith, z))
+direct_leaving (x ∷ xs) limit stop to w c = elim (cases_Bool (leaves limit stop x)) [
   | inl out ↦
       elim (Contains-split (x.1, x.2) (to, w) (legs_of xs limit stop)
       (subst (λ (t : Bool). Contains {X = StopNo × ℕ} (map (λ (path : Footpath). (path.1, path.2)) (cond t (x ∷ filter (leaves limit stop) xs) (filter (leaves limit stop) xs))) (to, w)) out c)) [
-        | inl later ↦ let r = direct_leg xs limit stop to w later in (Contains-later x _ xs r.0, r.1)
+        | inl later ↦ let r = direct_leaving xs limit stop to w later in (Contains-later x _ xs r.0, r.1)
         | inr here ↦
             let l = leaves_true limit stop x out in
             let first : x.0.0 ≡ stop = l.0 in
@@ -45,7 +45,7 @@ direct_leg (x ∷ xs) limit stop to w c = elim (cases_Bool (leaves limit stop x)
             (subst (λ (p : Footpath). Contains (x ∷ xs) p) same (Contains-front x xs), omega (arith, secs, low))
       ]
   | inr not ↦
-      let r = direct_leg xs limit stop to w
+      let r = direct_leaving xs limit stop to w
       (subst (λ (t : Bool). Contains {X = StopNo × ℕ} (map (λ (path : Footpath). (path.1, path.2)) (cond t (x ∷ filter (leaves limit stop) xs) (filter (leaves limit stop) xs))) (to, w)) not c) in
       (Contains-later x _ xs r.0, r.1)
 ]
@@ -53,7 +53,7 @@ direct_leg (x ∷ xs) limit stop to w c = elim (cases_Bool (leaves limit stop x)
     path_is : (x : Footpath) (stop : ℕ) (to : StopNo) (w : ℕ) → x.0.0 ≡ stop → ◌≡◌ {A = StopNo × ℕ} (to, w) (x.1, x.2) → ◌≡◌ {A = Footpath} x (record { 0 = stop }, to, w)
     path_is x stop to w e f = ap (λ (q : ℕ). (record { 0 = q }, x.1, x.2)) e ∙ ap (λ (q : StopNo × ℕ). (record { 0 = stop }, q.0, q.1)) (sym f)
 
--- a direct footpath within the limit is a leg from where it begins
+-- a direct footpath within the limit is a footpath from where it begins
 pub leg_of_direct : (direct : List Footpath) (limit : ℕ) (path : Footpath) → Contains direct path → path.2 ≤ limit
     → Contains {X = StopNo × ℕ} (legs_of direct limit path.0.0) (path.1, path.2)
 leg_of_direct [] limit path c low = let z = c.1 in absurd (omega (arith, z))
@@ -78,14 +78,14 @@ leads_more [] a c b path l e f = (e ∙ sym l, f)
 leads_more (x ∷ xs) a c b path l e f = (l.0, leads_more xs x.1.0 c b path l.1 e f)
 
 -- a way is a list of direct footpaths
-pub chain_of_way : (direct : List Footpath) (limit stops : ℕ) (legs : Legs) (a b n s : ℕ) → ((u : ℕ) → u < stops → legs u ≡ legs_of direct limit u) → LeadToStops stops legs → a < stops
-    → Way legs a b n s → (chain : List Footpath) × All (Contains direct) chain × Leads chain a b × (sum_by (λ (path : Footpath). path.2) chain ≡ s) × (length chain ≡ n)
-chain_of_way direct limit stops legs a b zero s same all here way = ([], All-nil (Contains direct), way.0, sym way.1, refl)
-chain_of_way direct limit stops legs a b (suc n) s same all here way =
-    let before = chain_of_way direct limit stops legs a way.0 n way.1 same all here way.3 in
-    let place = way_end legs stops a way.0 n way.1 all here way.3 in
+pub chain_of_way : (direct : List Footpath) (limit stops : ℕ) (leaving : Leaving) (a b n s : ℕ) → ((u : ℕ) → u < stops → leaving u ≡ legs_of direct limit u) → LeadToStops stops leaving → a < stops
+    → Way leaving a b n s → (chain : List Footpath) × All (Contains direct) chain × Leads chain a b × (sum_by (λ (path : Footpath). path.2) chain ≡ s) × (length chain ≡ n)
+chain_of_way direct limit stops leaving a b zero s same all here way = ([], All-nil (Contains direct), way.0, sym way.1, refl)
+chain_of_way direct limit stops leaving a b (suc n) s same all here way =
+    let before = chain_of_way direct limit stops leaving a way.0 n way.1 same all here way.3 in
+    let place = way_end leaving stops a way.0 n way.1 all here way.3 in
     let path : Footpath = (record { 0 = way.0 }, record { 0 = b }, way.2) in
-    let given = direct_leg direct limit way.0 (record { 0 = b }) way.2 (subst (λ (ls : List (StopNo × ℕ)). Contains {X = StopNo × ℕ} ls (record { 0 = b }, way.2)) (same way.0 place) way.4) in
+    let given = direct_leaving direct limit way.0 (record { 0 = b }) way.2 (subst (λ (ls : List (StopNo × ℕ)). Contains {X = StopNo × ℕ} ls (record { 0 = b }, way.2)) (same way.0 place) way.4) in
     let total = sum_by_push (λ (p : Footpath). p.2) before.0 path in
     let sum_before = before.3 in
     let sum_now = way.5 in
@@ -98,10 +98,10 @@ chain_of_way direct limit stops legs a b (suc n) s same all here way =
       omega (arith, count_before, count_now),
     )
 
-pub has_chain : (direct : List Footpath) (limit stops : ℕ) (legs : Legs) (a b n s : ℕ) → ((u : ℕ) → u < stops → legs u ≡ legs_of direct limit u) → LeadToStops stops legs → a < stops
-    → a ≢ b → Way legs a b n s → HasChain direct a b s
-has_chain direct limit stops legs a b n s same all here other way =
-    let c = chain_of_way direct limit stops legs a b n s same all here way in
+pub has_chain : (direct : List Footpath) (limit stops : ℕ) (leaving : Leaving) (a b n s : ℕ) → ((u : ℕ) → u < stops → leaving u ≡ legs_of direct limit u) → LeadToStops stops leaving → a < stops
+    → a ≢ b → Way leaving a b n s → HasChain direct a b s
+has_chain direct limit stops leaving a b n s same all here other way =
+    let c = chain_of_way direct limit stops leaving a b n s same all here way in
     (c.0, record { some = some c.0 c.2; given = c.1; leads = c.2; sum = c.3 })
   where
     some : (chain : List Footpath) → Leads chain a b → 0 < length chain
@@ -109,24 +109,24 @@ has_chain direct limit stops legs a b n s same all here other way =
     some (x ∷ xs) l = omega arith
 
 -- a list of direct footpaths within the limit makes a way longer
-pub way_of_chain : (direct : List Footpath) (limit stops : ℕ) (legs : Legs) (chain : List Footpath) (o a b n r : ℕ) → ((u : ℕ) → u < stops → legs u ≡ legs_of direct limit u)
+pub way_of_chain : (direct : List Footpath) (limit stops : ℕ) (leaving : Leaving) (chain : List Footpath) (o a b n r : ℕ) → ((u : ℕ) → u < stops → leaving u ≡ legs_of direct limit u)
     → All (LeadsBetween stops) direct → a < stops → All (Contains direct) chain → Leads chain a b → sum_by (λ (path : Footpath). path.2) chain ≤ limit
-    → Way legs o a n r → (m : ℕ) × Way legs o b m (r + sum_by (λ (path : Footpath). path.2) chain)
-way_of_chain direct limit stops legs [] o a b n r same between here given l low way =
-    (n, subst (λ (q : ℕ). Way legs o q n (r + 0)) l (subst (λ (t : ℕ). Way legs o a n t) (nothing r) way))
+    → Way leaving o a n r → (m : ℕ) × Way leaving o b m (r + sum_by (λ (path : Footpath). path.2) chain)
+way_of_chain direct limit stops leaving [] o a b n r same between here given l low way =
+    (n, subst (λ (q : ℕ). Way leaving o q n (r + 0)) l (subst (λ (t : ℕ). Way leaving o a n t) (nothing r) way))
   where
     nothing : (r : ℕ) → r ≡ r + 0
     nothing r = omega arith
-way_of_chain direct limit stops legs (x ∷ xs) o a b n r same between here given l low way =
+way_of_chain direct limit stops leaving (x ∷ xs) o a b n r same between here given l low way =
     let total = sum_by-cons (λ (p : Footpath). p.2) x xs in
     let path = All-head (Contains direct) x xs given in
     let start = l.0 in
     let first : x.2 ≤ limit = omega (arith, total, low) in
-    let leg : Contains {X = StopNo × ℕ} (legs a) (x.1, x.2) = subst (λ (ls : List (StopNo × ℕ)). Contains {X = StopNo × ℕ} ls (x.1, x.2)) (sym (same a here)) (subst (λ (q : ℕ). Contains {X = StopNo × ℕ} (legs_of direct limit q) (x.1, x.2)) start (leg_of_direct direct limit x path first)) in
-    let on : Way legs o x.1.0 (suc n) (r + x.2) = (a, r, x.2, way, leg, refl) in
+    let footpath : Contains {X = StopNo × ℕ} (leaving a) (x.1, x.2) = subst (λ (ls : List (StopNo × ℕ)). Contains {X = StopNo × ℕ} ls (x.1, x.2)) (sym (same a here)) (subst (λ (q : ℕ). Contains {X = StopNo × ℕ} (legs_of direct limit q) (x.1, x.2)) start (leg_of_direct direct limit x path first)) in
+    let on : Way leaving o x.1.0 (suc n) (r + x.2) = (a, r, x.2, way, footpath, refl) in
     let place : x.1.0 < stops = (All-contains (LeadsBetween stops) direct x between path).to in
-    let rest = way_of_chain direct limit stops legs xs o x.1.0 b (suc n) (r + x.2) same between place (All-tail (Contains direct) x xs given) l.1 (omega (arith, total, low)) on in
-    (rest.0, subst (λ (t : ℕ). Way legs o b rest.0 t) (together r x.2 _ _ total) rest.1)
+    let rest = way_of_chain direct limit stops leaving xs o x.1.0 b (suc n) (r + x.2) same between place (All-tail (Contains direct) x xs given) l.1 (omega (arith, total, low)) on in
+    (rest.0, subst (λ (t : ℕ). Way leaving o b rest.0 t) (together r x.2 _ _ total) rest.1)
   where
     together : (r w s t : ℕ) → t ≡ w + s → r + w + s ≡ r + t
     together r w s t e = omega arith

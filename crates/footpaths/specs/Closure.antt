@@ -1,9 +1,9 @@
 -- Closed footpaths: for each stop the other stops that chains of direct footpaths reach within a limit, each with its
--- walking time. Two walks never follow one another in a journey, since one closed footpath stands for all of them.
+-- walking time; the change times stay. Two walks never follow one another in a journey, since one closed footpath stands for all of them.
 use Rattle.std.specs.Prelude.{◌≡◌, ◌≢◌, ℕ, ◌<◌, ◌≤◌, ◌+◌, List, length, slice_get, sum_by, Some}
 use Rattle.timetable.specs.declared.trips.StopNo.{StopNo}
 use Rattle.timetable.specs.declared.limits.TheConstants.{MOST_FOOTPATHS}
-use Rattle.timetable.specs.Footpaths.{FootLists, IsFoot}
+use Rattle.timetable.specs.Footpaths.{FootLists, FeetData, IsFoot}
 use Rattle.footpaths.specs.declared.faults.FootFault.{FootFault}
 use Rattle.footpaths.specs.declared.faults.FootFault.TheVariants.{TooMany, Memory}
 use Rattle.footpaths.specs.Direct.{Footpath, DirectLists}
@@ -17,17 +17,18 @@ Ascends row = (k : ℕ) (x y : StopNo × ℕ) → slice_get row k ≡ Some x →
 abbrev pub AllAscend : FootLists → Type 0
 AllAscend feet = (a : ℕ) (row : List (StopNo × ℕ)) → slice_get feet a ≡ Some row → Ascends row
 
--- each stated time is the walking time, and whatever a chain reaches within the limit is stated
-pub record AreClosed (direct : DirectLists) (limit : ℕ) (feet : FootLists) : Type 0 where
-  pub lists : length feet ≡ direct.stops
-  pub ascending : AllAscend feet
-  pub least : (a b seconds : ℕ) → IsFoot feet a b seconds → Foot direct.pairs limit a b seconds
-  pub complete : (a b seconds : ℕ) → a ≢ b → HasChain direct.pairs a b seconds → seconds ≤ limit → (time : ℕ) × IsFoot feet a b time
+-- each stated time is the walking time, whatever a chain reaches within the limit is stated, and the change times stay
+pub record AreClosed (direct : DirectLists) (limit : ℕ) (feet : FeetData) : Type 0 where
+  pub lists : length feet.walks ≡ direct.stops
+  pub ascending : AllAscend feet.walks
+  pub least : (a b seconds : ℕ) → IsFoot feet.walks a b seconds → Foot direct.pairs limit a b seconds
+  pub complete : (a b seconds : ℕ) → a ≢ b → HasChain direct.pairs a b seconds → seconds ≤ limit → (time : ℕ) × IsFoot feet.walks a b time
+  pub changes : feet.changes ≡ direct.changes
 
 -- ... and they are few enough
-pub record IsClosure (direct : DirectLists) (limit : ℕ) (feet : FootLists) : Type 0 where
+pub record IsClosure (direct : DirectLists) (limit : ℕ) (feet : FeetData) : Type 0 where
   pub closed : AreClosed direct limit feet
-  pub few : sum_by length feet ≤ MOST_FOOTPATHS
+  pub few : sum_by length feet.walks ≤ MOST_FOOTPATHS
 
 -- too many pairs of stops have a walking time: some of them, each once, are past the limit of footpaths
 pub record HasTooMany (direct : List Footpath) (limit : ℕ) : Type 0 where
@@ -43,8 +44,8 @@ IsFootFault Memory direct limit = Unit {0}
 
 -- two closures of the same footpaths within the same limit are one
 abbrev pub ClosuresAreUnique : Type 0
-ClosuresAreUnique = (direct : DirectLists) (limit : ℕ) (f g : FootLists) → AreClosed direct limit f → AreClosed direct limit g → f ≡ g
+ClosuresAreUnique = (direct : DirectLists) (limit : ℕ) (f g : FeetData) → AreClosed direct limit f → AreClosed direct limit g → f ≡ g
 
 -- footpaths that are too many have no closure that is few enough
 abbrev pub TooManyHaveNoClosure : Type 0
-TooManyHaveNoClosure = (direct : DirectLists) (limit : ℕ) (feet : FootLists) → HasTooMany direct.pairs limit → IsClosure direct limit feet → ⊥
+TooManyHaveNoClosure = (direct : DirectLists) (limit : ℕ) (feet : FeetData) → HasTooMany direct.pairs limit → IsClosure direct limit feet → ⊥

@@ -1,17 +1,19 @@
 -- Direct footpaths, as rows of transfers.txt and of a file of footpaths give them: from one stop to another, one way.
--- A pair of stops may be given more than once, with other times. (After the GTFS Schedule reference, transfers.txt.)
-use Rattle.std.specs.Prelude.{◌≢◌, ℕ, ◌<◌, ◌≤◌, List, length, All}
+-- A pair of stops may be given more than once, with other times. Each stop has a change time, nought where none is stated.
+-- (After the GTFS Schedule reference, transfers.txt.)
+use Rattle.std.specs.Prelude.{◌≡◌, ◌≢◌, ℕ, ◌<◌, ◌≤◌, List, length, All}
 use Rattle.timetable.specs.declared.trips.StopNo.{StopNo}
-use Rattle.timetable.specs.declared.limits.TheConstants.{MOST_STOPS, MOST_FOOTPATHS}
+use Rattle.timetable.specs.declared.limits.TheConstants.{MOST_STOPS, MOST_FOOTPATHS, MOST_CHANGE_SECONDS}
 
 -- from this stop, to that one, in so many seconds
 abbrev pub Footpath : Type 0
 Footpath = StopNo × StopNo × ℕ
 
--- how many stops there are, and the footpaths that the rows give, in their order
+-- how many stops there are, the footpaths that the rows give, in their order, and the change time of each stop
 pub record DirectLists : Type 0 where
   pub stops : ℕ
   pub pairs : List Footpath
+  pub changes : List ℕ
 
 -- a footpath leads from a stop to another one
 pub record LeadsBetween (stops : ℕ) (path : Footpath) : Type 0 where
@@ -24,3 +26,5 @@ pub record AreDirect (direct : DirectLists) : Type 0 where
   pub stops : direct.stops ≤ MOST_STOPS
   pub between : All (LeadsBetween direct.stops) direct.pairs
   pub few : length direct.pairs ≤ MOST_FOOTPATHS
+  pub each : length direct.changes ≡ direct.stops
+  pub short : All (λ seconds. seconds ≤ MOST_CHANGE_SECONDS) direct.changes

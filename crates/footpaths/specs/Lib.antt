@@ -1,7 +1,9 @@
 pub mod Direct
+pub mod Changes
 pub mod Pairs
 pub mod Walks
 pub mod Chains
 pub mod Closure
 pub mod Adjacency
 pub mod Settling
+pub mod FaultWords

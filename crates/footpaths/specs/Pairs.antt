@@ -7,7 +7,7 @@ use Rattle.footpaths.specs.Direct.{DirectLists, Footpath}
 
 -- the footpaths of these lists, and more behind them
 abbrev pub with_more : DirectLists → List Footpath → DirectLists
-with_more direct more = record { stops = direct.stops; pairs = direct.pairs ++ more }
+with_more direct more = record { stops = direct.stops; pairs = direct.pairs ++ more; changes = direct.changes }
 
 -- why more footpaths aren't added: no memory, or they go past the limit
 abbrev pub IsRefusal : DirectLists → List Footpath → What → Type 0

@@ -23,6 +23,7 @@ use Rattle.gtfs_tables.specs.Feed.{FeedData}
 use Rattle.gtfs_tables.specs.Files.{Bytes, optional, rows_in}
 use Rattle.footpaths.specs.declared.walks.Walk.{Walk}
 use Rattle.footpaths.specs.declared.walks.WalkColumns.{WalkColumns}
+use Rattle.footpaths.specs.Changes.{change_times}
 use Rattle.footpaths.specs.Direct.{DirectLists, Footpath}
 
 -- footpaths are more than the limit
@@ -69,8 +70,8 @@ walk_rows bytes = table_rows row_of (records_of bytes)
 -- the walk that a record states
 abbrev pub walk_of : FeedData → WalkRow → Walk
 walk_of feed r = record {
-  origin = end_of feed.names feed.places r.from;
-  target = end_of feed.names feed.places r.to;
+  origin = end_of feed.names feed.locations r.from;
+  target = end_of feed.names feed.locations r.to;
   seconds = unwrap_or (number_of r.seconds) 0;
 }
 
@@ -82,9 +83,9 @@ pairs_of_walk children walk = pairs_between (stops_at walk.origin children) (sto
 abbrev pub pairs_with : FeedData → List WalkRow → List Footpath
 pairs_with feed rows = pairs_of_links feed.children feed.links ++ flat_map (λ r. pairs_of_walk feed.children (walk_of feed r)) rows
 
--- ... between the stops of the feed
+-- ... between the stops of the feed, with their change times
 abbrev pub lists_with : FeedData → List WalkRow → DirectLists
-lists_with feed rows = record { stops = length feed.stops; pairs = pairs_with feed rows }
+lists_with feed rows = record { stops = length feed.stops; pairs = pairs_with feed rows; changes = change_times feed }
 
 -- what is wrong with a record by itself, in the order of the checks: ends without an identifier, or with that of no record
 -- of stops.txt, and seconds that are no number

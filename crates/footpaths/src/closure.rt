@@ -19,6 +19,7 @@ pub fn limit_fits(limit: u32) -> bool
 }
 
 /// Closes direct footpaths: from each stop to each other the least sum over chains, where it is at most `limit` seconds.
+/// The change times stay.
 /// (Closed as the RAPTOR paper asks for: Delling, Pajor, Werneck, ALENEX 2012.)
 ///
 /// `TooMany` where more than 4,000,000 pairs of stops have such a sum, before they are all made; `Memory` where a
@@ -30,7 +31,8 @@ pub fn close(alloc: Global, direct: &Direct, limit: u32) -> Result<Feet, FootFau
 {
     direct.known();
     let lists = closed_lists(alloc, direct, limit)?;
-    match Feet::new(alloc, direct.stops(), lists) {
+    let changes = Vec::from_slice(alloc, direct.changes())?;
+    match Feet::new(alloc, direct.stops(), lists, changes) {
         Ok(feet) => Ok(feet),
         Err(_) => unreachable!(),
     }
@@ -43,7 +45,7 @@ fn closed_lists(
     limit: u32,
 ) -> Result<Vec<Vec<(StopNo, u32)>>, FootFault>
     requires { limit ≤ MOST_FOOT_SECONDS }
-    ensures ok { IfOk result (λ lists. IsClosure direct.now limit (rows_of lists.items)) }
+    ensures ok { IfOk result (λ lists. IsClosure direct.now limit (record { walks = rows_of lists.items; changes = direct.now.changes })) }
     ensures fault { IfErr result (λ fault. IsFootFault fault direct.now limit) }
 {
     direct.known();

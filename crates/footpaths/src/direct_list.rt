@@ -1,18 +1,20 @@
 //! Direct footpaths, as rows of `transfers.txt` and of a file of footpaths give them.
-ghost use Rattle.std.specs.Prelude.{◌≡◌, ◌≢◌, ◌<◌, ◌≤◌, ◌++◌, ◌∷◌, [], IfOk, OnOk, OnErr, length};
+ghost use Rattle.std.specs.Prelude.{◌≡◌, ◌≢◌, ◌<◌, ◌≤◌, ◌++◌, ◌∷◌, [], All, IfOk, OnOk, OnErr, length};
 
 use std::alloc::{AllocError, Global};
 use std::marker::Model;
-use timetable::{MOST_FOOTPATHS, MOST_STOPS, StopNo};
+use timetable::{MOST_CHANGE_SECONDS, MOST_FOOTPATHS, MOST_STOPS, StopNo};
 
 /// Direct footpaths between the stops of a feed, in the order of the rows that give them.
-/// Each leads one way, from a stop to another; a pair may come again with other seconds.
+/// Each leads one way, from a stop to another; a pair may come again with other seconds. And the change time of each
+/// stop, the seconds that a change between two vehicles there takes.
 ///
 /// At most 65,535 stops and 4,000,000 footpaths.
 #[derive(Drop)]
 pub struct Direct {
     stops: u32,
     pairs: Vec<(StopNo, StopNo, u32)>,
+    changes: Vec<u32>,
 }
 
 impl Model for Direct {
@@ -20,22 +22,25 @@ impl Model for Direct {
 
     ghost Value = { DirectLists };
 
-    ghost view = { λ d. record { stops = d.stops; pairs = d.pairs.items } };
+    ghost view = { λ d. record { stops = d.stops; pairs = d.pairs.items; changes = d.changes.items } };
 
-    ghost invariant = { λ d. AreDirect (record { stops = d.stops; pairs = d.pairs.items }) };
+    ghost invariant = { λ d. AreDirect (record { stops = d.stops; pairs = d.pairs.items; changes = d.changes.items }) };
 }
 
 impl Direct {
     ghost use Rattle.footpaths.specs.Direct.{AreDirect};
 
-    /// No footpaths yet, between so many stops.
-    pub(crate) fn new(alloc: Global, stops: u32) -> Self
-        requires { stops ≤ MOST_STOPS }
-        ensures { result ≡ record { stops = stops; pairs = [] } }
+    /// No footpaths yet, between so many stops, of which these are the change times.
+    pub(crate) fn new(alloc: Global, stops: u32, changes: Vec<u32>) -> Self
+        requires stops { stops ≤ MOST_STOPS }
+        requires each { length changes.items ≡ stops }
+        requires short { All (λ seconds. seconds ≤ MOST_CHANGE_SECONDS) changes.items }
+        ensures { result ≡ record { stops = stops; pairs = []; changes = changes.items } }
     {
         Direct {
             stops,
             pairs: Vec::new(alloc),
+            changes,
         }
     }
 
@@ -45,7 +50,7 @@ impl Direct {
         requires to { to.0 < self.old.stops }
         requires other { from.0 ≢ to.0 }
         requires few { length self.old.pairs < MOST_FOOTPATHS }
-        ensures ok { OnOk result (self.new ≡ record { stops = self.old.stops; pairs = self.old.pairs ++ (from, to, seconds) ∷ [] }) }
+        ensures ok { OnOk result (self.new ≡ record { stops = self.old.stops; pairs = self.old.pairs ++ (from, to, seconds) ∷ []; changes = self.old.changes }) }
         ensures err { OnErr result (self.new ≡ self.old) }
     {
         self.pairs.push((from, to, seconds))?;
@@ -57,6 +62,13 @@ impl Direct {
         ensures { result.now ≡ self.now.pairs }
     {
         self.pairs.as_slice()
+    }
+
+    /// The change time of each stop, in the order of their numbers: the greatest that a row states for it, or 0.
+    pub fn changes(&self) -> &[u32]
+        ensures { result.now ≡ self.now.changes }
+    {
+        self.changes.as_slice()
     }
 
     /// How many stops there are.

@@ -47,11 +47,15 @@ enum Expected<'a> {
     Last(usize, Path),
     /// So many.
     Count(usize),
+    /// Of each stop these change times.
+    Changes(&'a [u32]),
     Fault(FeedFault),
 }
 
-fn are_expected(paths: &[Path], expected: Expected<'_>) -> bool {
+fn are_expected(direct: &Direct, expected: Expected<'_>) -> bool {
+    let paths = direct.pairs();
     match expected {
+        Expected::Changes(times) => direct.changes() == times,
         Expected::Paths(all) => paths == all,
         Expected::Last(count, last) => paths.len() == count && paths.last() == Some(&last),
         Expected::Count(count) => paths.len() == count,
@@ -72,7 +76,7 @@ fn gives_over(alloc: Global, feed: &Feed, own: Option<&[u8]>, expected: Expected
         return false;
     }
     match direct(alloc, feed, own) {
-        Ok(direct) => are_expected(direct.pairs(), expected),
+        Ok(direct) => are_expected(&direct, expected),
         Err(fault) => is_expected(fault, expected),
     }
 }
@@ -132,6 +136,37 @@ fn gives_large(alloc: Global, stops: u32, own: &[u8], expected: Expected<'_>) ->
 fn a_station_stands_for_its_stops(rt: HostRuntime) {
     let all = [path(1, 2, 30), path(2, 1, 30), path(0, 1, 60)];
     assert!(rt; gives_small(rt.alloc(), None, Expected::Paths(&all)));
+}
+
+/// Whether these transfers state these change times of the stops A to E, with and without a file of footpaths.
+fn states(alloc: Global, transfers: &[u8], times: &[u32]) -> bool {
+    let own = b"from_stop_id,to_stop_id,seconds\nA,A,70\nS,S,80\n";
+    gives(alloc, STOPS, transfers, None, Expected::Changes(times))
+        && gives(alloc, STOPS, transfers, Some(own), Expected::Changes(times))
+}
+
+#[test]
+fn change_times_of_stops_and_stations(rt: HostRuntime) {
+    let alloc = rt.alloc();
+    let none =
+        b"from_stop_id,to_stop_id,transfer_type,min_transfer_time\nA,B,2,60\nS,S,1,60\nU,U,2,60\nS,T,2,60\n";
+    assert!(rt; states(alloc, none, &[0, 0, 0, 0, 0]));
+
+    // a station's stops, and one of them by itself; the greatest counts
+    let station =
+        b"from_stop_id,to_stop_id,transfer_type,min_transfer_time\nC,C,2,90\nS,S,2,60\nB,B,2,30\nD,D,2,5\n";
+    assert!(rt; states(alloc, station, &[0, 60, 90, 5, 0]));
+
+    // the longest time, and more than that
+    let long =
+        b"from_stop_id,to_stop_id,transfer_type,min_transfer_time\nA,A,2,16777216\nB,B,2,16777217\nE,E,2,4294967295\nC,C,2,16777215\n";
+    assert!(rt;
+        states(
+            alloc,
+            long,
+            &[16_777_216, 16_777_216, 16_777_215, 0, 16_777_216]
+        )
+    );
 }
 
 #[test]

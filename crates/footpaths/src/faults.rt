@@ -6,13 +6,27 @@ use thiserror::Error;
 
 /// Why footpaths aren't closed.
 #[derive(Clone, Copy, Debug, PartialEq, Eq, Error)]
+#[error("{}", self.words())]
 pub enum FootFault {
     /// More than 4,000,000 pairs of stops have a walking time within the limit.
-    #[error("too many footpaths")]
     TooMany,
     /// A growth of memory was refused.
-    #[error("out of memory")]
     Memory,
+}
+
+impl FootFault {
+    ghost use Rattle.std.specs.Prelude.{◌≡◌};
+    ghost use Rattle.footpaths.specs.FaultWords.{words_of};
+
+    /// What is wrong, in words.
+    pub fn words(&self) -> &'static str
+        ensures { result.now ≡ words_of self.now }
+    {
+        match self {
+            FootFault::TooMany => "too many footpaths",
+            FootFault::Memory => "out of memory",
+        }
+    }
 }
 
 impl From<AllocError> for FootFault {

@@ -2,8 +2,9 @@
 //! closed ones, for each pair of stops the least sum over all chains of direct ones, as far as a limit.
 //! A walk is one leg of a journey, so chains are closed here once and never again in the rounds.
 //!
-//! - `direct_list`: [`Direct`], the direct footpaths in the order of their rows.
+//! - `direct_list`: [`Direct`], the direct footpaths in the order of their rows, and the change time of each stop.
 //! - `walks`: [`direct`], the direct footpaths of a feed and of a file of footpaths, or the first fault.
+//! - `changes`: the change times of a feed's stops.
 //! - `pairs`: the pairs of stops that the two ends of a walk give.
 //! - `closure`: [`close`], and [`limit_fits`] for its limit.
 //! - `adjacency`, `settling`: the direct footpaths by the stop where they begin, and Dijkstra's algorithm along them.
@@ -15,6 +16,7 @@
 #![tactic(auto)]
 
 mod adjacency;
+mod changes;
 mod closure;
 mod direct_list;
 #[cfg(test)]

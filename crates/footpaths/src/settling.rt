@@ -61,13 +61,18 @@ impl Settling {
     }
 
     /// Passes a stop's label on along its footpaths.
-    fn pass_on(&mut self, legs: &[(StopNo, u32)], label: u32, limit: u32) -> Result<(), AllocError>
-        requires legs { All (λ leg. leg.0.0 < length self.old.labels.items) legs.now }
+    fn pass_on(
+        &mut self,
+        leaving: &[(StopNo, u32)],
+        label: u32,
+        limit: u32,
+    ) -> Result<(), AllocError>
+        requires leaving { All (λ footpath. footpath.0.0 < length self.old.labels.items) leaving.now }
         requires label { label ≤ limit }
         requires limit { limit ≤ MOST_FOOT_SECONDS }
-        ensures { OnOk result (PassedOn limit label legs.now (marks self.old) (marks self.new)) }
+        ensures { OnOk result (PassedOn limit label leaving.now (marks self.old) (marks self.new)) }
     {
-        for (stop, seconds) in legs {
+        for (stop, seconds) in leaving {
             if *seconds <= limit - label {
                 self.relax(*stop, label + *seconds, limit)?;
             }

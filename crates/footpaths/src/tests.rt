@@ -10,6 +10,8 @@ enum Given<'a> {
     List(&'a [(u32, u32, u32)]),
     /// Those of a hub: footpaths of 60 seconds to and from each of the other stops.
     Hub,
+    /// Those of a ring: footpaths of 60 seconds from each stop to so many that follow it.
+    Ring(u32),
 }
 
 /// What a test expects of closed footpaths.
@@ -21,6 +23,8 @@ enum Expected {
     Targets(u32, usize),
     /// How many stops there are.
     Stops(u32),
+    /// The change time of a stop.
+    Change(u32, u32),
 }
 
 /// What a test tries with its direct footpaths.
@@ -58,10 +62,27 @@ fn add_hub(direct: &mut Direct) -> Option<()> {
     Some(())
 }
 
+fn add_near(direct: &mut Direct, from: u32, near: u32) -> Option<()> {
+    for step in 0..near {
+        let to = from.checked_add(step)?.checked_add(1)?;
+        let round = to.checked_sub(direct.stops());
+        add(direct, from, round.unwrap_or(to), 60)?;
+    }
+    Some(())
+}
+
+fn add_ring(direct: &mut Direct, near: u32) -> Option<()> {
+    for stop in 0..direct.stops() {
+        add_near(direct, stop, near)?;
+    }
+    Some(())
+}
+
 fn add_given(direct: &mut Direct, given: Given<'_>) -> Option<()> {
     match given {
         Given::List(paths) => add_list(direct, paths),
         Given::Hub => add_hub(direct),
+        Given::Ring(near) => add_ring(direct, near),
     }
 }
 
@@ -83,11 +104,21 @@ fn targets(feet: &Feet, from: u32) -> usize {
     }
 }
 
+/// The change time of a stop.
+fn change(feet: &Feet, stop: u32) -> Option<u32> {
+    if stop < feet.stops() {
+        Some(feet.change(StopNo(stop)))
+    } else {
+        None
+    }
+}
+
 fn is_expected(feet: &Feet, expected: Expected) -> bool {
     match expected {
         Expected::Seconds(from, to, time) => seconds(feet, from, to) == time,
         Expected::Targets(from, count) => targets(feet, from) == count,
         Expected::Stops(count) => feet.stops() == count,
+        Expected::Change(stop, seconds) => change(feet, stop) == Some(seconds),
     }
 }
 
@@ -137,7 +168,10 @@ fn holds(alloc: Global, stops: u32, given: Given<'_>, trial: Trial<'_>) -> bool 
     if stops as usize > MOST_STOPS {
         return false;
     }
-    let mut direct = Direct::new(alloc, stops);
+    let Some(changes) = vec![in alloc; 90; stops as usize].ok() else {
+        return false;
+    };
+    let mut direct = Direct::new(alloc, stops, changes);
     adds(alloc, &mut direct, given, trial)
 }
 
@@ -159,6 +193,7 @@ fn two_footpaths_in_succession(rt: HostRuntime) {
         Expected::Seconds(0, 1, Some(60)),
         Expected::Seconds(1, 2, Some(60)),
         Expected::Seconds(0, 2, Some(120)),
+        Expected::Change(2, 90),
     ];
     assert!(rt; closed(rt.alloc(), &paths, 120, &far));
     assert!(rt; closed(rt.alloc(), &paths, 119, &[Expected::Seconds(0, 2, None)]));
@@ -286,4 +321,22 @@ fn a_hub_of_too_many(rt: HostRuntime) {
     assert!(rt; holds(rt.alloc(), 2001, Given::Hub, Trial::TooMany(120)));
     let near = [Expected::Targets(1, 1)];
     assert!(rt; holds(rt.alloc(), 2001, Given::Hub, Trial::Closed(119, &near)));
+}
+
+#[test]
+fn more_than_a_million_direct_footpaths(rt: HostRuntime) {
+    // 1,200,000 footpaths: from each of 2,000 stops to the 600 that follow it
+    let near = [
+        Expected::Targets(0, 600),
+        Expected::Seconds(1_999, 599, Some(60)),
+        Expected::Seconds(0, 601, None),
+    ];
+    assert!(rt;
+        holds(
+            rt.alloc(),
+            2_000,
+            Given::Ring(600),
+            Trial::Closed(60, &near)
+        )
+    );
 }

@@ -8,6 +8,7 @@ ghost use Rattle.table_records.specs.Faults.{Tells};
 ghost use Rattle.footpaths.specs.Pairs.{IsRefusal, with_more};
 ghost use Rattle.footpaths.specs.Walks as spec;
 
+use crate::changes::change_times;
 use crate::direct_list::Direct;
 use crate::pairs::add_pairs;
 use csv::ByteRecord;
@@ -42,7 +43,8 @@ pub(crate) struct WalkReader<'a> {
 }
 
 /// The direct footpaths of a feed: those of the walks in `transfers.txt`, and then those of the file `own`, in the order of
-/// their rows. Repeats are kept. A row gives the pairs of different stops of its two ends, and may give none.
+/// their rows. Repeats are kept. A row gives the pairs of different stops of its two ends, and may give none. The change times
+/// are those that `transfers.txt` states; the file `own` states none.
 ///
 /// The file's required columns are `from_stop_id`, `to_stop_id` and `seconds`. An identifier that is empty or of no record of
 /// `stops.txt` is refused, and seconds that are no number. The row with which there are more than 4,000,000 footpaths is
@@ -68,7 +70,8 @@ fn paths_of_links(alloc: Global, feed: &Feed) -> Result<Direct, FeedFault>
     ensures fault { IfErr result (λ e. Tells e (spec.link_faults feed.now.children [] feed.now.links)) }
 {
     feed.known();
-    let mut direct = Direct::new(alloc, feed.stop_count());
+    let stops = feed.stop_count();
+    let mut direct = Direct::new(alloc, stops, change_times(alloc, feed)?);
     for link in feed.links() {
         let walk = Walk {
             origin: link.origin,

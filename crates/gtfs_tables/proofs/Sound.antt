@@ -13,7 +13,7 @@ use Rattle.table_files.specs.CalendarDates as dates
 use Rattle.table_files.specs.FeedTrips as trips
 use Rattle.table_files.specs.Frequencies.{departures_at, frequency_faults, frequency_rows}
 use Rattle.table_files.specs.Children.{IsPlace}
-use Rattle.table_files.specs.Places.{ArePlaces, PlaceData}
+use Rattle.table_files.specs.Locations.{AreLocations, LocationData}
 use Rattle.table_files.specs.Routes.{route_faults, route_ids}
 use Rattle.table_files.specs.Services.{named, number_in}
 use Rattle.table_files.specs.StopTimes.{time_rows}
@@ -125,10 +125,10 @@ module _ (f : FeedFiles) where
 
   -- the feed that the files state, where they have no fault
   pub is_feed : files.faults_of_routes f ≡ [] → files.faults_of_calendar f ≡ [] → files.faults_of_trips f ≡ [] → files.faults_of_frequencies f ≡ []
-      → ArePlaces (files.places_in f) → length (files.routes_in f) ≤ 1073741824 → length (files.services_in f) ≤ 2148483650
+      → AreLocations (files.locations_in f) → length (files.routes_in f) ≤ 1073741824 → length (files.services_in f) ≤ 2148483650
       → AreEvents (length (files.stops_in f)) (files.events_in f) → files.aside_in f ≤ length (files.trip_ids_in f)
-      → All (IsLink (length (files.stops_in f)) (length (files.places_in f).children)) (files.links_in f) → IsFeed (files.feed_of f)
-  is_feed no_routes no_calendar no_trips no_frequencies places routes services are aside links =
+      → All (IsLink (length (files.stops_in f)) (length (files.locations_in f).children)) (files.links_in f) → IsFeed (files.feed_of f)
+  is_feed no_routes no_calendar no_trips no_frequencies locations routes services are aside links =
       let ids : List (List ℕ) = files.trip_ids_in f in
       let numbers : List TripNumbers = files.numbers_in f in
       let events : List (List Event) = files.events_in f in
@@ -143,11 +143,11 @@ module _ (f : FeedFiles) where
       let any_events : All (λ (e : List Event). Unit {0}) events = λ k x lt. tt in
       let any_departures : All (λ (d : List Departures). Unit {0}) departures = λ k x lt. tt in
       record {
-        few_names = places.few;
-        few_stops = omega (arith, places.few, places.stops_within);
+        few_names = locations.few;
+        few_stops = omega (arith, locations.few, locations.stops_within);
         few_routes = routes;
         few_services = services;
-        distinct_stops = places.distinct;
+        distinct_stops = locations.distinct;
         distinct_routes = routes_apart no_routes;
         distinct_services = named_distinct (files.dated_services_in f) (map (λ (r : trips.TripRow). r.service) rows)
             (named_distinct (files.calendar_services_in f) (map (λ (r : dates.DateRow). r.service) (rows_in dates.date_rows f.calendar_dates)) (calendar_apart no_calendar));
@@ -168,9 +168,9 @@ module _ (f : FeedFiles) where
         calendar_services = All-map (λ (r : CalendarData). r.service < length (files.services_in f)) (calendar.data_of (files.services_in f)) (rows_in calendar.service_rows f.calendar) services_calendar;
         exception_services = All-map (λ (r : ExceptionData). r.service < length (files.services_in f)) (dates.data_of (files.services_in f)) (rows_in dates.date_rows f.calendar_dates) services_dates;
         few_aside = omega (arith, count, aside);
-        as_many = places.as_many;
-        places = subst (λ (n : ℕ). All (IsPlace (length (files.stops_in f)) n) (files.places_in f).places) (sym places.lists) places.in_range;
-        children = places.children;
+        as_many = locations.as_many;
+        locations = subst (λ (n : ℕ). All (IsPlace (length (files.stops_in f)) n) (files.locations_in f).locations) (sym locations.lists) locations.in_range;
+        children = locations.children;
         links = links;
       }
 
@@ -213,17 +213,17 @@ module _ (f : FeedFiles) where
       is.values ∙ ap (λ (l : List (List ℕ)). map (calendar.data_of l) service_rows) is.services ∙ sym (rows_stay_too ∙ rows_stay)
 
   -- the catalog that was read file by file
-  pub is_catalog : (p : PlaceData) (r : RoutesWithTrips) → p ≡ files.places_in f → ArePlaces p → AreRoutesWithTrips r f
-      → IsCatalog (record { places = p; routes = r.routes; calendar = r.served.calendar; exceptions = r.served.dated.exceptions; trips = r.served.dated.trips }) f
-  is_catalog p r are_places sound are = record {
-    places = are_places;
+  pub is_catalog : (p : LocationData) (r : RoutesWithTrips) → p ≡ files.locations_in f → AreLocations p → AreRoutesWithTrips r f
+      → IsCatalog (record { locations = p; routes = r.routes; calendar = r.served.calendar; exceptions = r.served.dated.exceptions; trips = r.served.dated.trips }) f
+  is_catalog p r are_locations sound are = record {
+    locations = are_locations;
     routes = are.routes;
     calendar = are.served.calendar;
     exceptions = are.served.dated.exceptions;
     services = are.served.dated.services;
     trip_ids = are.served.dated.trip_ids;
     numbers = are.served.dated.numbers;
-    sound_places = sound;
+    sound_locations = sound;
     few_routes = are.few;
     few_services = are.served.dated.few_services;
     few_trips = are.served.dated.few_trips;
@@ -252,10 +252,10 @@ module _ (f : FeedFiles) where
         -- what was read is what the files state
         pub data_is : data_of c all aside transfers ≡ files.feed_of f
         data_is = λ k. record {
-          names = (is.places k).names;
-          places = (is.places k).places;
-          stops = (is.places k).stops;
-          children = (is.places k).children;
+          names = (is.locations k).names;
+          locations = (is.locations k).locations;
+          stops = (is.locations k).stops;
+          children = (is.locations k).children;
           routes = is.routes k;
           services = is.services k;
           calendar = is.calendar k;
@@ -266,26 +266,26 @@ module _ (f : FeedFiles) where
           unused = are_unused k;
         }
 
-        sound_places : ArePlaces (files.places_in f)
-        sound_places = subst ArePlaces is.places is.sound_places
+        sound_locations : AreLocations (files.locations_in f)
+        sound_locations = subst AreLocations is.locations is.sound_locations
 
-        -- both ends of each walk are places of the feed
-        sound_links : All (IsLink (length c.places.stops) (length c.places.stations)) transfers.links.items
-            → All (IsLink (length (files.stops_in f)) (length (files.places_in f).children)) (files.links_in f)
+        -- both ends of each walk are locations of the feed
+        sound_links : All (IsLink (length c.locations.stops) (length c.locations.stations)) transfers.links.items
+            → All (IsLink (length (files.stops_in f)) (length (files.locations_in f).children)) (files.links_in f)
         sound_links in_range =
             let stops : ℕ = length (files.stops_in f) in
-            let here = subst (λ (p : PlaceData). All (IsLink (length p.stops) (length p.stations)) transfers.links.items) is.places in_range in
-            let stated = subst (All (IsLink stops (length (files.places_in f).stations))) are_links here in
-            subst (λ (n : ℕ). All (IsLink stops n) (files.links_in f)) (sym sound_places.lists) stated
+            let here = subst (λ (p : LocationData). All (IsLink (length p.stops) (length p.stations)) transfers.links.items) is.locations in_range in
+            let stated = subst (All (IsLink stops (length (files.locations_in f).stations))) are_links here in
+            subst (λ (n : ℕ). All (IsLink stops n) (files.links_in f)) (sym sound_locations.lists) stated
 
-        pub feed_is_sound : files.catalog_faults f ≡ [] → files.faults_of_frequencies f ≡ [] → AreEvents (length c.places.stops) events → aside ≤ length c.trips.ids
-            → All (IsLink (length c.places.stops) (length c.places.stations)) transfers.links.items → IsFeed (data_of c all aside transfers)
+        pub feed_is_sound : files.catalog_faults f ≡ [] → files.faults_of_frequencies f ≡ [] → AreEvents (length c.locations.stops) events → aside ≤ length c.trips.ids
+            → All (IsLink (length c.locations.stops) (length c.locations.stations)) transfers.links.items → IsFeed (data_of c all aside transfers)
         feed_is_sound none no_frequencies are few_aside in_range =
             let (no_routes, no_calendar, no_trips) =
             none_each (files.faults_of_stops f) (files.faults_of_routes f) (files.faults_of_calendar f) (files.faults_of_calendar_dates f) (files.faults_of_trips f) none in
-            subst IsFeed (sym data_is) (is_feed no_routes no_calendar no_trips no_frequencies sound_places
+            subst IsFeed (sym data_is) (is_feed no_routes no_calendar no_trips no_frequencies sound_locations
             (subst (λ (l : List (List ℕ)). length l ≤ 1073741824) is.routes is.few_routes)
             (subst (λ (l : List (List ℕ)). length l ≤ 2148483650) is.services is.few_services)
-            (subst (AreEvents (length (files.stops_in f))) are_events (subst (λ (p : PlaceData). AreEvents (length p.stops) events) is.places are))
+            (subst (AreEvents (length (files.stops_in f))) are_events (subst (λ (p : LocationData). AreEvents (length p.stops) events) is.locations are))
             (let ids = ap length is.trip_ids in omega (arith, few_aside, are_aside, ids))
             (sound_links in_range))

@@ -1,7 +1,8 @@
--- The catalog of a feed: its places, routes, services and trips, by number, before their times are read.
+-- The catalog of a feed: its locations, routes, services and trips, by number, before their times are read.
 use Rattle.std.specs.Prelude.{◌≡◌, ◌≤◌, ◌++◌, List, length, map}
+use Rattle.timetable.specs.declared.limits.TheConstants.{MOST_TRIPS}
 use Rattle.table_records.specs.declared.fault.FeedFault.{FeedFault}
-use Rattle.table_files.specs.Places.{ArePlaces}
+use Rattle.table_files.specs.Locations.{AreLocations}
 use Rattle.gtfs_tables.specs.Feed.{calendar_data, exception_data}
 use Rattle.gtfs_tables.specs.Files.{
   FeedFiles,
@@ -12,7 +13,7 @@ use Rattle.gtfs_tables.specs.Files.{
   faults_of_routes,
   faults_of_trips,
   numbers_in,
-  places_in,
+  locations_in,
   routes_in,
   services_in,
   trip_ids_in,
@@ -22,19 +23,19 @@ use Rattle.gtfs_tables.specs.declared.catalog.DatesWithTrips.{DatesWithTrips}
 use Rattle.gtfs_tables.specs.declared.catalog.RoutesWithTrips.{RoutesWithTrips}
 use Rattle.gtfs_tables.specs.declared.catalog.ServicesWithTrips.{ServicesWithTrips}
 
--- the catalog that the files state; what it names is few enough, and its places are those of one file
+-- the catalog that the files state; what it names is few enough, and its locations are those of one file
 pub record IsCatalog (c : Catalog) (files : FeedFiles) : Type 0 where
-  pub places : c.places ≡ places_in files
+  pub locations : c.locations ≡ locations_in files
   pub routes : c.routes ≡ routes_in files
   pub calendar : map calendar_data c.calendar.items ≡ calendar_in files
   pub exceptions : map exception_data c.exceptions.items ≡ exceptions_in files
   pub services : c.trips.services ≡ services_in files
   pub trip_ids : c.trips.ids ≡ trip_ids_in files
   pub numbers : c.trips.numbers.items ≡ numbers_in files
-  pub sound_places : ArePlaces c.places
+  pub sound_locations : AreLocations c.locations
   pub few_routes : length c.routes ≤ 1073741824
   pub few_services : length c.trips.services ≤ 2148483650
-  pub few_trips : length c.trips.ids ≤ 1000000
+  pub few_trips : length c.trips.ids ≤ MOST_TRIPS
 
 -- the faults of a file and of those after it, to trips.txt
 abbrev pub faults_from_dates : FeedFiles → List FeedFault
@@ -53,7 +54,7 @@ pub record AreDatesWithTrips (d : DatesWithTrips) (files : FeedFiles) : Type 0 w
   pub trip_ids : d.trips.ids ≡ trip_ids_in files
   pub numbers : d.trips.numbers.items ≡ numbers_in files
   pub few_services : length d.trips.services ≤ 2148483650
-  pub few_trips : length d.trips.ids ≤ 1000000
+  pub few_trips : length d.trips.ids ≤ MOST_TRIPS
 
 pub record AreServicesWithTrips (s : ServicesWithTrips) (files : FeedFiles) : Type 0 where
   pub calendar : map calendar_data s.calendar.items ≡ calendar_in files

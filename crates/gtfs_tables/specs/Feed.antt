@@ -3,6 +3,7 @@
 use Rattle.std.specs.Prelude.{◌≡◌, ◌<◌, ◌≤◌, ℕ, List, length, map, sum_by, All}
 use Rattle.std.specs.List.{IsDistinct}
 use Rattle.std.specs.Str.{bytes_eq}
+use Rattle.timetable.specs.declared.limits.TheConstants.{MOST_EVENTS, MOST_STOPS, MOST_TRIPS}
 use Rattle.timetable.specs.Trips.{EventsRise}
 use Rattle.timetable.specs.declared.trips.StopNo.{StopNo}
 use Rattle.table_files.specs.Children.{AreChildren, IsPlace}
@@ -19,12 +20,12 @@ pub use Rattle.table_files.specs.Calendar.{CalendarData}
 pub use Rattle.table_files.specs.CalendarDates.{ExceptionData}
 pub use Rattle.table_files.specs.Days.{day_number}
 
--- the identifiers of all places, and what each of them is; the identifiers of the stops, each at its number, and the
+-- the identifiers of all locations, and what each of them is; the identifiers of the stops, each at its number, and the
 -- stops of each station; the identifiers of the routes and services; the rows of both calendars; the trips, and how many of
--- them were set aside; the walks that transfers.txt gives, and how many of its rows give none
+-- them were set aside; the walks and change times that transfers.txt gives, and how many of its rows give none
 pub record FeedData : Type 0 where
   pub names : List (List ℕ)
-  pub places : List Place
+  pub locations : List Place
   pub stops : List (List ℕ)
   pub children : List (List StopNo)
   pub routes : List (List ℕ)
@@ -46,16 +47,16 @@ pub record IsDeparting (row : Departures) : Type 0 where
 -- stops and within 168 hours, no trip goes back in time, and numbers of stops, stations, routes and services are those of
 -- the feed
 pub record IsFeed (d : FeedData) : Type 0 where
-  pub few_names : length d.names ≤ 65535
-  pub few_stops : length d.stops ≤ 65535
+  pub few_names : length d.names ≤ MOST_STOPS
+  pub few_stops : length d.stops ≤ MOST_STOPS
   pub few_routes : length d.routes ≤ 1073741824
   pub few_services : length d.services ≤ 2148483650
   pub distinct_stops : IsDistinct bytes_eq d.stops
   pub distinct_routes : IsDistinct bytes_eq d.routes
   pub distinct_services : IsDistinct bytes_eq d.services
   pub distinct_trips : IsDistinct bytes_eq (map (λ t. t.id) d.trips)
-  pub few_trips : length d.trips ≤ 1000000
-  pub few_events : sum_by (λ t. length t.events) d.trips ≤ 8000000
+  pub few_trips : length d.trips ≤ MOST_TRIPS
+  pub few_events : sum_by (λ t. length t.events) d.trips ≤ MOST_EVENTS
   pub at_stops : All (λ t. All (λ e. e.stop.0 < length d.stops) t.events) d.trips
   pub in_time : All (λ t. All (λ e. (e.arrive ≤ 604799) × (e.depart ≤ 604799)) t.events) d.trips
   pub rise : All (λ t. EventsRise t.events) d.trips
@@ -65,8 +66,8 @@ pub record IsFeed (d : FeedData) : Type 0 where
   pub calendar_services : All (λ r. r.service < length d.services) d.calendar
   pub exception_services : All (λ r. r.service < length d.services) d.exceptions
   pub few_aside : d.aside ≤ length d.trips
-  pub as_many : length d.places ≡ length d.names
-  pub places : All (IsPlace (length d.stops) (length d.children)) d.places
+  pub as_many : length d.locations ≡ length d.names
+  pub locations : All (IsPlace (length d.stops) (length d.children)) d.locations
   pub children : AreChildren (length d.stops) d.children
   pub links : All (IsLink (length d.stops) (length d.children)) d.links
 

@@ -5,7 +5,7 @@ ghost use Rattle.table_records.specs.Faults.{Tells};
 ghost use Rattle.table_files.specs.Calendar.{IsCalendar, service_rows};
 ghost use Rattle.table_files.specs.CalendarDates.{AreExceptions, date_rows};
 ghost use Rattle.table_files.specs.FeedTrips.{AreTrips, trip_rows};
-ghost use Rattle.table_files.specs.Places.{ArePlaces};
+ghost use Rattle.table_files.specs.Locations.{AreLocations};
 ghost use Rattle.gtfs_tables.specs.Files as spec;
 ghost use Rattle.gtfs_tables.specs.Catalog.{
   AreDatesWithTrips,
@@ -20,15 +20,15 @@ ghost use Rattle.gtfs_tables.specs.Catalog.{
 use crate::feed_bytes::{FeedBytes, missing};
 use std::alloc::Global;
 use table_files::{
-    Calendar, CalendarDates, CalendarRow, ExceptionRow, FeedTrips, Places, read_calendar,
-    read_calendar_dates, read_feed_trips, read_places, read_routes,
+    Calendar, CalendarDates, CalendarRow, ExceptionRow, FeedTrips, Locations, read_calendar,
+    read_calendar_dates, read_feed_trips, read_locations, read_routes,
 };
 use table_records::{FeedFault, FileName, Identifiers};
 
-/// The places, routes, services and trips of a feed, by number, and the rows of its calendars.
+/// The locations, routes, services and trips of a feed, by number, and the rows of its calendars.
 #[derive(Drop)]
 pub struct Catalog {
-    pub places: Places,
+    pub locations: Locations,
     pub routes: Identifiers,
     pub calendar: Vec<CalendarRow>,
     pub exceptions: Vec<ExceptionRow>,
@@ -42,17 +42,17 @@ pub fn read_catalog(alloc: Global, files: &FeedBytes<'_>) -> Result<Catalog, Fee
     ensures good { IfOk result (λ c. (spec.catalog_faults (spec.files_of files.now) ≡ []) × IsCatalog c (spec.files_of files.now)) }
     ensures fault { IfErr result (λ e. Tells e (spec.catalog_faults (spec.files_of files.now))) }
 {
-    let places = places_of(alloc, files)?;
+    let locations = locations_of(alloc, files)?;
     match routes_with_trips(alloc, files) {
         Ok(routed) => Ok(Catalog {
-            places,
+            locations,
             routes: routed.routes,
             calendar: routed.served.calendar,
             exceptions: routed.served.dated.exceptions,
             trips: routed.served.dated.trips,
         }),
         Err(fault) => {
-            drop(places);
+            drop(locations);
             Err(fault)
         }
     }
@@ -142,19 +142,19 @@ fn dates_with_trips(
     }
 }
 
-// The places of `stops.txt`.
-fn places_of(alloc: Global, files: &FeedBytes<'_>) -> Result<Places, FeedFault>
+// The locations of `stops.txt`.
+fn locations_of(alloc: Global, files: &FeedBytes<'_>) -> Result<Locations, FeedFault>
     requires { spec.IsWithinLimit (spec.bytes_of files.now.stops) }
-    ensures good { IfOk result (λ p. (spec.faults_of_stops (spec.files_of files.now) ≡ []) × (p ≡ spec.places_in (spec.files_of files.now))) }
-    ensures sound { IfOk result ArePlaces }
+    ensures good { IfOk result (λ p. (spec.faults_of_stops (spec.files_of files.now) ≡ []) × (p ≡ spec.locations_in (spec.files_of files.now))) }
+    ensures sound { IfOk result AreLocations }
     ensures fault { IfErr result (λ e. Tells e (spec.faults_of_stops (spec.files_of files.now))) }
 {
     let Some(bytes) = files.stops else {
         return Err(missing(FileName::Stops));
     };
-    let places = read_places(alloc, bytes)?;
-    places.known();
-    Ok(places)
+    let locations = read_locations(alloc, bytes)?;
+    locations.known();
+    Ok(locations)
 }
 
 // The identifiers of the routes.

@@ -4,14 +4,14 @@ ghost use Rattle.std.specs.Prelude.{◌≡◌, ◌<◌, Some, is_none, length, m
 ghost use Rattle.std.specs.Str.{bytes_eq};
 ghost use Rattle.table_files.specs.Children as children_spec;
 ghost use Rattle.table_files.specs.Ends as ends_spec;
-ghost use Rattle.table_files.specs.Places.{place_named};
+ghost use Rattle.table_files.specs.Locations.{location_named};
 ghost use Rattle.gtfs_tables.specs.Feed.{IsFeed, calendar_data, exception_data};
 ghost use Rattle.gtfs_tables.specs.FeedParts.{data_of};
 
 use crate::catalog::Catalog;
 use crate::trip::FeedTrip;
 use std::marker::Model;
-use table_files::{CalendarRow, Ends, ExceptionRow, Link, Place, Places, Transfers};
+use table_files::{CalendarRow, Ends, ExceptionRow, Link, Locations, Place, Transfers};
 use table_records::Identifiers;
 use timetable::StopNo;
 
@@ -19,7 +19,7 @@ use timetable::StopNo;
 /// that of `trips.txt`, and services as `calendar.txt`, `calendar_dates.txt` and `trips.txt` first name them.
 #[derive(Drop)]
 pub struct Feed {
-    places: Places,
+    locations: Locations,
     routes: Identifiers,
     services: Identifiers,
     calendar: Vec<CalendarRow>,
@@ -37,10 +37,10 @@ impl Model for Feed {
     ghost Value = { FeedData };
 
     ghost view = { λ f. record {
-      names = f.places.names;
-      places = f.places.places;
-      stops = f.places.stops;
-      children = f.places.children;
+      names = f.locations.names;
+      locations = f.locations.locations;
+      stops = f.locations.stops;
+      children = f.locations.children;
       routes = f.routes;
       services = f.services;
       calendar = map calendar_data f.calendar.items;
@@ -52,10 +52,10 @@ impl Model for Feed {
     } };
 
     ghost invariant = { λ f. IsFeed (record {
-      names = f.places.names;
-      places = f.places.places;
-      stops = f.places.stops;
-      children = f.places.children;
+      names = f.locations.names;
+      locations = f.locations.locations;
+      stops = f.locations.stops;
+      children = f.locations.children;
       routes = f.routes;
       services = f.services;
       calendar = map calendar_data f.calendar.items;
@@ -80,14 +80,14 @@ impl Feed {
         ensures { result ≡ data_of catalog trips.items aside transfers }
     {
         let Catalog {
-            places,
+            locations,
             routes,
             calendar,
             exceptions,
             trips: listed,
         } = catalog;
         Feed {
-            places,
+            locations,
             routes,
             services: listed.services,
             calendar,
@@ -110,7 +110,7 @@ impl Feed {
     pub fn stop_count(&self) -> u32
         ensures { result ≡ length self.now.stops }
     {
-        self.places.stops().len() as u32
+        self.locations.stops().len() as u32
     }
 
     /// The identifier of a stop. [`Feed::stop_no`] leads back from it to the stop.
@@ -119,7 +119,7 @@ impl Feed {
         ensures id { slice_get self.now.stops stop.0 ≡ Some result.now }
         ensures leads_back { position (bytes_eq result.now) self.now.stops ≡ Some stop.0 }
     {
-        match self.places.stops().id(stop.0 as usize) {
+        match self.locations.stops().id(stop.0 as usize) {
             Some(id) => id,
             None => unreachable!(),
         }
@@ -130,7 +130,7 @@ impl Feed {
         ensures number { option_map (λ s. s.0) result ≡ position (bytes_eq id.now) self.now.stops }
         ensures leads_back { IfSome result (λ s. slice_get self.now.stops s.0 ≡ Some id.now) }
     {
-        match self.places.stops().number(id) {
+        match self.locations.stops().number(id) {
             Some(number) => Some(StopNo(number as u32)),
             None => None,
         }
@@ -211,12 +211,12 @@ impl Feed {
 
     /// The place with an identifier: a stop, a station, or another record of `stops.txt`; none where no record has it.
     pub fn place(&self, id: &[u8]) -> Option<Place>
-        ensures named { result ≡ place_named self.now.names self.now.places id.now }
+        ensures named { result ≡ location_named self.now.names self.now.locations id.now }
         ensures unknown { is_none result ≡ is_none (position (bytes_eq id.now) self.now.names) }
         ensures in_range { IfSome result (children_spec.IsPlace (length self.now.stops) (length self.now.children)) }
     {
-        self.places.known();
-        self.places.place(id)
+        self.locations.known();
+        self.locations.place(id)
     }
 
     /// The stops of a station, in file order.
@@ -224,8 +224,8 @@ impl Feed {
         requires { station < length self.now.children }
         ensures { slice_get self.now.children station ≡ Some result.now }
     {
-        self.places.known();
-        self.places.children(station)
+        self.locations.known();
+        self.locations.children(station)
     }
 
     /// The stops that a place stands for: a stop for itself, a station for its stops, another place for none.
@@ -233,18 +233,18 @@ impl Feed {
         requires { children_spec.IsPlace (length self.now.stops) (length self.now.children) place }
         ensures { ends_spec.stops_of result ≡ children_spec.stops_at place self.now.children }
     {
-        self.places.known();
-        self.places.stops_at(place)
+        self.locations.known();
+        self.locations.stops_at(place)
     }
 
-    /// The rows of `transfers.txt` that give a walk between two different stops, in file order.
+    /// The rows of `transfers.txt` that give a walk between two different stops, or a change time, in file order.
     pub fn links(&self) -> &[Link]
         ensures { result.now ≡ self.now.links }
     {
         self.transfers.links.as_slice()
     }
 
-    /// How many rows of `transfers.txt` give no walk.
+    /// How many rows of `transfers.txt` give neither a walk nor a change time.
     pub fn unused_transfers(&self) -> u32
         ensures { result ≡ self.now.unused }
     {

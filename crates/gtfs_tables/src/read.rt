@@ -1,6 +1,7 @@
 //! A feed from the bytes of its files.
 
 ghost use Rattle.std.specs.Prelude.{◌≡◌, ◌≤◌, ◌++◌, [], All, length, map, IfOk, IfErr};
+ghost use Rattle.timetable.specs.declared.limits.TheConstants.{MOST_STOPS, MOST_TRIPS};
 ghost use Rattle.table_records.specs.Faults.{Tells};
 ghost use Rattle.table_files.specs.Transfers.{IsLink};
 ghost use Rattle.table_files.specs.WholeTrips.{AreEvents};
@@ -15,7 +16,7 @@ use crate::feed_bytes::{FeedBytes, missing};
 use crate::trip::{DepartureList, FeedTrip, TripId};
 use std::alloc::{AllocError, Global};
 use table_files::{
-    Departures, FeedTrips, Places, StopTimes, Transfers, no_departures, read_frequencies,
+    Departures, FeedTrips, Locations, StopTimes, Transfers, no_departures, read_frequencies,
     read_stop_times, read_transfers,
 };
 use table_records::{FeedFault, FileName, Identifiers};
@@ -86,7 +87,7 @@ fn trips_and_transfers_of(
         IfErr result (λ e. Tells e (spec.faults_of_stop_times f ++ spec.faults_of_frequencies f ++ spec.faults_of_transfers f)) }
 {
     let timed = timed_trips_of(alloc, files, catalog)?;
-    match transfers_of(alloc, files, &catalog.places) {
+    match transfers_of(alloc, files, &catalog.locations) {
         Ok(transfers) => Ok(TripsAndTransfers {
             trips: timed.trips,
             aside: timed.aside,
@@ -114,11 +115,11 @@ fn timed_trips_of(
     ensures good { let f = spec.files_of files.now in
         IfOk result (λ t. (spec.faults_of_stop_times f ++ spec.faults_of_frequencies f ≡ []) × (t.aside ≡ spec.aside_in f)
         × (t.trips.items ≡ spec.trips_of catalog.now.trips.ids catalog.now.trips.numbers.items (spec.events_in f) (spec.departures_in f))) }
-    ensures fit { IfOk result (λ _. AreEvents (length catalog.now.places.stops) (spec.events_in (spec.files_of files.now))) }
+    ensures fit { IfOk result (λ _. AreEvents (length catalog.now.locations.stops) (spec.events_in (spec.files_of files.now))) }
     ensures few { IfOk result (λ t. t.aside ≤ length catalog.now.trips.ids) }
     ensures fault { let f = spec.files_of files.now in IfErr result (λ e. Tells e (spec.faults_of_stop_times f ++ spec.faults_of_frequencies f)) }
 {
-    let times = times_of(alloc, files, &catalog.trips.ids, catalog.places.stops())?;
+    let times = times_of(alloc, files, &catalog.trips.ids, catalog.locations.stops())?;
     match departures_of(alloc, files, &catalog.trips.ids) {
         Ok(departures) => Ok(TimedTrips {
             aside: times.aside,
@@ -138,8 +139,8 @@ fn times_of(
     requires size { spec.IsWithinLimit (spec.bytes_of files.now.stop_times) }
     requires trips { trips.now ≡ spec.trip_ids_in (spec.files_of files.now) }
     requires stops { stops.now ≡ spec.stops_in (spec.files_of files.now) }
-    requires few_trips { length trips.now ≤ 1000000 }
-    requires few_stops { length stops.now ≤ 65535 }
+    requires few_trips { length trips.now ≤ MOST_TRIPS }
+    requires few_stops { length stops.now ≤ MOST_STOPS }
     ensures good { IfOk result (λ t. (spec.faults_of_stop_times (spec.files_of files.now) ≡ [])
         × (t.trips.items ≡ spec.events_in (spec.files_of files.now)) × (t.aside ≡ spec.aside_in (spec.files_of files.now))) }
     ensures fit { IfOk result (λ t. AreEvents (length stops.now) t.trips.items) }
@@ -174,17 +175,17 @@ fn departures_of(
 fn transfers_of(
     alloc: Global,
     files: &FeedBytes<'_>,
-    places: &Places,
+    locations: &Locations,
 ) -> Result<Transfers, FeedFault>
     requires size { spec.IsWithinLimit (spec.bytes_of files.now.transfers) }
-    requires places { places.now ≡ spec.places_in (spec.files_of files.now) }
+    requires locations { locations.now ≡ spec.locations_in (spec.files_of files.now) }
     ensures good { IfOk result (λ t. (spec.faults_of_transfers (spec.files_of files.now) ≡ [])
         × (t.links.items ≡ spec.links_in (spec.files_of files.now)) × (t.unused ≡ spec.unused_in (spec.files_of files.now))) }
-    ensures in_range { IfOk result (λ t. All (IsLink (length places.now.stops) (length places.now.stations)) t.links.items) }
+    ensures in_range { IfOk result (λ t. All (IsLink (length locations.now.stops) (length locations.now.stations)) t.links.items) }
     ensures fault { IfErr result (λ e. Tells e (spec.faults_of_transfers (spec.files_of files.now))) }
 {
     match files.transfers {
-        Some(bytes) => read_transfers(alloc, bytes, places),
+        Some(bytes) => read_transfers(alloc, bytes, locations),
         None => Ok(Transfers {
             links: Vec::new(alloc),
             unused: 0,

@@ -2,7 +2,6 @@
 ghost use Rattle.std.specs.Prelude.{◌≡◌, length, IfOk};
 
 use std::alloc::{AllocError, Global};
-use std::test::Fail;
 use work_book::{Answer, Book, Lease, Step};
 
 const FIRST: Answer = Answer::Lease(Lease {
@@ -174,116 +173,193 @@ fn with_loss(alloc: Global, k: usize) -> Result<Vec<Step>, AllocError> {
     Ok(all)
 }
 
-#[test]
-fn makes_a_list_of_steps(rt: HostRuntime) -> Result<(), Fail> {
-    let mut book = two_by_two(rt.alloc())?;
-    let told = run(&mut book, &steps())?;
-    assert_eq!(rt; told.as_slice(), answers().as_slice());
-    assert_eq!(rt; book.next(), 4);
-    assert!(rt; book.mark(0));
-    assert!(rt; book.mark(1));
-    assert_eq!(rt; book.drawn(0), [0, 2].as_slice());
-    assert_eq!(rt; book.kept(0), [0].as_slice());
-    assert_eq!(rt; book.drawn(1), [1, 3].as_slice());
-    assert_eq!(rt; book.kept(1), [1].as_slice());
-    Ok(())
+/// What a book of two jobs and two seats shows: the next number, both marks, and what each seat drew and kept.
+type Shown<'a> = (u64, [bool; 2], [&'a [u64]; 2], [&'a [u32]; 2]);
+
+/// Whether a book shows this.
+fn shows(book: &Book, shown: &Shown<'_>) -> bool
+    requires jobs { book.now.jobs ≡ 2 }
+    requires seats { length book.now.seats ≡ 2 }
+{
+    let (next, marks, drawn, kept) = shown;
+    let words = book.next() == *next && book.mark(0) == marks[0] && book.mark(1) == marks[1];
+    let numbers = book.drawn(0) == drawn[0] && book.drawn(1) == drawn[1];
+    words && numbers && book.kept(0) == kept[0] && book.kept(1) == kept[1]
 }
 
-#[test]
-fn makes_the_steps_one_by_one(rt: HostRuntime) -> Result<(), Fail> {
-    let mut book = two_by_two(rt.alloc())?;
-    for (step, want) in steps().iter().zip(answers().iter()) {
-        assert_eq!(rt; make(&mut book, *step)?, *want);
+const NEW: Shown<'static> = (0, [false, false], [&[], &[]], [&[], &[]]);
+
+/// Whether a new book answers these steps so, and then shows this. Where one of its allocations fails it is as it was, and answers
+/// the same when memory is back.
+fn answers_so(book: &mut Book, steps: &[Step], want: &[Answer], shown: &Shown<'_>) -> bool
+    requires jobs { book.old.jobs ≡ 2 }
+    requires seats { length book.old.seats ≡ 2 }
+{
+    let told = match run(book, steps) {
+        Ok(told) => Ok(told),
+        Err(_) => {
+            if !shows(book, &NEW) {
+                return false;
+            }
+            run(book, steps)
+        }
+    };
+    match told {
+        Ok(told) => told.as_slice() == want && shows(book, shown),
+        Err(_) => false,
     }
-    assert_eq!(rt; book.next(), 4);
-    Ok(())
+}
+
+/// Whether a new book of two jobs, two tries and two seats does.
+fn new_book_answers(alloc: Global, steps: &[Step], want: &[Answer], shown: &Shown<'_>) -> bool {
+    match two_by_two(alloc) {
+        Ok(mut book) => answers_so(&mut book, steps, want, shown),
+        Err(_) => false,
+    }
 }
 
 #[test]
-fn loses_a_seat_before_each_step(rt: HostRuntime) -> Result<(), Fail> {
+fn makes_a_list_of_steps(rt: HostRuntime) {
+    let shown: Shown<'_> = (4, [true, true], [&[0, 2], &[1, 3]], [&[0], &[1]]);
+    assert!(rt; new_book_answers(rt.alloc(), &steps(), &answers(), &shown));
+}
+
+/// Whether a book answers each of these steps so, one by one.
+fn answer_one_by_one(book: &mut Book, told: &[(Step, Answer)]) -> bool {
+    for (step, want) in told {
+        match make(book, *step) {
+            Ok(answer) if answer == *want => (),
+            _ => return false,
+        }
+    }
+    true
+}
+
+/// Whether a new book of so many jobs, tries and seats answers each of these steps so, one by one, and has this next number.
+fn book_answers(alloc: Global, shape: (u32, u32, u32), told: &[(Step, Answer)], next: u64) -> bool {
+    let (jobs, tries, seats) = shape;
+    if jobs > 3 || tries < 1 || tries > 8 || seats > 2 {
+        return false;
+    }
+    match Book::new(alloc, jobs, tries, seats) {
+        Ok(mut book) => answer_one_by_one(&mut book, told) && book.next() == next,
+        Err(_) => false,
+    }
+}
+
+// The steps beside their answers.
+fn steps_and_answers() -> [(Step, Answer); 12] {
+    [
+        (Step::Draw(0), FIRST),
+        (Step::Draw(1), SECOND),
+        (Step::Settle(0, 0), KEPT),
+        (Step::Draw(0), THIRD),
+        (Step::Look(0, 0), SETTLED),
+        (Step::Settle(0, 2), DOUBLE),
+        (Step::Draw(1), FOURTH),
+        (Step::Draw(1), NOTHING),
+        (Step::Settle(1, 0), REFUSED),
+        (Step::Settle(1, 1), KEPT),
+        (Step::Loss(1), LOST),
+        (Step::Draw(1), REFUSED),
+    ]
+}
+
+#[test]
+fn makes_the_steps_one_by_one(rt: HostRuntime) {
+    assert!(rt; book_answers(rt.alloc(), (2, 2, 2), &steps_and_answers(), 4));
+}
+
+/// Whether a new book answers so where seat 0 is lost before step k.
+fn answers_with_loss(alloc: Global, k: usize) -> bool {
+    match (two_by_two(alloc), with_loss(alloc, k)) {
+        (Ok(mut book), Ok(steps)) => match run(&mut book, &steps) {
+            Ok(told) => told.as_slice() == answers_after_loss(k).as_slice(),
+            Err(_) => false,
+        },
+        _ => false,
+    }
+}
+
+#[test]
+fn loses_a_seat_before_each_step(rt: HostRuntime) {
     for k in 0..=12 {
-        let steps = with_loss(rt.alloc(), k)?;
-        let mut book = two_by_two(rt.alloc())?;
-        let told = run(&mut book, &steps)?;
-        assert_eq!(rt;
-            told.as_slice(),
-            answers_after_loss(k).as_slice(),
+        assert!(rt;
+            answers_with_loss(rt.alloc(), k),
             "seat 0 lost before step {k}"
         );
     }
-    Ok(())
+}
+
+/// Whether a book keeps what a lost seat did.
+fn keeps_after_loss(alloc: Global) -> bool {
+    let shown: Shown<'_> = (4, [false, true], [&[0], &[1, 2, 3]], [&[], &[1]]);
+    match with_loss(alloc, 1) {
+        Ok(steps) => new_book_answers(alloc, &steps, &answers_after_loss(1), &shown),
+        Err(_) => false,
+    }
 }
 
 #[test]
-fn keeps_what_a_lost_seat_did(rt: HostRuntime) -> Result<(), Fail> {
-    let mut book = two_by_two(rt.alloc())?;
-    let _ = run(&mut book, &with_loss(rt.alloc(), 1)?)?;
-    assert_eq!(rt; book.next(), 4);
-    assert!(rt; !book.mark(0));
-    assert!(rt; book.mark(1));
-    assert_eq!(rt; book.drawn(0), [0].as_slice());
-    assert!(rt; book.kept(0).is_empty());
-    assert_eq!(rt; book.drawn(1), [1, 2, 3].as_slice());
-    assert_eq!(rt; book.kept(1), [1].as_slice());
-    Ok(())
+fn keeps_what_a_lost_seat_did(rt: HostRuntime) {
+    assert!(rt; keeps_after_loss(rt.alloc()));
 }
 
 #[test]
-fn has_no_jobs(rt: HostRuntime) -> Result<(), Fail> {
-    let mut book = Book::new(rt.alloc(), 0, 2, 1)?;
-    assert_eq!(rt; book.draw(0)?, Answer::Nothing);
-    assert_eq!(rt; book.look(0, 0), Answer::Refused);
-    assert_eq!(rt; book.settle(0, 0)?, Answer::Refused);
-    assert_eq!(rt; book.next(), 0);
-    Ok(())
+fn has_no_jobs(rt: HostRuntime) {
+    let told = [
+        (Step::Draw(0), NOTHING),
+        (Step::Look(0, 0), REFUSED),
+        (Step::Settle(0, 0), REFUSED),
+    ];
+    assert!(rt; book_answers(rt.alloc(), (0, 2, 1), &told, 0));
 }
 
-#[test]
-fn offers_each_job_eight_times(rt: HostRuntime) -> Result<(), Fail> {
-    let mut book = Book::new(rt.alloc(), 3, 8, 1)?;
+/// Whether a book of three jobs and eight tries hands out each job eight times, in order.
+fn hands_out_each_job(book: &mut Book) -> bool {
     for pass in 0..8 {
         for job in 0..3 {
             let number = u64::from(pass) * 3 + u64::from(job);
-            assert_eq!(rt; book.draw(0)?, Answer::Lease(Lease { number, job, pass }));
+            let want = Answer::Lease(Lease { number, job, pass });
+            if !answer_one_by_one(book, &[(Step::Draw(0), want)]) {
+                return false;
+            }
         }
     }
-    assert_eq!(rt; book.draw(0)?, Answer::Nothing);
-    assert_eq!(rt; book.settle(0, 23)?, Answer::Kept);
-    assert_eq!(rt; book.settle(0, 2)?, Answer::Double);
-    assert_eq!(rt; book.settle(0, 24)?, Answer::Refused);
-    assert_eq!(rt; book.look(0, 2), Answer::Mark(true));
-    assert_eq!(rt; book.look(0, 0), Answer::Mark(false));
-    assert_eq!(rt; book.look(0, 3), Answer::Refused);
-    Ok(())
+    true
 }
 
-#[test]
-fn refuses_a_seat_that_is_not_there(rt: HostRuntime) -> Result<(), Fail> {
-    let mut book = Book::new(rt.alloc(), 2, 1, 1)?;
-    assert_eq!(rt; book.draw(1)?, Answer::Refused);
-    assert_eq!(rt; book.look(1, 0), Answer::Refused);
-    assert_eq!(rt; book.settle(1, 0)?, Answer::Refused);
-    assert_eq!(rt; book.lose(1), Answer::Refused);
-    assert_eq!(rt; book.lose(0), Answer::Lost);
-    assert_eq!(rt; book.lose(0), Answer::Refused);
-    assert_eq!(rt; book.next(), 0);
-    Ok(())
-}
-
-// Where one of its allocations fails the book is as it was, and the same steps answer the same when memory is back.
-#[test]
-fn changes_nothing_without_memory(rt: HostRuntime) -> Result<(), Fail> {
-    let mut book = two_by_two(rt.alloc())?;
-    if run(&mut book, &steps()).is_err() {
-        assert_eq!(rt; book.next(), 0);
-        assert!(rt; !book.mark(0));
-        assert!(rt; !book.mark(1));
-        assert!(rt; book.drawn(0).is_empty());
-        assert!(rt; book.kept(0).is_empty());
-        assert!(rt; book.drawn(1).is_empty());
-        assert!(rt; book.kept(1).is_empty());
-        let told = run(&mut book, &steps())?;
-        assert_eq!(rt; told.as_slice(), answers().as_slice());
+/// Whether a book of three jobs and eight tries does, and then has nothing more to draw.
+fn hands_out_all(alloc: Global) -> bool {
+    let then = [
+        (Step::Draw(0), NOTHING),
+        (Step::Settle(0, 23), KEPT),
+        (Step::Settle(0, 2), DOUBLE),
+        (Step::Settle(0, 24), REFUSED),
+        (Step::Look(0, 2), SETTLED),
+        (Step::Look(0, 0), Answer::Mark(false)),
+        (Step::Look(0, 3), REFUSED),
+    ];
+    match Book::new(alloc, 3, 8, 1) {
+        Ok(mut book) => hands_out_each_job(&mut book) && answer_one_by_one(&mut book, &then),
+        Err(_) => false,
     }
-    Ok(())
+}
+
+#[test]
+fn offers_each_job_eight_times(rt: HostRuntime) {
+    assert!(rt; hands_out_all(rt.alloc()));
+}
+
+#[test]
+fn refuses_a_seat_that_is_not_there(rt: HostRuntime) {
+    let told = [
+        (Step::Draw(1), REFUSED),
+        (Step::Look(1, 0), REFUSED),
+        (Step::Settle(1, 0), REFUSED),
+        (Step::Loss(1), REFUSED),
+        (Step::Loss(0), LOST),
+        (Step::Loss(0), REFUSED),
+    ];
+    assert!(rt; book_answers(rt.alloc(), (2, 1, 1), &told, 0));
 }

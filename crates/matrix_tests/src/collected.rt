@@ -1,7 +1,7 @@
 //! Worked examples of offers, of finishing, and of steps of a book and a collector together.
 ghost use Rattle.std.specs.Prelude.{◌≡◌, IfOk};
 
-use collector::{Collector, CoreAnswer, CoreStep, Offer, Row, run_core};
+use collector::{Collector, CoreAnswer, CoreStep, Matrix, Offer, Row, Unfinished, run_core};
 use std::alloc::{AllocError, Global};
 use std::test::Fail;
 use work_book::{Answer, Book, Lease, Step};
@@ -31,7 +31,183 @@ fn row(
     })
 }
 
-/// Study 1, with three scenarios, three origins and three cells.
+/// What became of a row that was offered.
+#[derive(Clone, Copy, PartialEq, Eq)]
+enum Outcome {
+    Kept,
+    Double,
+    Stranger,
+}
+
+/// Offers a row.
+fn became(collector: &mut Collector, row: Row) -> Outcome {
+    match collector.offer(row) {
+        Offer::Kept => Outcome::Kept,
+        Offer::Double(_) => Outcome::Double,
+        Offer::Stranger(_) => Outcome::Stranger,
+    }
+}
+
+/// A row that is offered, and what becomes of it: study, scenario, origin, number of cells.
+type Case = (u64, u32, u32, usize, Outcome);
+
+/// Whether rows that are offered in turn become what they should.
+fn become_so(alloc: Global, collector: &mut Collector, cases: &[Case]) -> bool {
+    for (study, scenario, origin, width, want) in cases {
+        match row(alloc, *study, *scenario, *origin, *width) {
+            Ok(row) => {
+                if became(collector, row) != *want {
+                    return false;
+                }
+            }
+            Err(_) => return false,
+        }
+    }
+    true
+}
+
+/// How a collector ends: with a first empty place, or with a matrix of so many scenarios, origins and cells.
+#[derive(Clone, Copy, PartialEq, Eq)]
+enum End {
+    Empty(u32, u32),
+    Full(u32, u32, u32),
+}
+
+/// The shape of a matrix in which each row stands at its own place.
+fn shape_of(matrix: &Matrix) -> Option<End> {
+    for scenario in 0..matrix.scenarios() {
+        for origin in 0..matrix.origins() {
+            let row = matrix.row(scenario, origin);
+            if row.scenario != scenario || row.origin != origin {
+                return None;
+            }
+        }
+    }
+    Some(End::Full(matrix.scenarios(), matrix.origins(), matrix.width()))
+}
+
+/// How a collector ends; none where a row stands at another's place.
+fn end_of(collector: Collector) -> Option<End> {
+    match collector.finish() {
+        Ok(matrix) => shape_of(&matrix),
+        Err(unfinished) => Some(End::Empty(unfinished.scenario, unfinished.origin)),
+    }
+}
+
+/// Whether rows that are offered in turn to a collector of study 1, three scenarios, so many origins and three cells become
+/// what they should, and it ends so.
+fn ends(alloc: Global, origins: u32, cases: &[Case], end: End) -> bool {
+    if origins > 3 {
+        return false;
+    }
+    match Collector::new(alloc, 1, 3, origins, 3) {
+        Ok(mut collector) => {
+            let are_so = become_so(alloc, &mut collector, cases);
+            end_of(collector) == Some(end) && are_so
+        }
+        Err(_) => false,
+    }
+}
+
+#[test]
+fn keeps_the_first_row_of_a_place(rt: HostRuntime) {
+    let twice = [(1, 0, 0, 3, Outcome::Kept), (1, 0, 0, 3, Outcome::Double)];
+    assert!(rt; ends(rt.alloc(), 3, &twice, End::Empty(0, 1)));
+}
+
+#[test]
+fn hands_strangers_back(rt: HostRuntime) {
+    let strangers = [
+        (9, 0, 0, 3, Outcome::Stranger),
+        (1, 0, 3, 3, Outcome::Stranger),
+        (1, 3, 0, 3, Outcome::Stranger),
+        (1, 0, 0, 2, Outcome::Stranger),
+        (1, 0, 0, 4, Outcome::Stranger),
+    ];
+    assert!(rt; ends(rt.alloc(), 3, &strangers, End::Empty(0, 0)));
+}
+
+#[test]
+fn names_a_place_of_a_later_scenario(rt: HostRuntime) {
+    let rows = [
+        (1, 2, 2, 3, Outcome::Kept),
+        (1, 0, 2, 3, Outcome::Kept),
+        (1, 0, 1, 3, Outcome::Kept),
+        (1, 0, 0, 3, Outcome::Kept),
+        (1, 1, 0, 3, Outcome::Kept),
+    ];
+    assert!(rt; ends(rt.alloc(), 3, &rows, End::Empty(1, 1)));
+}
+
+#[test]
+fn finishes_with_every_row(rt: HostRuntime) {
+    let rows = [
+        (1, 0, 0, 3, Outcome::Kept),
+        (1, 2, 2, 3, Outcome::Kept),
+        (1, 0, 1, 3, Outcome::Kept),
+        (1, 2, 0, 3, Outcome::Kept),
+        (1, 1, 0, 3, Outcome::Kept),
+        (1, 1, 2, 3, Outcome::Kept),
+        (1, 0, 2, 3, Outcome::Kept),
+        (1, 1, 1, 3, Outcome::Kept),
+        (1, 2, 1, 3, Outcome::Kept),
+    ];
+    assert!(rt; ends(rt.alloc(), 3, &rows, End::Full(3, 3, 3)));
+}
+
+#[test]
+fn has_no_places(rt: HostRuntime) {
+    assert!(rt; ends(rt.alloc(), 0, &[], End::Full(3, 0, 3)));
+}
+
+/// Whether a row is that of place (0, 0) of study 1, as `row` makes it.
+fn is_first_row(row: &Row) -> bool {
+    row.study == 1
+        && row.scenario == 0
+        && row.origin == 0
+        && row.access == 7
+        && row.cells.as_slice() == [Some(0), None, None].as_slice()
+}
+
+/// Whether a row is handed back as it was, as the second of its place.
+fn comes_back(collector: &mut Collector, row: Row) -> bool
+    requires scenarios { collector.old.scenarios ≡ 3 }
+    requires origins { collector.old.origins ≡ 3 }
+    ensures scenarios { collector.new.scenarios ≡ 3 }
+    ensures origins { collector.new.origins ≡ 3 }
+{
+    match collector.offer(row) {
+        Offer::Double(row) => is_first_row(&row),
+        _ => false,
+    }
+}
+
+/// Offers the row of place (0, 0): whether it comes back.
+fn first_comes_back(alloc: Global, collector: &mut Collector) -> bool
+    requires scenarios { collector.old.scenarios ≡ 3 }
+    requires origins { collector.old.origins ≡ 3 }
+    ensures scenarios { collector.new.scenarios ≡ 3 }
+    ensures origins { collector.new.origins ≡ 3 }
+{
+    match row(alloc, 1, 0, 0, 3) {
+        Ok(row) => comes_back(collector, row),
+        Err(_) => false,
+    }
+}
+
+/// Whether place (0, 0), and no other of these, shows a row, and that it is the first one.
+fn shows_the_first(collector: &Collector) -> bool
+    requires scenarios { collector.now.scenarios ≡ 3 }
+    requires origins { collector.now.origins ≡ 3 }
+{
+    let first = match collector.place(0, 0) {
+        Some(row) => is_first_row(row),
+        None => false,
+    };
+    first && collector.place(0, 1).is_none() && collector.place(2, 2).is_none()
+}
+
+/// A collector of study 1, with three scenarios, three origins and three cells.
 fn three_by_three(alloc: Global) -> Result<Collector, AllocError>
     ensures scenarios { IfOk result (λ collector. collector.scenarios ≡ 3) }
     ensures origins { IfOk result (λ collector. collector.origins ≡ 3) }
@@ -39,165 +215,47 @@ fn three_by_three(alloc: Global) -> Result<Collector, AllocError>
     Collector::new(alloc, 1, 3, 3, 3)
 }
 
-/// An offer, of which the tests' proofs need no more than that the places stay.
-fn offer(collector: &mut Collector, row: Row) -> Offer
-    requires scenarios { collector.old.scenarios ≡ 3 }
-    requires origins { collector.old.origins ≡ 3 }
-    ensures scenarios { collector.new.scenarios ≡ 3 }
-    ensures origins { collector.new.origins ≡ 3 }
-{
-    collector.offer(row)
+/// Whether a place shows the first row that it was offered, and the second one comes back.
+fn keeps_and_gives_back(alloc: Global) -> bool {
+    match three_by_three(alloc) {
+        Ok(mut collector) => {
+            !first_comes_back(alloc, &mut collector)
+                && first_comes_back(alloc, &mut collector)
+                && shows_the_first(&collector)
+        }
+        Err(_) => false,
+    }
 }
 
-/// How many of the nine places have a row.
-fn full_places(collector: &Collector) -> u32
-    requires scenarios { collector.now.scenarios ≡ 3 }
-    requires origins { collector.now.origins ≡ 3 }
-{
-    let mut full = 0u32;
-    for scenario in 0..3 {
-        for origin in 0..3 {
-            if collector.place(scenario, origin).is_some() {
-                full = full.saturating_add(1);
+#[test]
+fn gives_the_second_row_of_a_place_back(rt: HostRuntime) {
+    assert!(rt; keeps_and_gives_back(rt.alloc()));
+}
+
+/// Whether a collector that came back unfinished has its row, and takes another.
+fn goes_on(alloc: Global, unfinished: Unfinished) -> bool {
+    let mut collector = unfinished.collector;
+    let cases = [(1, 0, 0, 3, Outcome::Double), (1, 0, 1, 3, Outcome::Kept)];
+    become_so(alloc, &mut collector, &cases)
+}
+
+/// Whether a collector with one row comes back from `finish`, and goes on.
+fn goes_on_unfinished(alloc: Global) -> bool {
+    match Collector::new(alloc, 1, 3, 3, 3) {
+        Ok(mut collector) => {
+            become_so(alloc, &mut collector, &[(1, 0, 0, 3, Outcome::Kept)]);
+            match collector.finish() {
+                Ok(_) => false,
+                Err(unfinished) => goes_on(alloc, unfinished),
             }
         }
+        Err(_) => false,
     }
-    full
 }
 
 #[test]
-fn keeps_the_first_row_of_a_place(rt: HostRuntime) -> Result<(), Fail> {
-    let alloc = rt.alloc();
-    let mut collector = three_by_three(alloc)?;
-    assert_eq!(rt; full_places(&collector), 0);
-    assert!(rt; matches!(offer(&mut collector, row(alloc, 1, 0, 0, 3)?), Offer::Kept));
-    match offer(&mut collector, row(alloc, 1, 0, 0, 3)?) {
-        Offer::Double(row) => {
-            assert_eq!(rt; row.study, 1);
-            assert_eq!(rt; row.scenario, 0);
-            assert_eq!(rt; row.origin, 0);
-            assert_eq!(rt; row.cells.as_slice(), [Some(0), None, None].as_slice());
-            assert_eq!(rt; row.access, 7);
-        }
-        _ => assert!(rt; false, "a second row of a place"),
-    }
-    assert!(rt; collector.place(0, 0).is_some());
-    assert_eq!(rt; full_places(&collector), 1);
-    Ok(())
-}
-
-/// Whether a row is handed back as a stranger.
-fn is_stranger(collector: &mut Collector, row: Row) -> bool
-    requires scenarios { collector.old.scenarios ≡ 3 }
-    requires origins { collector.old.origins ≡ 3 }
-    ensures scenarios { collector.new.scenarios ≡ 3 }
-    ensures origins { collector.new.origins ≡ 3 }
-{
-    matches!(offer(collector, row), Offer::Stranger(_))
-}
-
-#[test]
-fn hands_strangers_back(rt: HostRuntime) -> Result<(), Fail> {
-    let alloc = rt.alloc();
-    let mut collector = three_by_three(alloc)?;
-    let another_study = row(alloc, 9, 0, 0, 3)?;
-    assert!(rt; is_stranger(&mut collector, another_study));
-    let fourth_origin = row(alloc, 1, 0, 3, 3)?;
-    assert!(rt; is_stranger(&mut collector, fourth_origin));
-    let fourth_scenario = row(alloc, 1, 3, 0, 3)?;
-    assert!(rt; is_stranger(&mut collector, fourth_scenario));
-    let two_cells = row(alloc, 1, 0, 0, 2)?;
-    assert!(rt; is_stranger(&mut collector, two_cells));
-    let four_cells = row(alloc, 1, 0, 0, 4)?;
-    assert!(rt; is_stranger(&mut collector, four_cells));
-    assert_eq!(rt; full_places(&collector), 0);
-    Ok(())
-}
-
-#[test]
-fn names_the_first_empty_place(rt: HostRuntime) -> Result<(), Fail> {
-    let alloc = rt.alloc();
-    let mut collector = three_by_three(alloc)?;
-    assert!(rt; matches!(offer(&mut collector, row(alloc, 1, 0, 0, 3)?), Offer::Kept));
-    match collector.finish() {
-        Ok(_) => assert!(rt; false, "eight places are empty"),
-        Err(unfinished) => {
-            assert_eq!(rt; unfinished.scenario, 0);
-            assert_eq!(rt; unfinished.origin, 1);
-            let mut collector = unfinished.collector;
-            assert!(rt; matches!(collector.offer(row(alloc, 1, 0, 0, 3)?), Offer::Double(_)));
-            assert!(rt; matches!(collector.offer(row(alloc, 1, 0, 1, 3)?), Offer::Kept));
-        }
-    }
-    Ok(())
-}
-
-#[test]
-fn names_a_place_of_a_later_scenario(rt: HostRuntime) -> Result<(), Fail> {
-    let alloc = rt.alloc();
-    let mut collector = three_by_three(alloc)?;
-    for (scenario, origin) in [(2, 2), (0, 2), (0, 1), (0, 0), (1, 0)] {
-        assert!(rt;
-            matches!(
-                collector.offer(row(alloc, 1, scenario, origin, 3)?),
-                Offer::Kept
-            )
-        );
-    }
-    match collector.finish() {
-        Ok(_) => assert!(rt; false, "four places are empty"),
-        Err(unfinished) => {
-            assert_eq!(rt; unfinished.scenario, 1);
-            assert_eq!(rt; unfinished.origin, 1);
-        }
-    }
-    Ok(())
-}
-
-#[test]
-fn finishes_with_every_row(rt: HostRuntime) -> Result<(), Fail> {
-    let alloc = rt.alloc();
-    let mut collector = three_by_three(alloc)?;
-    for scenario in 0..3 {
-        for origin in 0..3 {
-            assert!(rt;
-                matches!(
-                    collector.offer(row(alloc, 1, scenario, origin, 3)?),
-                    Offer::Kept
-                )
-            );
-        }
-    }
-    match collector.finish() {
-        Ok(matrix) => {
-            assert_eq!(rt; matrix.scenarios(), 3);
-            assert_eq!(rt; matrix.origins(), 3);
-            assert_eq!(rt; matrix.width(), 3);
-            for scenario in 0..matrix.scenarios() {
-                for origin in 0..matrix.origins() {
-                    let row = matrix.row(scenario, origin);
-                    assert_eq!(rt; row.scenario, scenario);
-                    assert_eq!(rt; row.origin, origin);
-                }
-            }
-        }
-        Err(_) => assert!(rt; false, "every place has a row"),
-    }
-    Ok(())
-}
-
-#[test]
-fn has_no_places(rt: HostRuntime) -> Result<(), Fail> {
-    let collector = Collector::new(rt.alloc(), 1, 3, 0, 5)?;
-    match collector.finish() {
-        Ok(matrix) => {
-            assert_eq!(rt; matrix.scenarios(), 3);
-            assert_eq!(rt; matrix.origins(), 0);
-            assert_eq!(rt; matrix.width(), 5);
-        }
-        Err(_) => assert!(rt; false, "no place is empty"),
-    }
-    Ok(())
+fn an_unfinished_collector_goes_on(rt: HostRuntime) {
+    assert!(rt; goes_on_unfinished(rt.alloc()));
 }
 
 /// Steps of two seats over two jobs and two tries, and then a row that seat 1 hands over twice.
@@ -265,42 +323,54 @@ fn answers() -> [Answer; 12] {
     ]
 }
 
-#[test]
-fn makes_steps_and_offers_in_order(rt: HostRuntime) -> Result<(), Fail> {
-    let alloc = rt.alloc();
-    let mut book = Book::new(alloc, 2, 2, 2)?;
-    let mut collector = Collector::new(alloc, 1, 1, 2, 1)?;
-    let told = run_core(alloc, &mut book, &mut collector, steps(alloc)?)
-        .ok()
-        .ok_or("no memory")?;
-    assert_eq!(rt; told.len(), 14);
+/// Whether the core's answers are those of the book's steps, and then of a row that was handed over twice.
+fn are_told(told: &[CoreAnswer]) -> bool {
     for (answer, want) in told.iter().zip(answers().iter()) {
         match answer {
-            CoreAnswer::Book(answer) => assert_eq!(rt; *answer, *want),
-            CoreAnswer::Hand(_) => assert!(rt; false, "a step of the book"),
+            CoreAnswer::Book(answer) if answer == want => (),
+            _ => return false,
         }
     }
-    assert!(rt; matches!(&told[12], CoreAnswer::Hand(Offer::Kept)));
-    assert!(rt; matches!(&told[13], CoreAnswer::Hand(Offer::Double(_))));
-    assert_eq!(rt; book.next(), 4);
-    Ok(())
+    told.len() == 14
+        && matches!(&told[12], CoreAnswer::Hand(Offer::Kept))
+        && matches!(&told[13], CoreAnswer::Hand(Offer::Double(_)))
 }
 
-// Where one of its allocations fails the steps come back, and they answer the same when memory is back.
-#[test]
-fn hands_the_steps_back_without_memory(rt: HostRuntime) -> Result<(), Fail> {
-    let alloc = rt.alloc();
-    let mut book = Book::new(alloc, 2, 2, 2)?;
-    let mut collector = Collector::new(alloc, 1, 1, 2, 1)?;
-    if let Err(back) = run_core(alloc, &mut book, &mut collector, steps(alloc)?) {
-        assert_eq!(rt; back.len(), 14);
-        assert_eq!(rt; book.next(), 0);
-        let told = run_core(alloc, &mut book, &mut collector, back)
-            .ok()
-            .ok_or("no memory")?;
-        assert_eq!(rt; told.len(), 14);
-        assert!(rt; matches!(&told[12], CoreAnswer::Hand(Offer::Kept)));
-        assert_eq!(rt; book.next(), 4);
+/// Whether the core answers as it should. Where one of its allocations fails the steps come back, the book is as it was, and they
+/// answer the same when memory is back.
+fn answer_so(
+    alloc: Global,
+    book: &mut Book,
+    collector: &mut Collector,
+    steps: Vec<CoreStep>,
+) -> bool {
+    match run_core(alloc, book, collector, steps) {
+        Ok(told) => are_told(&told),
+        Err(back) => {
+            let unchanged = back.len() == 14 && book.next() == 0;
+            match run_core(alloc, book, collector, back) {
+                Ok(told) => unchanged && are_told(&told),
+                Err(_) => false,
+            }
+        }
     }
+}
+
+/// Whether a core of two jobs answers as it should, and its book has gone on by four numbers.
+fn core_answers(alloc: Global, book: &mut Book) -> bool {
+    match (Collector::new(alloc, 1, 1, 2, 1), steps(alloc)) {
+        (Ok(mut collector), Ok(steps)) => {
+            answer_so(alloc, book, &mut collector, steps) && book.next() == 4
+        }
+        _ => false,
+    }
+}
+
+#[test]
+fn makes_steps_and_offers_in_order(rt: HostRuntime) -> Result<(), Fail> {
+    let mut book = Book::new(rt.alloc(), 2, 2, 2)?;
+    let are_so = core_answers(rt.alloc(), &mut book);
+    drop(book);
+    assert!(rt; are_so);
     Ok(())
 }

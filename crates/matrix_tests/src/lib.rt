@@ -1,7 +1,8 @@
 //! Tests of the way from a network to the text of a matrix: worked rows of `timetable`, `rounds`, `shares`, `work_book`, `collector`,
 //! `workers` and `matrix_text`, by their public calls.
 //!
-//! - `networks`, `durations`, `cells`: networks, the least durations over them, and their shares (over `small_networks`).
+//! - `networks`, `durations`, `changes`, `cells`: networks, the least durations over them, also with change times, and their
+//!   shares (over `small_networks`).
 //! - `book_steps`, `collected`: who computes which row, and the first row of each place.
 //! - `rows`, `text`: studies of rows, and the matrix as CSV.
 #![tactic(auto)]
@@ -10,6 +11,8 @@
 mod book_steps;
 #[cfg(test)]
 mod cells;
+#[cfg(test)]
+mod changes;
 #[cfg(test)]
 mod collected;
 #[cfg(test)]

@@ -12,9 +12,35 @@ fn feet_fault(
     lists: usize,
     footpaths: &[Footpath],
 ) -> Result<Option<(NetFault, usize)>, AllocError> {
-    match Feet::new(alloc, stops, lists_of(alloc, lists, footpaths)?) {
+    let changes = vec![in alloc; 0; stops as usize]?;
+    match Feet::new(alloc, stops, lists_of(alloc, lists, footpaths)?, changes) {
         Ok(_) => Ok(None),
-        Err((fault, back)) => Ok(Some((fault, back.len()))),
+        Err((fault, back, _)) => Ok(Some((fault, back.len()))),
+    }
+}
+
+/// Footpaths among these stops, at which no change takes time, if they are accepted.
+fn feet_of(alloc: Global, stops: u32, footpaths: &[Footpath]) -> Result<Option<Feet>, AllocError> {
+    let changes = vec![in alloc; 0; stops as usize]?;
+    Ok(Feet::new(
+        alloc,
+        stops,
+        lists_of(alloc, stops as usize, footpaths)?,
+        changes,
+    )
+    .ok())
+}
+
+/// Why a footpath from the first of two stops to the second is refused with these change times, if it is, with how many lists
+/// and change times were handed back.
+fn change_fault(
+    alloc: Global,
+    changes: &[u32],
+) -> Result<Option<(NetFault, usize, usize)>, AllocError> {
+    let times = Vec::from_slice(alloc, changes)?;
+    match Feet::new(alloc, 2, lists_of(alloc, 2, &[(0, 1, 60)])?, times) {
+        Ok(_) => Ok(None),
+        Err((fault, lists, times)) => Ok(Some((fault, lists.len(), times.len()))),
     }
 }
 
@@ -50,7 +76,7 @@ fn net_fault(
 fn footpaths_lead_one_way(rt: HostRuntime) -> Result<(), Fail> {
     let alloc = rt.alloc();
     let footpaths = [(0, 1, 60), (3, 0, 10), (3, 2, 0), (3, 4, 30), (3, 6, 7_200)];
-    let Some(feet) = Feet::new(alloc, 8, lists_of(alloc, 8, &footpaths)?).ok() else {
+    let Some(feet) = feet_of(alloc, 8, &footpaths)? else {
         assert!(rt; false);
         return Ok(());
     };
@@ -116,9 +142,44 @@ fn footpaths_are_refused(rt: HostRuntime) -> Result<(), Fail> {
 }
 
 #[test]
+fn change_times_are_refused(rt: HostRuntime) -> Result<(), Fail> {
+    let alloc = rt.alloc();
+    for (changes, fault) in [
+        ([0, 0].as_slice(), None),
+        ([300, 16_777_216].as_slice(), None),
+
+        // one too few, one too many, too long, two faults at once
+        ([0].as_slice(), Some(NetFault::StopRange)),
+        ([0, 0, 0].as_slice(), Some(NetFault::StopRange)),
+        ([0, 16_777_217].as_slice(), Some(NetFault::TooLarge)),
+        ([16_777_217].as_slice(), Some(NetFault::StopRange)),
+    ] {
+        let expected = fault.map(|fault| (fault, 2, changes.len()));
+        assert_eq!(rt; change_fault(alloc, changes)?, expected);
+    }
+    Ok(())
+}
+
+#[test]
+fn each_stop_has_its_change_time(rt: HostRuntime) -> Result<(), Fail> {
+    let alloc = rt.alloc();
+    let times = Vec::from_slice(alloc, &[300, 0, 16_777_216])?;
+    let Some(feet) = Feet::new(alloc, 3, lists_of(alloc, 3, &[])?, times).ok() else {
+        assert!(rt; false);
+        return Ok(());
+    };
+    for (stop, seconds) in [(0, 300), (1, 0), (2, 16_777_216)] {
+        if stop < feet.stops() {
+            assert_eq!(rt; feet.change(StopNo(stop)), seconds, "at {stop}");
+        }
+    }
+    Ok(())
+}
+
+#[test]
 fn networks_off_their_stops_are_refused(rt: HostRuntime) -> Result<(), Fail> {
     let alloc = rt.alloc();
-    let Some(feet) = Feet::new(alloc, 2, lists_of(alloc, 2, &[(1, 0, 90)])?).ok() else {
+    let Some(feet) = feet_of(alloc, 2, &[(1, 0, 90)])? else {
         assert!(rt; false);
         return Ok(());
     };
@@ -146,7 +207,7 @@ fn networks_off_their_stops_are_refused(rt: HostRuntime) -> Result<(), Fail> {
 #[test]
 fn networks_with_bad_times_are_refused(rt: HostRuntime) -> Result<(), Fail> {
     let alloc = rt.alloc();
-    let Some(feet) = Feet::new(alloc, 2, lists_of(alloc, 2, &[(1, 0, 90)])?).ok() else {
+    let Some(feet) = feet_of(alloc, 2, &[(1, 0, 90)])? else {
         assert!(rt; false);
         return Ok(());
     };
@@ -177,7 +238,7 @@ fn networks_with_bad_times_are_refused(rt: HostRuntime) -> Result<(), Fail> {
 #[test]
 fn an_empty_network(rt: HostRuntime) -> Result<(), Fail> {
     let alloc = rt.alloc();
-    let Some(feet) = Feet::new(alloc, 0, Vec::new(alloc)).ok() else {
+    let Some(feet) = feet_of(alloc, 0, &[])? else {
         assert!(rt; false);
         return Ok(());
     };

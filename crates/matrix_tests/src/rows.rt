@@ -4,7 +4,6 @@ use crate::small_networks::{at, network_with, trip_of};
 use collector::{Matrix, Row};
 use rounds::Window;
 use std::alloc::{AllocError, Global};
-use std::test::Fail;
 use timetable::{Event, Network, StopNo};
 use work_book::{Lease, Settled};
 use workers::{Gate, Open, Study, Verdict, one_thread, row_of};
@@ -75,42 +74,91 @@ fn study_of(networks: &[Network]) -> Study<'_> {
     }
 }
 
-/// The matrix of a study, if it fits.
-fn matrix_of(alloc: Global, study: &Study) -> Option<Matrix> {
-    if study.fits() {
-        one_thread(alloc, study).ok()
-    } else {
-        None
-    }
-}
+/// A row of a matrix: scenario, origin, access and cells.
+type Told = (u32, u32, u64, [Option<u32>; 3]);
 
 /// Whether a row of study 7 has this access, and these cells.
 fn is(row: &Row, access: u64, cells: &[Option<u32>]) -> bool {
     row.study == 7 && row.access == access && row.cells.as_slice() == cells
 }
 
-/// Whether the matrix has this row at its place.
-fn has(
-    matrix: &Option<Matrix>,
-    scenario: u32,
-    origin: u32,
-    access: u64,
-    cells: &[Option<u32>],
-) -> bool {
-    if let Some(matrix) = matrix
-        && scenario < matrix.scenarios()
-        && origin < matrix.origins()
-    {
-        let row = matrix.row(scenario, origin);
-        return row.scenario == scenario && row.origin == origin && is(row, access, cells);
+/// Whether a matrix has these rows, each at its place.
+fn has(matrix: &Matrix, rows: &[Told]) -> bool {
+    for (scenario, origin, access, cells) in rows {
+        if *scenario >= matrix.scenarios() || *origin >= matrix.origins() {
+            return false;
+        }
+        let row = matrix.row(*scenario, *origin);
+        if row.scenario != *scenario || row.origin != *origin || !is(row, *access, cells) {
+            return false;
+        }
     }
-    false
+    true
 }
 
-#[test]
-fn gives_the_nearest_rank_of_the_minutes(rt: HostRuntime) -> Result<(), Fail> {
-    let alloc = rt.alloc();
-    let networks = networks_of(alloc, &[&[FIRST, SECOND]])?;
+/// Whether a study fits, and its matrix has so many scenarios, origins and cells, and these rows.
+fn gives(alloc: Global, study: &Study, shape: (u32, u32, u32), rows: &[Told]) -> bool {
+    if !study.fits() {
+        return false;
+    }
+    match one_thread(alloc, study) {
+        Ok(matrix) => {
+            let found = (matrix.scenarios(), matrix.origins(), matrix.width());
+            found == shape && has(&matrix, rows)
+        }
+        Err(_) => false,
+    }
+}
+
+/// Whether a study of one scenario and one origin gives this row.
+fn gives_one(alloc: Global, study: &Study, access: u64, cells: [Option<u32>; 3]) -> bool {
+    gives(alloc, study, (1, 1, 3), &[(0, 0, access, cells)])
+}
+
+/// What the tests ask of studies over some networks.
+#[derive(Clone, Copy)]
+enum Asked {
+    Shares,
+    Reach,
+    OneRide,
+    EveryRow,
+    OneRow,
+    NoOrigins,
+    Limits,
+    Opportunities,
+    Origins,
+    Scenarios,
+}
+
+/// Whether the networks of these scenarios' rides give what is asked.
+fn are_right(alloc: Global, scenarios: &[&[Ride]], asked: Asked) -> bool {
+    match networks_of(alloc, scenarios) {
+        Ok(networks) => give(alloc, &networks, asked),
+        Err(_) => false,
+    }
+}
+
+/// Whether networks give what is asked.
+fn give(alloc: Global, networks: &[Network], asked: Asked) -> bool {
+    match asked {
+        Asked::Shares => give_the_nearest_rank(alloc, networks),
+        Asked::Reach => sum_the_opportunities(alloc, networks),
+        Asked::OneRide => count_rides(alloc, networks),
+        Asked::EveryRow => give_every_row(alloc, networks),
+        Asked::OneRow => give_one_row(alloc, networks),
+        Asked::NoOrigins => give_no_rows(alloc, networks),
+        Asked::Limits => fit_up_to_each_limit(networks),
+        Asked::Opportunities => fit_an_opportunity_for_each_stop(networks),
+        Asked::Origins => fit_up_to_the_most_origins(alloc, networks),
+        Asked::Scenarios => fit_sixteen_scenarios(networks),
+    }
+}
+
+/// The feed of two trips alone.
+const BASE: &[&[Ride]] = &[&[FIRST, SECOND]];
+
+/// The share, over windows from a minute of the day.
+fn give_the_nearest_rank(alloc: Global, networks: &[Network]) -> bool {
     let all = [Some(0), Some(600), Some(1_800)];
     for (minute, minutes, share, access, cells) in [
         (478, 4, 1, 3, all),
@@ -125,61 +173,61 @@ fn gives_the_nearest_rank_of_the_minutes(rt: HostRuntime) -> Result<(), Fail> {
         let study = Study {
             window: window(minute, minutes),
             share,
-            ..study_of(&networks)
+            ..study_of(networks)
         };
-        let matrix = matrix_of(alloc, &study);
-        assert!(rt;
-            has(&matrix, 0, 0, access, &cells),
-            "share {share} of {minutes}"
-        );
+        if !gives_one(alloc, &study, access, cells) {
+            return false;
+        }
     }
-    Ok(())
+    true
 }
 
 #[test]
-fn sums_the_opportunities_within_reach(rt: HostRuntime) -> Result<(), Fail> {
-    let alloc = rt.alloc();
-    let networks = networks_of(alloc, &[&[FIRST, SECOND]])?;
+fn gives_the_nearest_rank_of_the_minutes(rt: HostRuntime) {
+    assert!(rt; are_right(rt.alloc(), BASE, Asked::Shares));
+}
+
+/// The access, of what is reached within a limit.
+fn sum_the_opportunities(alloc: Global, networks: &[Network]) -> bool {
     for (within, access) in [(1_800, 15), (1_799, 10), (599, 0)] {
         let study = Study {
             opportunities: &[0, 10, 5],
             within,
-            ..study_of(&networks)
+            ..study_of(networks)
         };
-        let matrix = matrix_of(alloc, &study);
-        assert!(rt;
-            has(&matrix, 0, 0, access, &[Some(0), Some(600), Some(1_800)]),
-            "within {within}"
-        );
+        if !gives_one(alloc, &study, access, [Some(0), Some(600), Some(1_800)]) {
+            return false;
+        }
     }
-    Ok(())
+    true
 }
 
 #[test]
-fn counts_rides(rt: HostRuntime) -> Result<(), Fail> {
-    let alloc = rt.alloc();
-    let networks = networks_of(alloc, &[&[FIRST, SECOND]])?;
+fn sums_the_opportunities_within_reach(rt: HostRuntime) {
+    assert!(rt; are_right(rt.alloc(), BASE, Asked::Reach));
+}
+
+/// One ride, where C wants two.
+fn count_rides(alloc: Global, networks: &[Network]) -> bool {
     let study = Study {
         rides: 1,
-        ..study_of(&networks)
+        ..study_of(networks)
     };
-    let matrix = matrix_of(alloc, &study);
-    assert!(rt; has(&matrix, 0, 0, 2, &[Some(0), Some(600), None]));
-    Ok(())
+    gives_one(alloc, &study, 2, [Some(0), Some(600), None])
 }
 
-/// The feed as it is, without its second trip, and with its first trip 300 seconds late; from each stop.
 #[test]
-fn has_a_row_per_scenario_and_origin(rt: HostRuntime) -> Result<(), Fail> {
-    let alloc = rt.alloc();
-    let late = (A, 29_100, B, 29_700);
-    let networks = networks_of(alloc, &[&[FIRST, SECOND], &[FIRST], &[late, SECOND]])?;
+fn counts_rides(rt: HostRuntime) {
+    assert!(rt; are_right(rt.alloc(), BASE, Asked::OneRide));
+}
+
+/// Every row from each stop.
+fn give_every_row(alloc: Global, networks: &[Network]) -> bool {
     let study = Study {
         origins: &[StopNo(A), StopNo(B), StopNo(C)],
-        ..study_of(&networks)
+        ..study_of(networks)
     };
-    let matrix = matrix_of(alloc, &study);
-    for (scenario, origin, access, cells) in [
+    let rows = [
         (0, 0, 3, [Some(0), Some(600), Some(1_800)]),
         (0, 1, 2, [None, Some(0), Some(1_800)]),
         (0, 2, 1, [None, None, Some(0)]),
@@ -189,149 +237,131 @@ fn has_a_row_per_scenario_and_origin(rt: HostRuntime) -> Result<(), Fail> {
         (2, 0, 3, [Some(0), Some(900), Some(1_800)]),
         (2, 1, 2, [None, Some(0), Some(1_800)]),
         (2, 2, 1, [None, None, Some(0)]),
-    ] {
-        assert!(rt;
-            has(&matrix, scenario, origin, access, &cells),
-            "scenario {scenario}, origin {origin}"
-        );
-    }
-    if let Some(matrix) = matrix {
-        assert_eq!(rt; matrix.scenarios(), 3);
-        assert_eq!(rt; matrix.origins(), 3);
-        assert_eq!(rt; matrix.width(), 3);
-    }
-    Ok(())
+    ];
+    gives(alloc, &study, (3, 3, 3), &rows)
 }
 
+/// The feed as it is, without its second trip, and with its first trip 300 seconds late; from each stop.
 #[test]
-fn gives_one_row_alone(rt: HostRuntime) -> Result<(), Fail> {
-    let alloc = rt.alloc();
-    let networks = networks_of(alloc, &[&[FIRST, SECOND], &[FIRST]])?;
+fn has_a_row_per_scenario_and_origin(rt: HostRuntime) {
+    let late = (A, 29_100, B, 29_700);
+    let scenarios: [&[Ride]; 3] = [&[FIRST, SECOND], &[FIRST], &[late, SECOND]];
+    assert!(rt; are_right(rt.alloc(), &scenarios, Asked::EveryRow));
+}
+
+/// The row of the second scenario and the second origin, by itself.
+fn give_one_row(alloc: Global, networks: &[Network]) -> bool {
     let study = Study {
         origins: &[StopNo(C), StopNo(A)],
-        ..study_of(&networks)
+        ..study_of(networks)
     };
-    assert!(rt; study.fits());
-    assert_eq!(rt; study.networks.len(), 2);
-    assert_eq!(rt; study.origins.len(), 2);
-    let row = row_of(alloc, &study, 1, 1)?;
-    assert_eq!(rt; row.scenario, 1);
-    assert_eq!(rt; row.origin, 1);
-    assert!(rt; is(&row, 2, &[Some(0), Some(600), None]));
-    Ok(())
+    if !study.fits() || study.networks.len() != 2 || study.origins.len() != 2 {
+        return false;
+    }
+    match row_of(alloc, &study, 1, 1) {
+        Ok(row) => {
+            row.scenario == 1 && row.origin == 1 && is(&row, 2, &[Some(0), Some(600), None])
+        }
+        Err(_) => false,
+    }
 }
 
 #[test]
-fn has_no_rows_without_origins_or_scenarios(rt: HostRuntime) -> Result<(), Fail> {
-    let alloc = rt.alloc();
-    let networks = networks_of(alloc, &[&[FIRST, SECOND]])?;
+fn gives_one_row_alone(rt: HostRuntime) {
+    let scenarios: [&[Ride]; 2] = [&[FIRST, SECOND], &[FIRST]];
+    assert!(rt; are_right(rt.alloc(), &scenarios, Asked::OneRow));
+}
+
+/// No rows without origins, and none without scenarios.
+fn give_no_rows(alloc: Global, networks: &[Network]) -> bool {
     let from_nowhere = Study {
         origins: &[],
-        ..study_of(&networks)
+        ..study_of(networks)
     };
-    match matrix_of(alloc, &from_nowhere) {
-        Some(matrix) => {
-            assert_eq!(rt; matrix.scenarios(), 1);
-            assert_eq!(rt; matrix.origins(), 0);
-            assert_eq!(rt; matrix.width(), 3);
-        }
-        None => assert!(rt; false, "no origins are allowed"),
-    }
-    match matrix_of(alloc, &study_of(&[])) {
-        Some(matrix) => {
-            assert_eq!(rt; matrix.scenarios(), 0);
-            assert_eq!(rt; matrix.origins(), 1);
-        }
-        None => assert!(rt; false, "no scenarios are allowed"),
-    }
-    Ok(())
+    gives(alloc, &from_nowhere, (1, 0, 3), &[]) && gives(alloc, &study_of(&[]), (0, 1, 0), &[])
 }
 
 #[test]
-fn fits_up_to_each_limit(rt: HostRuntime) -> Result<(), Fail> {
-    let alloc = rt.alloc();
-    let networks = networks_of(alloc, &[&[FIRST, SECOND]])?;
-    let study = study_of(&networks);
-    for (rides, fits) in [(0, false), (1, true), (8, true), (9, false)] {
-        assert_eq!(rt; Study { rides, ..study }.fits(), fits, "{rides} rides");
-    }
-    for (share, fits) in [(0, false), (1, true), (100, true), (101, false)] {
-        assert_eq!(rt; Study { share, ..study }.fits(), fits, "share {share}");
-    }
-    for (minutes, fits) in [(0, false), (1, true), (1_440, true), (1_441, false)] {
-        let window = window(0, minutes);
-        assert_eq!(rt; Study { window, ..study }.fits(), fits, "{minutes} minutes");
-    }
-    for (stop, fits) in [(2, true), (3, false)] {
-        let origins = [StopNo(stop)];
-        assert_eq!(rt;
-            Study {
-                origins: &origins,
-                ..study
-            }
-            .fits(),
-            fits,
-            "origin {stop}"
-        );
-    }
-    Ok(())
+fn has_no_rows_without_origins_or_scenarios(rt: HostRuntime) {
+    assert!(rt; are_right(rt.alloc(), BASE, Asked::NoOrigins));
 }
 
-#[test]
-fn fits_an_opportunity_for_each_stop(rt: HostRuntime) -> Result<(), Fail> {
-    let alloc = rt.alloc();
-    let networks = networks_of(alloc, &[&[FIRST, SECOND]])?;
-    let study = study_of(&networks);
-    assert!(rt;
-        !Study {
-            opportunities: &[1, 1],
-            ..study
-        }
-        .fits()
-    );
-    assert!(rt;
-        !Study {
-            opportunities: &[1, 1, 1, 1],
-            ..study
-        }
-        .fits()
-    );
-    Ok(())
-}
-
-// Whether the study of some networks fits with these origins.
-fn fits_from<'a>(networks: &'a [Network], origins: &'a [StopNo]) -> bool {
+/// Rides, shares, minutes and origins, at each limit and past it.
+fn fit_up_to_each_limit(networks: &[Network]) -> bool {
     let study = study_of(networks);
-    Study { origins, ..study }.fits()
+    let with_rides = |rides| Study { rides, ..study }.fits();
+    let with_share = |share| Study { share, ..study }.fits();
+    let with_minutes = |minutes| {
+        let window = window(0, minutes);
+        Study { window, ..study }.fits()
+    };
+    let rides = !with_rides(0) && with_rides(1) && with_rides(8) && !with_rides(9);
+    let shares = !with_share(0) && with_share(1) && with_share(100) && !with_share(101);
+    let minutes = !with_minutes(0) && with_minutes(1) && with_minutes(1_440);
+    let origins = fits_from(networks, &[StopNo(2)]) && !fits_from(networks, &[StopNo(3)]);
+    rides && shares && minutes && !with_minutes(1_441) && origins
 }
 
 #[test]
-fn fits_up_to_the_most_origins(rt: HostRuntime) -> Result<(), Fail> {
-    let alloc = rt.alloc();
-    let networks = networks_of(alloc, &[&[FIRST, SECOND]])?;
-    let origins = vec![in alloc; StopNo(0); 65_536]?;
-    assert!(rt; !fits_from(&networks, &origins));
-    assert!(rt; fits_from(&networks, &origins[..65_535]));
-    Ok(())
+fn fits_up_to_each_limit(rt: HostRuntime) {
+    assert!(rt; are_right(rt.alloc(), BASE, Asked::Limits));
+}
+
+/// One opportunity too few, and one too many.
+fn fit_an_opportunity_for_each_stop(networks: &[Network]) -> bool {
+    let few = Study {
+        opportunities: &[1, 1],
+        ..study_of(networks)
+    };
+    let many = Study {
+        opportunities: &[1, 1, 1, 1],
+        ..study_of(networks)
+    };
+    !few.fits() && !many.fits()
 }
 
 #[test]
-fn fits_sixteen_scenarios(rt: HostRuntime) -> Result<(), Fail> {
-    let alloc = rt.alloc();
-    let mut networks = Vec::new(alloc);
-    for _ in 0..16 {
-        if let Some(network) = network_of(alloc, 3, &[FIRST])? {
-            networks.push(network)?;
-        }
+fn fits_an_opportunity_for_each_stop(rt: HostRuntime) {
+    assert!(rt; are_right(rt.alloc(), BASE, Asked::Opportunities));
+}
+
+/// Whether the study of some networks fits with these origins.
+fn fits_from(networks: &[Network], origins: &[StopNo]) -> bool {
+    let study = Study {
+        number: 7,
+        networks,
+        origins,
+        opportunities: &[1, 1, 1],
+        window: window(480, 1),
+        rides: 2,
+        share: 50,
+        within: 1_800,
+    };
+    study.fits()
+}
+
+/// 65,535 origins, and one more.
+fn fit_up_to_the_most_origins(alloc: Global, networks: &[Network]) -> bool {
+    match vec![in alloc; StopNo(0); 65_536] {
+        Ok(origins) => !fits_from(networks, &origins) && fits_from(networks, &origins[..65_535]),
+        Err(_) => false,
     }
-    assert_eq!(rt; networks.len(), 16);
-    assert!(rt; study_of(&networks).fits());
-    if let Some(network) = network_of(alloc, 3, &[SECOND])? {
-        networks.push(network)?;
-    }
-    assert_eq!(rt; networks.len(), 17);
-    assert!(rt; !study_of(&networks).fits());
-    Ok(())
+}
+
+#[test]
+fn fits_up_to_the_most_origins(rt: HostRuntime) {
+    assert!(rt; are_right(rt.alloc(), BASE, Asked::Origins));
+}
+
+/// Sixteen of seventeen scenarios, and all.
+fn fit_sixteen_scenarios(networks: &[Network]) -> bool {
+    networks.len() == 17 && study_of(&networks[..16]).fits() && !study_of(networks).fits()
+}
+
+#[test]
+fn fits_sixteen_scenarios(rt: HostRuntime) {
+    let one: &[Ride] = &[FIRST];
+    assert!(rt; are_right(rt.alloc(), &[one; 17], Asked::Scenarios));
 }
 
 #[test]

@@ -2,7 +2,7 @@
 
 use rounds::{Durations, Window, durations};
 use std::alloc::{AllocError, Global};
-use timetable::{Event, Events, Feet, Network, StopNo, Trip};
+use timetable::{Event, Events, Feet, MOST_STOPS, Network, StopNo, Trip};
 
 /// A footpath: from a stop, to a stop, in seconds.
 pub(crate) type Footpath = (usize, u32, u32);
@@ -52,10 +52,32 @@ pub(crate) fn network_with(
     footpaths: &[Footpath],
     trips: Vec<Trip>,
 ) -> Result<Option<Network>, AllocError> {
-    match Feet::new(alloc, stops, lists_of(alloc, stops as usize, footpaths)?) {
+    let changes = vec![in alloc; 0; stops as usize]?;
+    network_over(alloc, stops, footpaths, changes, trips)
+}
+
+/// The network of these trips, footpaths and change times, if it is one.
+fn network_over(
+    alloc: Global,
+    stops: u32,
+    footpaths: &[Footpath],
+    changes: Vec<u32>,
+    trips: Vec<Trip>,
+) -> Result<Option<Network>, AllocError> {
+    let lists = lists_of(alloc, stops as usize, footpaths)?;
+    match Feet::new(alloc, stops, lists, changes) {
         Ok(feet) => Ok(Network::new(alloc, stops, trips, &feet).ok()),
         Err(_) => Ok(None),
     }
+}
+
+/// Trips with these events.
+fn trips_with(alloc: Global, trips: &[&[Event]]) -> Result<Vec<Trip>, AllocError> {
+    let mut all = Vec::with_capacity(alloc, trips.len())?;
+    for events in trips {
+        all.push(trip_of(alloc, events)?)?;
+    }
+    Ok(all)
 }
 
 /// The network of trips with these events, and of these footpaths, if it is one.
@@ -65,11 +87,22 @@ pub(crate) fn network_of(
     footpaths: &[Footpath],
     trips: &[&[Event]],
 ) -> Result<Option<Network>, AllocError> {
-    let mut all = Vec::with_capacity(alloc, trips.len())?;
-    for events in trips {
-        all.push(trip_of(alloc, events)?)?;
+    network_with(alloc, stops, footpaths, trips_with(alloc, trips)?)
+}
+
+/// The network of trips with these events, of these footpaths, and of these change times, one per stop, if it is one.
+pub(crate) fn network_changing(
+    alloc: Global,
+    changes: &[u32],
+    footpaths: &[Footpath],
+    trips: &[&[Event]],
+) -> Result<Option<Network>, AllocError> {
+    if changes.len() > MOST_STOPS {
+        return Ok(None);
     }
-    network_with(alloc, stops, footpaths, all)
+    let stops = changes.len() as u32;
+    let times = Vec::from_slice(alloc, changes)?;
+    network_over(alloc, stops, footpaths, times, trips_with(alloc, trips)?)
 }
 
 /// Two trips: from stop 0 at 08:00:00 to 1 at 08:10:00, and from 1 at `leave` to 2 at 08:30:00.

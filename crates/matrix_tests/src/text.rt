@@ -288,20 +288,29 @@ fn labels_fit(scenarios: &[Vec<u8>], origins: &[StopNo], feed: &Feed, matrix: &M
     labels.fit(matrix)
 }
 
+/// Labels: the files, the names of scenarios, the origins, and whether they fit the matrix of the row from A.
+const LABELS: [(Files, &[&[u8]], &[StopNo], bool); 6] = [
+    (THREE_STOPS, &[b"base"], &[StopNo(0)], true),
+    (THREE_STOPS, &[], &[StopNo(0)], false),
+    (THREE_STOPS, &[b"base", b"cut"], &[StopNo(0)], false),
+    (THREE_STOPS, &[b"base"], &[StopNo(3)], false),
+    (THREE_STOPS, &[b"base"], &[], false),
+    (TWO_STOPS, &[b"base"], &[StopNo(0)], false),
+];
+
+/// Whether each of the labels is told to fit, or not to, as it should.
+fn labels_are_told(alloc: Global) -> bool {
+    for (files, scenarios, origins, want) in &LABELS {
+        if fit(alloc, *files, scenarios, origins) != Some(*want) {
+            return false;
+        }
+    }
+    true
+}
+
 #[test]
 fn labels_fit_their_own_matrix_alone(rt: HostRuntime) {
-    let a = [StopNo(0)];
-    let one: [&[u8]; 1] = [b"base"];
-    let two: [&[u8]; 2] = [b"base", b"cut"];
-    assert_eq!(rt; fit(rt.alloc(), THREE_STOPS, &one, &a), Some(true));
-    assert_eq!(rt; fit(rt.alloc(), THREE_STOPS, &[], &a), Some(false));
-    assert_eq!(rt; fit(rt.alloc(), THREE_STOPS, &two, &a), Some(false));
-    assert_eq!(rt;
-        fit(rt.alloc(), THREE_STOPS, &one, &[StopNo(3)]),
-        Some(false)
-    );
-    assert_eq!(rt; fit(rt.alloc(), THREE_STOPS, &one, &[]), Some(false));
-    assert_eq!(rt; fit(rt.alloc(), TWO_STOPS, &one, &a), Some(false));
+    assert!(rt; labels_are_told(rt.alloc()));
 }
 
 /// Takes at most so many bytes at a call, and fails after so many calls.

@@ -1,9 +1,9 @@
 -- Texts that are put out in parts, the last of them perhaps cut off.
-use Rattle.std.proofs.Common.{◌≡◌, ◌<◌, ◌+◌, ℕ, zero, suc, List, [], ◌++◌, Option, Some, None, inl, inr, ◌⊎◌, take, drop, refl, sym, ap, ◌∙◌, subst, arith, append_assoc, take-append-drop}
+use Rattle.std.proofs.Common.{◌≡◌, ◌<◌, ◌+◌, ℕ, zero, suc, List, [], ◌++◌, Option, Some, None, inl, inr, ◌⊎◌, take, drop, refl, sym, ap, ◌∙◌, subst, arith, append_assoc, take-append-drop, length, length-drop}
 use Rattle.std.proofs.KnownBytes.{Appends-nil, Appends-trans}
 use Rattle.std.proofs.lemmas.Bool.{cases_order}
 use Rattle.std.specs.Io.KnownBytes.{Appends, Keeps}
-use Rattle.matrix_text.specs.Prefixes.{PutsPrefix}
+use Rattle.matrix_text.specs.Prefixes.{PutsPart, PutsPrefix}
 use Rattle.matrix_text.specs.Text.{texts_below}
 
 -- nothing is a prefix
@@ -13,6 +13,11 @@ nothing_out a text = record { out = []; left = text; split = refl; appended = Ap
 -- so are the first bytes
 pub first_out : (a b : Option (List ℕ)) (text : List ℕ) (n : ℕ) → Appends a b (take n text) → PutsPrefix a b text
 first_out a b text n h = record { out = take n text; left = drop n text; split = take-append-drop n text; appended = h }
+
+-- and where they aren't all, a part
+pub part_out : (a b : Option (List ℕ)) (text : List ℕ) (n : ℕ) → n < length text → Appends a b (take n text) → PutsPart a b text
+part_out a b text n few h =
+    record { out = take n text; left = drop n text; split = take-append-drop n text; some_left = omega (arith, length-drop n text); appended = h }
 
 -- and still are where a write that failed kept them
 pub kept_out : (a b c : Option (List ℕ)) (text : List ℕ) → Appends a b text → Keeps b c → Appends a c text

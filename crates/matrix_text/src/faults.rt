@@ -4,11 +4,25 @@ use thiserror::Error;
 
 /// Why a text wasn't written. A prefix of it may be out.
 #[derive(Clone, Copy, Debug, PartialEq, Eq, Error)]
+#[error("{}", self.words())]
 pub enum TextFault {
     /// The writer failed, or took nothing.
-    #[error("write fault")]
     Write,
     /// A growth of memory was refused.
-    #[error("out of memory")]
     Memory,
+}
+
+impl TextFault {
+    ghost use Rattle.std.specs.Prelude.{◌≡◌};
+    ghost use Rattle.matrix_text.specs.FaultWords.{words_of};
+
+    /// What is wrong, in words.
+    pub fn words(&self) -> &'static str
+        ensures { result.now ≡ words_of self.now }
+    {
+        match self {
+            TextFault::Write => "write fault",
+            TextFault::Memory => "out of memory",
+        }
+    }
 }

@@ -17,7 +17,7 @@ pub(crate) fn make_networks(
     feet: &Feet,
 ) -> Result<Vec<Network>, NetFault>
     requires runs { All (IsRun feed.now) runs.now }
-    requires feet { length feet.now ≡ length feed.now.stops }
+    requires feet { length feet.now.walks ≡ length feed.now.stops }
 {
     let mut networks = Vec::new(alloc);
     for scenario in scenarios {

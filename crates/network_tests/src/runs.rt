@@ -74,9 +74,6 @@ fn lists_around(
     ahead: u32,
     expected: &[(u32, i64)],
 ) -> bool {
-    if back > 6 || ahead > 6 {
-        return false;
-    }
     match active(alloc, feed, date, back, ahead) {
         Ok(runs) => are_runs(&runs, expected),
         Err(_) => false,
@@ -98,9 +95,16 @@ fn lists(
     }
 }
 
-// Whether the study of a date, the day before it and the day after it is refused for this fault.
-fn is_refused_around(alloc: Global, feed: &Feed, date: Date, expected: DayFault) -> bool {
-    match active(alloc, feed, date, 1, 1) {
+// Whether the study of a date, so many days before it and so many after it is refused for this fault.
+fn is_refused_around(
+    alloc: Global,
+    feed: &Feed,
+    date: Date,
+    back: u32,
+    ahead: u32,
+    expected: DayFault,
+) -> bool {
+    match active(alloc, feed, date, back, ahead) {
         Ok(_) => false,
         Err(fault) => fault == expected,
     }
@@ -109,7 +113,7 @@ fn is_refused_around(alloc: Global, feed: &Feed, date: Date, expected: DayFault)
 // Whether the study on a date is refused for this fault.
 fn is_refused(alloc: Global, feed: &Feed, text: &[u8], expected: DayFault) -> bool {
     match read_date(text) {
-        Some(date) => is_refused_around(alloc, feed, date, expected),
+        Some(date) => is_refused_around(alloc, feed, date, 1, 1, expected),
         None => false,
     }
 }
@@ -175,6 +179,23 @@ fn leap_days_are_days(rt: HostRuntime) {
     assert!(rt; gives(rt.alloc(), Expected::LeapDays, files));
 }
 
+// Whether studies of more days than a week list the runs of those days: from the March before, and from 137 years before.
+fn lists_distant_days(alloc: Global, feed: &Feed) -> bool {
+    let weeks = [
+        (2, 54 * 86_400),
+        (0, 55 * 86_400),
+        (1, 55 * 86_400),
+        (2, 61 * 86_400),
+    ];
+    let years = [
+        (2, 49_999 * 86_400),
+        (0, 50_000 * 86_400),
+        (1, 50_000 * 86_400),
+    ];
+    lists(alloc, feed, b"20260509", 60, 1, &weeks)
+        && lists(alloc, feed, b"20260504", 50_000, 0, &years)
+}
+
 // Whether three studies of different days list the runs of those days.
 fn lists_days_around(alloc: Global, feed: &Feed) -> bool {
     let both = [(2, 0), (0, 86_400), (1, 86_400)];
@@ -189,6 +210,7 @@ fn lists_days_around(alloc: Global, feed: &Feed) -> bool {
     lists(alloc, feed, b"20260504", 1, 1, &both)
         && lists(alloc, feed, b"20260504", 0, 1, &[(0, 0), (1, 0)])
         && lists(alloc, feed, b"20260509", 6, 2, &next)
+        && lists_distant_days(alloc, feed)
 }
 
 #[test]
@@ -228,10 +250,14 @@ fn trips_with_headways_run_as_their_departures(rt: HostRuntime) {
     assert!(rt; gives(rt.alloc(), Expected::Departures, files));
 }
 
-// Whether the study on the first date of the calendar is refused.
+// Whether the study on the first date of the calendar is refused, and one that asks for all days that can be named.
 fn is_refused_first(alloc: Global, feed: &Feed) -> bool {
     match Date::new(-9999, 1, 1) {
-        Ok(first) => is_refused_around(alloc, feed, first, DayFault::DateRange),
+        Ok(first) => {
+            is_refused_around(alloc, feed, first, 1, 1, DayFault::DateRange)
+                && is_refused_around(alloc, feed, first, 0, u32::MAX, DayFault::DateRange)
+                && is_refused_around(alloc, feed, first, u32::MAX, u32::MAX, DayFault::DateRange)
+        }
         Err(_) => false,
     }
 }

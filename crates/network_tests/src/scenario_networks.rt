@@ -23,24 +23,32 @@ fn walks(alloc: Global) -> Result<Vec<Vec<(StopNo, u32)>>, AllocError> {
     Ok(vec![in alloc; from_a, Vec::new(alloc), Vec::new(alloc)]?)
 }
 
-// A footpath of a minute from A to B, none without memory.
+// A footpath of a minute from A to B, and change times of a minute, none without memory.
 fn short_walk(alloc: Global) -> Option<Feet> {
     match walks(alloc) {
-        Ok(lists) => Feet::new(alloc, 3, lists).ok(),
+        Ok(lists) => {
+            let changes = vec![in alloc; 60; 3].ok()?;
+            Feet::new(alloc, 3, lists, changes).ok()
+        }
         Err(_) => None,
     }
 }
 
-// The network of the scenario without edits on the first Monday, with a day before it and one after it; want of memory is
-// told too where the study has no runs.
-fn network_on_monday(alloc: Global, feed: &Feed, feet: &Feet) -> Result<Network, NetFault> {
+// The network of the scenario without edits on the first Monday, with so many days before it and one after it; want of memory
+// is told too where the study has no runs.
+fn network_around_monday(
+    alloc: Global,
+    feed: &Feed,
+    feet: &Feet,
+    back: u32,
+) -> Result<Network, NetFault> {
     if feet.stops() != feed.stop_count() {
         return Err(NetFault::Memory);
     }
     let Some(monday) = read_date(b"20260504") else {
         return Err(NetFault::Memory);
     };
-    match active(alloc, feed, monday, 1, 1) {
+    match active(alloc, feed, monday, back, 1) {
         Ok(runs) => network_of(alloc, feed, &base(alloc), &runs, feet),
         Err(_) => Err(NetFault::Memory),
     }
@@ -75,7 +83,9 @@ fn are_trips(trips: &[Trip], expected: &[ExpectedTrip]) -> bool {
 }
 
 fn is_short_walk(feet: &Feet) -> bool {
-    feet.stops() == 3 && feet.seconds(StopNo(0), StopNo(1)) == Some(60)
+    feet.stops() == 3
+        && feet.seconds(StopNo(0), StopNo(1)) == Some(60)
+        && feet.change(StopNo(2)) == 60
 }
 
 // Whether a network has three stops, the short walk between them, and these trips.
@@ -85,23 +95,23 @@ fn is_network(network: &Network, expected: &[ExpectedTrip]) -> bool {
 
 // Whether the network of a feed on the first Monday has these trips.
 fn runs_trips(alloc: Global, feed: &Feed, feet: &Feet, expected: &[ExpectedTrip]) -> bool {
-    match network_on_monday(alloc, feed, feet) {
+    match network_around_monday(alloc, feed, feet, 1) {
         Ok(network) => is_network(&network, expected),
         Err(_) => false,
     }
 }
 
-// How many trips the network of a feed has on the first Monday, or its fault.
-fn count_trips(alloc: Global, feed: &Feed, feet: &Feet) -> Result<usize, NetFault> {
-    match network_on_monday(alloc, feed, feet) {
+// How many trips the network of a feed has on the first Monday and so many days before it, or its fault.
+fn count_trips(alloc: Global, feed: &Feed, feet: &Feet, back: u32) -> Result<usize, NetFault> {
+    match network_around_monday(alloc, feed, feet, back) {
         Ok(network) => Ok(network.trips().len()),
         Err(fault) => Err(fault),
     }
 }
 
-// Whether the network of a feed on the first Monday is refused as too large.
-fn is_too_large(alloc: Global, feed: &Feed, feet: &Feet) -> bool {
-    match count_trips(alloc, feed, feet) {
+// Whether the network of a feed on the first Monday and so many days before it is refused as too large.
+fn is_too_large(alloc: Global, feed: &Feed, feet: &Feet, back: u32) -> bool {
+    match count_trips(alloc, feed, feet, back) {
         Ok(_) => false,
         Err(fault) => fault == NetFault::TooLarge,
     }
@@ -125,14 +135,14 @@ fn keeps_every_trip(scenario: &Scenario, feed: &Feed) -> bool {
 #[derive(Clone, Copy)]
 enum Expected<'a> {
     Trips(&'a [ExpectedTrip]),
-    TooLarge,
+    TooLarge { back: u32 },
     EveryTripKept,
 }
 
 fn is_network_as_expected(alloc: Global, feed: &Feed, feet: &Feet, expected: Expected<'_>) -> bool {
     match expected {
         Expected::Trips(trips) => runs_trips(alloc, feed, feet, trips),
-        Expected::TooLarge => is_too_large(alloc, feed, feet),
+        Expected::TooLarge { back } => is_too_large(alloc, feed, feet, back),
         Expected::EveryTripKept => keeps_every_trip(&base(alloc), feed),
     }
 }
@@ -198,5 +208,12 @@ fn too_many_events_are_refused(rt: HostRuntime) {
         frequencies: Some(b"trip_id,start_time,end_time,headway_secs\nT1,00:00:00,125:00:00,1\n"),
         ..mondays()
     };
-    assert!(rt; gives(rt.alloc(), files, Expected::TooLarge));
+    assert!(rt; gives(rt.alloc(), files, Expected::TooLarge { back: 1 }));
+}
+
+// 194 days are 16,761,600 seconds: Monday at 08:00:00 is then past 16,777,216, the end of the axis.
+#[test]
+fn days_past_the_axis_are_refused(rt: HostRuntime) {
+    assert!(rt; gives(rt.alloc(), mondays(), Expected::TooLarge { back: 194 }));
+    assert!(rt; gives(rt.alloc(), mondays(), Expected::TooLarge { back: 50_000 }));
 }

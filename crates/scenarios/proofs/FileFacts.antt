@@ -1,5 +1,5 @@
 -- The first fault of a scenario's file, and the trips that its edits shift.
-use Rattle.std.proofs.Common.{◌≡◌, ◌<◌, ◌≤◌, ◌++◌, ℕ, ℤ, false, List, [], ◌∷◌, Option, Some, None, length, map, refl, sym, subst, inl, inr, arith}
+use Rattle.std.proofs.Common.{◌≡◌, ◌∙◌, ◌<◌, ◌+◌, ◌++◌, ℕ, suc, ℤ, false, List, [], ◌∷◌, Option, Some, None, length, map, refl, sym, ap, subst, inl, inr, arith, append_assoc}
 use Rattle.std.specs.Prelude.{All, option_and_then, option_map, slice_get}
 use Rattle.std.proofs.lemmas.List.{length-map}
 use Rattle.std.proofs.lemmas.List.Elements.{All-cons, All-nil}
@@ -7,12 +7,11 @@ use Rattle.std.proofs.lemmas.List.Quantifiers.{position-Some}
 use Rattle.std.proofs.lemmas.Option.{same_Some}
 use Rattle.std.specs.List.{cons_option}
 use Rattle.std.specs.Str.{bytes_eq}
-use Rattle.table_records.proofs.ReadingFacts.{few_records}
 use Rattle.table_records.specs.Reading.{lacks_column}
 use Rattle.table_records.specs.Table.{records_of}
 use Rattle.gtfs_tables.specs.Feed.{FeedData}
 use Rattle.gtfs_tables.specs.declared.trip.FeedTrip.{FeedTrip}
-use Rattle.scenarios.specs.EditRows.{EditRow, edit_by, edit_of, route_no, row_at, seconds_of, trip_no}
+use Rattle.scenarios.specs.EditRows.{EditRow, edit_by, edit_of, route_no, row_at, row_faults, seconds_of, trip_no}
 use Rattle.scenarios.specs.Faults.{Tells}
 use Rattle.scenarios.specs.Files.{edits_of, faults_from, required, rows_in, scenario_faults}
 use Rattle.scenarios.specs.ShiftedTimes.{NamesTrip, range_faults}
@@ -22,6 +21,7 @@ use Rattle.scenarios.specs.declared.edit_rows.EditColumns.{EditColumns}
 use Rattle.scenarios.specs.declared.edits.Edit.{Edit}
 use Rattle.scenarios.specs.declared.edits.Edit.TheVariants as edit
 use Rattle.scenarios.specs.declared.faults.ScenarioFault.{ScenarioFault}
+use Rattle.scenarios.specs.declared.faults.ScenarioWhat.{ScenarioWhat}
 
 first_append : {X : Type 0} (xs ys : List X) (x : X) → slice_get xs 0 ≡ Some x → slice_get (xs ++ ys) 0 ≡ Some x
 first_append [] ys x h = cc h
@@ -72,7 +72,41 @@ all_named feed (r ∷ rows) = by (edit_of feed r) (λ e h. named_by feed r e _ h
     by None h rest = rest
     by (Some e) h rest = All-cons (NamesTrip feed) e (edits_of feed rows) (h e refl) rest
 
--- a file has few records, its header among them
-pub few_in_all : (bytes : List ℕ) (rows : List (List (List ℕ))) → rows ≡ records_of bytes → length bytes ≤ 1073741824 → length rows ≤ 1073741825
-few_in_all bytes [] e h = omega arith
-few_in_all bytes (header ∷ rest) e h = let few = few_records bytes header rest (sym e) h in omega (arith, few)
+from_append : (feed : FeedData) (at : ℕ) (xs ys : List EditRow) → faults_from feed at (xs ++ ys) ≡ faults_from feed at xs ++ faults_from feed (length xs + at) ys
+from_append feed at [] ys = let zero : at ≡ 0 + at = omega arith in ap (λ n. faults_from feed n ys) zero
+from_append feed at (x ∷ xs) ys =
+    let here = map (λ w. record { at = at; what = w }) (row_faults feed at x) in
+    let later : length xs + (at + 1) ≡ suc (length xs) + at = omega arith in
+    ap (λ (l : List ScenarioFault). here ++ l)
+    (from_append feed (at + 1) xs ys ∙ ap (λ n. faults_from feed (at + 1) xs ++ faults_from feed n ys) later)
+    ∙ sym (append_assoc here (faults_from feed (at + 1) xs) (faults_from feed (suc (length xs) + at) ys))
+
+cons_append : {X : Type 0} (o : Option X) (xs ys : List X) → cons_option o (xs ++ ys) ≡ cons_option o xs ++ ys
+cons_append None xs ys = refl
+cons_append (Some x) xs ys = refl
+
+-- the edit of one record more
+pub edits_more : (feed : FeedData) (xs : List EditRow) (r : EditRow) (e : Edit) → edit_of feed r ≡ Some e → edits_of feed (xs ++ r ∷ []) ≡ edits_of feed xs ++ e ∷ []
+edits_more feed [] r e h = ap (λ (o : Option Edit). cons_option o []) h
+edits_more feed (x ∷ xs) r e h =
+    ap (λ (l : List Edit). cons_option (edit_of feed x) l) (edits_more feed xs r e h) ∙ cons_append (edit_of feed x) (edits_of feed xs) (e ∷ [])
+
+-- one record more has no fault
+pub record_passes : (feed : FeedData) (xs : List EditRow) (r : EditRow) (at : ℕ) → at ≡ length xs + 2 → faults_from feed 2 xs ≡ [] → row_faults feed at r ≡ [] → faults_from feed 2 (xs ++ r ∷ []) ≡ []
+record_passes feed xs r at is none h =
+    let here : row_faults feed (length xs + 2) r ≡ [] = subst (λ n. row_faults feed n r ≡ []) is h in
+    from_append feed 2 xs (r ∷ []) ∙ rw (none, here) refl
+
+first_map : {X Y : Type 0} (f : X → Y) (xs : List X) (x : X) → slice_get xs 0 ≡ Some x → slice_get (map f xs) 0 ≡ Some (f x)
+first_map f [] x h = cc h
+first_map f (y ∷ ys) x h = ap (λ z. Some (f z)) (same_Some y x h)
+
+-- the first fault of a record is that of all records, where those before it have none
+pub record_refused : (feed : FeedData) (xs ys : List EditRow) (r : EditRow) (at : ℕ) (w : ScenarioWhat) → at ≡ length xs + 2 → faults_from feed 2 xs ≡ [] → slice_get (row_faults feed at r) 0 ≡ Some w
+    → Tells (record { at = at; what = w }) (faults_from feed 2 (xs ++ r ∷ ys))
+record_refused feed xs ys r at w is none h =
+    let n = length xs + 2 in
+    let here : slice_get (row_faults feed n r) 0 ≡ Some w = subst (λ m. slice_get (row_faults feed m r) 0 ≡ Some w) is h in
+    let first = first_append (map (λ w. record { at = n; what = w }) (row_faults feed n r)) (faults_from feed (n + 1) ys) (record { at = n; what = w }) (first_map (λ (w : ScenarioWhat). record { at = n; what = w }) (row_faults feed n r) w here) in
+    let all : faults_from feed 2 (xs ++ r ∷ ys) ≡ faults_from feed n (r ∷ ys) = from_append feed 2 xs (r ∷ ys) ∙ ap (λ (l : List ScenarioFault). l ++ faults_from feed n (r ∷ ys)) none in
+    inr (rw is (ap (λ (l : List ScenarioFault). slice_get l 0) all ∙ first))

@@ -9,7 +9,7 @@ use Rattle.std.proofs.lemmas.List.Elements.{All-append, All-cons, All-head, All-
 use Rattle.std.proofs.lemmas.Option.{same_Some, slice_get-get_or, slice_get-map, slice_get_within, get_or_from_slice_get}
 use Rattle.timetable.specs.Trips.{EventsRise}
 use Rattle.timetable.specs.Faults.{IsNetFault}
-use Rattle.timetable.specs.Footpaths.{FootLists}
+use Rattle.timetable.specs.Footpaths.{FeetData}
 use Rattle.timetable.specs.Networks.{Net, NetInRange, NetWithin}
 use Rattle.timetable.specs.declared.faults.NetFault.{NetFault}
 use Rattle.timetable.specs.declared.faults.NetFault.TheVariants.{Memory, StopRange, TimesGoBack, TooLarge}
@@ -150,8 +150,8 @@ only_memory TooLarge n range rise within h = absurd (h.2 within)
 only_memory Memory n range rise within h = refl
 
 -- runs that fit make a network, so that want of memory alone is left
-pub memory_is_left : (feed : FeedData) → IsFeed feed → (scenario : ScenarioData) (runs : List Run) (feet : FootLists) (stops : ℕ) (trips : List Trip)
-    → stops ≡ length feed.stops → length feet ≡ length feed.stops → fits feed scenario runs ≡ true → trips ≡ trips_of feed scenario runs
+pub memory_is_left : (feed : FeedData) → IsFeed feed → (scenario : ScenarioData) (runs : List Run) (feet : FeetData) (stops : ℕ) (trips : List Trip)
+    → stops ≡ length feed.stops → length feet.walks ≡ length feed.stops → fits feed scenario runs ≡ true → trips ≡ trips_of feed scenario runs
     → (e : NetFault) → IsNetFault e (record { stops = stops; trips = trips; feet = feet }) → e ≡ Memory
 memory_is_left feed is scenario runs feet stops trips same lists fit made e h =
     let f = both (are_few (trips_of feed scenario runs)) (are_on_axis feed scenario runs) fit in

@@ -6,7 +6,7 @@ use Rattle.scenarios.specs.Networks.{is_event_on_axis, is_on_axis, moved_event, 
 
 -- seconds that can be added to a time in 64 bits
 abbrev pub IsSum : ℤ → Type 0
-IsSum seconds = (neg_ℤ (pos 100000000000) ≤ℤ seconds) × (seconds ≤ℤ pos 100000000000)
+IsSum seconds = (neg_ℤ (pos 1000000000000) ≤ℤ seconds) × (seconds ≤ℤ pos 1000000000000)
 
 -- events, or those of a departure of a frequency row
 abbrev pub arriving : Bool → List Event → List Event

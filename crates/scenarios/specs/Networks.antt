@@ -7,7 +7,7 @@ use Rattle.timetable.specs.declared.faults.NetFault.{NetFault}
 use Rattle.timetable.specs.declared.faults.NetFault.TheVariants.{TooLarge}
 use Rattle.timetable.specs.declared.trips.Event.{Event}
 use Rattle.timetable.specs.declared.trips.Trip.{Trip}
-use Rattle.timetable.specs.Footpaths.{FootLists}
+use Rattle.timetable.specs.Footpaths.{FeetData}
 use Rattle.timetable.specs.Networks.{Net}
 use Rattle.gtfs_tables.specs.declared.trip.FeedTrip.{FeedTrip}
 use Rattle.gtfs_tables.specs.Feed.{FeedData}
@@ -64,7 +64,7 @@ abbrev pub are_few : List Trip → Bool
 are_few trips = nat_le (length trips) MOST_TRIPS && nat_le (sum_by (λ t. length t.events) trips) MOST_EVENTS
 
 -- the network of a scenario
-abbrev pub net_of : FeedData → ScenarioData → List Run → FootLists → Net
+abbrev pub net_of : FeedData → ScenarioData → List Run → FeetData → Net
 net_of feed scenario runs feet = record { stops = length feed.stops; trips = trips_of feed scenario runs; feet = feet }
 
 -- the runs make a network: it is not too large

@@ -1,20 +1,20 @@
 //! The files of scenarios.
-ghost use Rattle.std.specs.Prelude.{◌≡◌, ◌≤◌, ◌⊎◌, ◌+◌, ◌∷◌, [], if◌then◌else◌, IfErr, IfOk, OnOk, false, length, map, true};
+ghost use Rattle.std.specs.Prelude.{◌≡◌, ◌≤◌, ◌⊎◌, ◌∷◌, [], IfErr, IfOk, OnOk, false, length, true};
 ghost use Rattle.csv.specs.Records.{fields_of};
-ghost use Rattle.table_records.specs.Reading.{lacks_column, table_rows};
-ghost use Rattle.scenarios.specs.EditRows.{row_at, row_of};
+ghost use Rattle.table_records.specs.Reading.{lacks_column};
+ghost use Rattle.table_records.specs.Table.{records_of};
 ghost use Rattle.scenarios.specs.declared.faults.ScenarioWhat.TheVariants.{Memory};
 ghost use Rattle.scenarios.specs.Faults.{Tells};
-ghost use Rattle.scenarios.specs.Files.{edits_of, faults_from, faults_of, missing_column, required, scenario_faults, scenario_in};
+ghost use Rattle.scenarios.specs.Files.{edits_of, missing_column, required, rows_in, scenario_faults, scenario_in};
 
 use crate::edit_rows::{EditColumns, columns_in, edit_in};
-use crate::faults::{ScenarioFault, ScenarioWhat};
+use crate::faults::ScenarioFault;
 use crate::scenario::Scenario;
 use crate::shifted_times::check_times;
 use csv::ByteRecord;
 use gtfs_tables::Feed;
-use std::alloc::Global;
-use table_records::Rows;
+use std::alloc::{AllocError, Global};
+use table_records::{HeaderFault, OpenTable, RecordTaker, open_records, take_records};
 
 /// The scenario of a name whose edits the bytes of a file say: the columns `action`, `id` and `seconds`, of which the first two
 /// are required, and a record for each edit. The actions are `remove_route`, `remove_trip` and `shift_trip`.
@@ -34,69 +34,89 @@ pub fn read_scenario(
     ensures fault { IfErr result (λ e. Tells e (scenario_faults bytes.now feed.now)) }
 {
     let mut scenario = Scenario::named(alloc, Vec::from_slice(alloc, name)?);
-    let mut rows = Rows::new(alloc, bytes);
-    let read = read_rows(alloc, feed, &mut rows, &mut scenario);
-    drop(rows);
+    let read = read_edits(alloc, bytes, feed, &mut scenario);
     read.and(Ok(scenario))
 }
 
-/// Adds the edits of a file of which nothing is read yet, and checks the times that they shift.
-fn read_rows(
+/// Adds the edits that the bytes of a file say, and checks the times that they shift.
+fn read_edits(
     alloc: Global,
+    bytes: &[u8],
     feed: &Feed,
-    rows: &mut Rows<'_>,
     scenario: &mut Scenario,
 ) -> Result<(), ScenarioFault>
-    requires few { length rows.old ≤ 1073741825 }
+    requires few { length bytes.now ≤ 1073741824 }
     requires first { scenario.old.edits ≡ [] }
-    ensures good { OnOk result ((lacks_column required rows.old ≡ false) × (faults_of feed.now (table_rows row_of rows.old) ≡ [])
-        × (scenario.new ≡ record scenario.old { edits = edits_of feed.now (table_rows row_of rows.old) })) }
-    ensures fault { IfErr result (λ e. Tells e (if lacks_column required rows.old then missing_column ∷ [] else faults_of feed.now (table_rows row_of rows.old))) }
+    ensures good { OnOk result ((scenario_faults bytes.now feed.now ≡ [])
+        × (scenario.new ≡ record scenario.old { edits = edits_of feed.now (rows_in bytes.now) })) }
+    ensures fault { IfErr result (λ e. Tells e (scenario_faults bytes.now feed.now)) }
 {
-    let columns = read_header(alloc, rows)?;
-    read_edits(alloc, feed, columns, rows, scenario)?;
+    let mut file = open_file(alloc, bytes)?;
+    let taker = EditTaker {
+        columns: columns_in(&file.header),
+        feed,
+    };
+    let read = take_records(alloc, &taker, scenario, &mut file.rows);
+    drop(file);
+    read?;
     check_times(alloc, feed, scenario)
 }
 
-/// Reads the header, which must name each required column.
-fn read_header(alloc: Global, rows: &mut Rows<'_>) -> Result<EditColumns, ScenarioFault>
-    ensures columns { IfOk result (λ _. lacks_column required rows.old ≡ false) }
-    ensures rows { IfOk result (λ columns. table_rows row_of rows.old ≡ map (row_at columns) rows.new) }
-    ensures count { IfOk result (λ _. length rows.old ≡ length rows.new + 1) }
-    ensures fault { IfErr result (λ e. (e.what ≡ Memory) ⊎ ((lacks_column required rows.old ≡ true) × (e ≡ missing_column))) }
+/// Reads the header of a file, which must name each required column.
+fn open_file<'a>(alloc: Global, bytes: &'a [u8]) -> Result<OpenTable<'a>, ScenarioFault>
+    requires { length bytes.now ≤ 1073741824 }
+    ensures columns { IfOk result (λ _. lacks_column required (records_of bytes.now) ≡ false) }
+    ensures records { IfOk result (λ t. records_of bytes.now ≡ fields_of t.header ∷ t.rows) }
+    ensures few { IfOk result (λ t. length t.rows ≤ 1073741824) }
+    ensures fault { IfErr result (λ e. (e.what ≡ Memory)
+        ⊎ ((lacks_column required (records_of bytes.now) ≡ true) × (e ≡ missing_column))) }
 {
-    let mut header = ByteRecord::new(alloc);
-    let found = rows.next(&mut header);
-    let columns = columns_in(&header);
-    drop(header);
-    if !found? || columns.action.is_none() || columns.id.is_none() {
-        return Err(ScenarioFault::missing_column());
+    match open_records(alloc, bytes, &[b"action", b"id"]) {
+        Ok(file) => Ok(file),
+        Err(HeaderFault::MissingColumn) => Err(ScenarioFault::missing_column()),
+        Err(HeaderFault::Memory) => Err(ScenarioFault::from(AllocError)),
     }
-    Ok(columns)
 }
 
-/// Adds the edits of all records that are left, in order, up to the first fault.
-fn read_edits(
-    alloc: Global,
-    feed: &Feed,
+/// Adds the edit of each record to a scenario.
+#[derive(Clone, Copy)]
+struct EditTaker<'a> {
     columns: EditColumns,
-    rows: &mut Rows<'_>,
-    scenario: &mut Scenario,
-) -> Result<(), ScenarioFault>
-    requires few { length rows.old ≤ 1073741824 }
-    requires first { scenario.old.edits ≡ [] }
-    ensures good { OnOk result ((faults_from feed.now 2 (map (row_at columns) rows.old) ≡ [])
-        × (scenario.new ≡ record scenario.old { edits = edits_of feed.now (map (row_at columns) rows.old) })) }
-    ensures fault { IfErr result (λ e. Tells e (faults_from feed.now 2 (map (row_at columns) rows.old))) }
-{
-    let mut row = ByteRecord::new(alloc);
-    let mut at: u64 = 2;
-    while rows.next(&mut row)? {
-        match edit_in(feed, columns, at, &row) {
-            Ok(edit) => scenario.add(edit)?,
-            Err(what) => return Err(ScenarioFault { at, what }),
+    feed: &'a Feed,
+}
+
+impl<'a> RecordTaker for EditTaker<'a> {
+    ghost use Rattle.std.specs.Prelude.{◌≡◌, ◌+◌, [], length, map};
+    ghost use Rattle.scenarios.specs.EditRows.{row_at};
+    ghost use Rattle.scenarios.specs.Faults.{Tells};
+    ghost use Rattle.scenarios.specs.Files.{edits_of, faults_from};
+
+    type Table = Scenario;
+
+    type Fault = ScenarioFault;
+
+    ghost Makes = { λ s start records now. (faults_from s.feed.now 2 (map (row_at s.columns) records) ≡ [])
+        × (now ≡ record start { edits = edits_of s.feed.now (map (row_at s.columns) records) }) };
+
+    ghost Refuses = { λ s _ records e. Tells e (faults_from s.feed.now 2 (map (row_at s.columns) records)) };
+
+    // a record adds one edit
+    ghost HasRoom = { λ _ scenario at. at ≡ length scenario.edits + 2 };
+
+    fn take(
+        &self,
+        _alloc: Global,
+        scenario: &mut Scenario,
+        at: u64,
+        row: &ByteRecord,
+    ) -> Result<(), ScenarioFault> {
+        match edit_in(self.feed, self.columns, at, row) {
+            Ok(edit) => Ok(scenario.add(edit)?),
+            Err(what) => Err(ScenarioFault { at, what }),
         }
-        at += 1;
     }
-    Ok(())
+
+    fn memory(&self) -> ScenarioFault {
+        ScenarioFault::from(AllocError)
+    }
 }

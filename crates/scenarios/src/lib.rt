@@ -2,8 +2,12 @@
 //!
 //! - `scenario`: [`Scenario`] and [`base`], the scenario without edits.
 //! - `files`: [`read_scenario`], the scenario that a file says, or its first [`ScenarioFault`].
+//!   Its records are read by `edit_rows`; `shifted_times` looks for times that are shifted out of range.
 //! - `networks`: [`network_of`], the network of the runs that a scenario keeps.
-//! - `edits`: how many rows a scenario may have, and how far they may shift times.
+//! - `moving`: the events of a trip, moved.
+//! - `edits`: how many records a scenario may have, and how far they may shift times; `trip_list` and `places` keep them by trip and
+//!   by route, and `name` the scenario's name.
+//! - `faults`: why a scenario file is refused.
 //!
 //! `specs/Edits` says what the rows of a scenario do to a trip, `specs/Networks` which network they make of runs, and
 //! `specs/Files` which edits a file says, with all its faults.
@@ -16,7 +20,7 @@ mod files;
 mod moving;
 mod name;
 mod networks;
-mod places;
+mod numbered;
 mod scenario;
 mod shifted_times;
 mod trip_list;

@@ -49,8 +49,8 @@ fn moved_events(
         Ok(made) => made,
         Err(_) => return Err(NetFault::Memory),
     };
-    for (place, event) in events.iter().enumerate() {
-        let Some(moved) = moved_event(event, departs && place == 0, seconds) else {
+    for (position, event) in events.iter().enumerate() {
+        let Some(moved) = moved_event(event, departs && position == 0, seconds) else {
             return Err(NetFault::TooLarge);
         };
         if made.push(moved).is_err() {

@@ -1,7 +1,8 @@
 //! The network of a scenario.
-ghost use Rattle.std.specs.Prelude.{◌≡◌, ◌≤ℤ◌, ◌⊎◌, ◌++◌, ◌&&◌, [], All, IfErr, IfOk, OnOk, false, length, neg_ℤ, pos, slice_get, true};
+ghost use Rattle.std.specs.Prelude.{◌≡◌, ◌+◌, ◌≤ℤ◌, ◌⊎◌, ◌++◌, ◌&&◌, [], All, IfErr, IfOk, OnOk, false, length, neg_ℤ, pos, slice_get, true};
 ghost use Rattle.table_records.specs.Faults.{IsFirst};
 ghost use Rattle.timetable.specs.declared.faults.NetFault.TheVariants as net_fault;
+ghost use Rattle.service_days.specs.declared.day.TheConstants.{LAST_START};
 ghost use Rattle.service_days.specs.Instances.{IsRun};
 ghost use Rattle.scenarios.specs.Moving.{IsSum};
 ghost use Rattle.scenarios.specs.Networks.{are_few, fits, kept_trip, net_faults, net_of, stays, sum_of, trips_of};
@@ -17,8 +18,9 @@ use timetable::{Feet, NetFault, Network, Trip};
 /// The network of the runs that a scenario keeps, in their order, with the footpaths: each time of a run's trip is moved
 /// by what the run and the scenario add to it. A departure of a frequency row first arrives when it first departs.
 ///
-/// The runs and the footpaths are of the feed. `TooLarge` where a time is then past the axis, 16,777,216 seconds, or where
-/// the network has more than 1,000,000 trips or 8,000,000 events, before they are made; `Memory` where a growth was refused.
+/// The runs and the footpaths are of the feed; the runs may be those of any number of days. `TooLarge` where a time is then past
+/// the axis, 16,777,216 seconds, or where the network has more than 1,000,000 trips or 8,000,000 events, before they are made;
+/// `Memory` where a growth was refused.
 pub fn network_of(
     alloc: Global,
     feed: &Feed,
@@ -27,7 +29,7 @@ pub fn network_of(
     feet: &Feet,
 ) -> Result<Network, NetFault>
     requires runs { All (IsRun feed.now) runs.now }
-    requires feet { length feet.now ≡ length feed.now.stops }
+    requires feet { length feet.now.walks ≡ length feed.now.stops }
     ensures good { IfOk result (λ network. (net_faults feed.now scenario.now runs.now ≡ [])
         × (network ≡ net_of feed.now scenario.now runs.now feet.now)) }
     ensures stops { IfOk result (λ network. network.stops ≡ length feed.now.stops) }
@@ -88,7 +90,7 @@ fn add_run(
 /// What is added to the times of a run's trip.
 fn seconds_of(scenario: &Scenario, run: Run) -> i64
     requires low { neg_ℤ (pos 604799) ≤ℤ run.shift }
-    requires high { run.shift ≤ℤ pos 1641599 }
+    requires high { run.shift ≤ℤ pos (LAST_START + 604799) }
     ensures value { result ≡ sum_of scenario.now run }
     ensures sum { IsSum result }
 {

@@ -4,7 +4,7 @@ ghost use Rattle.std.specs.Option.{option_map};
 
 use crate::edits::Edit;
 use crate::name::Name;
-use crate::places::{add_shift, flag_at, make_place, shift_at};
+use crate::numbered::{add_shift, flag_at, make_room, shift_at};
 use gtfs_tables::Feed;
 use std::alloc::{AllocError, Global};
 use std::marker::Model;
@@ -105,7 +105,7 @@ impl Scenario {
         ensures good { OnOk result (self.new ≡ record self.old { edits = self.old.edits ++ edits.RemoveRoute route ∷ [] }) }
         ensures err { OnErr result (self.new ≡ self.old) }
     {
-        make_place(&mut self.removed_routes, route, false)?;
+        make_room(&mut self.removed_routes, route, false)?;
         self.edits.push(Edit::RemoveRoute(route))?;
         self.removed_routes[route as usize] = true;
         Ok(())
@@ -117,7 +117,7 @@ impl Scenario {
         ensures good { OnOk result (self.new ≡ record self.old { edits = self.old.edits ++ edits.RemoveTrip trip ∷ [] }) }
         ensures err { OnErr result (self.new ≡ self.old) }
     {
-        make_place(&mut self.removed_trips, trip, false)?;
+        make_room(&mut self.removed_trips, trip, false)?;
         self.edits.push(Edit::RemoveTrip(trip))?;
         self.removed_trips[trip as usize] = true;
         Ok(())
@@ -131,7 +131,7 @@ impl Scenario {
         ensures good { OnOk result (self.new ≡ record self.old { edits = self.old.edits ++ edits.Shift trip seconds ∷ [] }) }
         ensures err { OnErr result (self.new ≡ self.old) }
     {
-        make_place(&mut self.shifts, trip, 0)?;
+        make_room(&mut self.shifts, trip, 0)?;
         self.edits.push(Edit::Shift(trip, seconds))?;
         add_shift(&mut self.shifts, trip, seconds);
         Ok(())

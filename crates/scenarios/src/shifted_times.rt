@@ -12,7 +12,7 @@ ghost use Rattle.scenarios.specs.ShiftedTimes.{NamesTrip, TellsRecord, is_trip_i
 
 use crate::edits::{END_OF_TIMES, Edit};
 use crate::faults::{ScenarioFault, ScenarioWhat};
-use crate::places::{flag_at, raise_flag};
+use crate::numbered::{flag_at, raise_flag};
 use crate::scenario::Scenario;
 use gtfs_tables::{Departures, Feed, FeedTrip};
 use std::alloc::{AllocError, Global};

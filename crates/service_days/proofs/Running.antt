@@ -14,6 +14,7 @@ use Rattle.gtfs_tables.specs.declared.trip.FeedTrip.{FeedTrip}
 use Rattle.gtfs_tables.specs.Feed.{FeedData, IsDeparting, IsFeed}
 use Rattle.service_days.specs.Services.{runs_on}
 use Rattle.service_days.specs.Instances.{IsRun, arriving_at_departure, departing, departures_of, first_departure, has_rows, runs_if, runs_of_day, runs_of_days, runs_of_row, runs_of_trip}
+use Rattle.service_days.specs.declared.day.TheConstants.{LAST_DAY, LAST_START}
 use Rattle.service_days.proofs.Listing.{all_at}
 
 all_parts : {A B : Type 0} (P : B → Type 0) (f : A → List B) (xs : List A) → All (λ x. All P (f x)) xs → All P (flat_map f xs)
@@ -57,7 +58,7 @@ times_later (first ∷ events) rise =
     let later = departs_later all rise k first f refl before in
     (omega arith, omega arith))
 
-module _ (feed : FeedData) (is : IsFeed feed) (base : ℕ) (low : base ≤ 1036800) (n : ℕ) (t : FeedTrip) (at : slice_get feed.trips n ≡ Some t) (has : 0 < length t.events) where
+module _ (feed : FeedData) (is : IsFeed feed) (base : ℕ) (low : base ≤ LAST_START) (n : ℕ) (t : FeedTrip) (at : slice_get feed.trips n ≡ Some t) (has : 0 < length t.events) where
   -- the trip at its own times
   once : has_rows t ≡ false → IsRun feed (record { trip = n; shift = pos base })
   once b = record {
@@ -101,7 +102,7 @@ module _ (feed : FeedData) (is : IsFeed feed) (base : ℕ) (low : base ≤ 10368
       (λ time h. let l : time < row.end = grind (arith, nat_tests) in departed b time (omega (arith, departs.end)))
       (departures_of row) (all_kept p (map (λ x. row.start + x * row.headway) (range_with_len 0 row.end))))
 
-trip_runs : (feed : FeedData) → IsFeed feed → (base : ℕ) → base ≤ 1036800 → (n : ℕ) (t : FeedTrip) → slice_get feed.trips n ≡ Some t → All (IsRun feed) (runs_of_trip base n t)
+trip_runs : (feed : FeedData) → IsFeed feed → (base : ℕ) → base ≤ LAST_START → (n : ℕ) (t : FeedTrip) → slice_get feed.trips n ≡ Some t → All (IsRun feed) (runs_of_trip base n t)
 trip_runs feed is base low n t at = by_events (length t.events == 0) refl
   where
     by_rows : (b : Bool) → has_rows t ≡ b → 0 < length t.events
@@ -117,7 +118,7 @@ trip_runs feed is base low n t at = by_events (length t.events == 0) refl
     by_events true e = All-nil (IsRun feed)
     by_events false e = by_rows (has_rows t) refl (grind (arith, nat_tests))
 
-day_runs : (feed : FeedData) → IsFeed feed → (day base : ℕ) → base ≤ 1036800 → All (IsRun feed) (runs_of_day feed day base)
+day_runs : (feed : FeedData) → IsFeed feed → (day base : ℕ) → base ≤ LAST_START → All (IsRun feed) (runs_of_day feed day base)
 day_runs feed is day base low =
     all_parts (IsRun feed) (λ (at : ℕ × FeedTrip). runs_if feed day base at.0 at.1) (enumerate_from 0 feed.trips)
     (All-weaker (λ (at : ℕ × FeedTrip). slice_get feed.trips at.0 ≡ Some at.1) (λ (at : ℕ × FeedTrip). All (IsRun feed) (runs_if feed day base at.0 at.1))
@@ -134,7 +135,7 @@ day_runs feed is day base low =
         subst (λ (at : ℕ × FeedTrip). slice_get feed.trips at.0 ≡ Some at.1) (sym (get_or-enumerate_from 0 feed.trips k d within))
         (let zero : 0 + k ≡ k = omega arith in ap (slice_get feed.trips) zero ∙ slice_get-get_or feed.trips k d.1 within)
 
-pub all_runs : (feed : FeedData) → IsFeed feed → (first days : ℕ) → days ≤ 13 → All (IsRun feed) (runs_of_days feed first days)
+pub all_runs : (feed : FeedData) → IsFeed feed → (first days : ℕ) → days ≤ LAST_DAY + 1 → All (IsRun feed) (runs_of_days feed first days)
 all_runs feed is first days few =
     all_parts (IsRun feed) (λ x. runs_of_day feed (first + x) (86400 * x)) (range_with_len 0 days)
     (λ k d lt.

@@ -11,7 +11,7 @@ use Rattle.service_days.specs.declared.fault.DayFault.{DayFault}
 use Rattle.service_days.specs.declared.fault.DayFault.TheVariants.{DateRange, TooMany, Memory}
 use Rattle.service_days.specs.declared.run.Run.{Run}
 use Rattle.service_days.specs.declared.run_list.TheConstants.{MOST_RUNS}
-use Rattle.service_days.specs.declared.day.TheConstants.{LAST_DAY}
+use Rattle.service_days.specs.declared.day.TheConstants.{LAST_DAY, LAST_START}
 use Rattle.service_days.specs.Services.{runs_on}
 
 -- a trip runs as the departures of frequency rows
@@ -83,12 +83,12 @@ IsListFault DateRange n = ⊥
 IsListFault TooMany n = MOST_RUNS < n
 IsListFault Memory n = Unit {0}
 
--- a run names a trip that has events, and moves its times by less than a week back and by less than 19 days ahead, none
--- of them to before the axis
+-- a run names a trip that has events, and moves its times by less than a week back and by no more than a week and all days of the
+-- calendar ahead, none of them to before the axis
 pub record IsRun (feed : FeedData) (run : Run) : Type 0 where
   pub trip : FeedTrip
   pub at : slice_get feed.trips run.trip ≡ Some trip
   pub has_events : 0 < length trip.events
   pub low : neg_ℤ (pos 604799) ≤ℤ run.shift
-  pub high : run.shift ≤ℤ pos 1641599
+  pub high : run.shift ≤ℤ pos (LAST_START + 604799)
   pub times : All (λ e. (pos 0 ≤ℤ (pos e.arrive +ℤ run.shift)) × (pos 0 ≤ℤ (pos e.depart +ℤ run.shift))) (instance_events trip)

@@ -1,3 +1,4 @@
 pub mod Day
 pub mod Services
 pub mod Instances
+pub mod FaultWords

@@ -3,6 +3,7 @@
 ghost use Rattle.std.specs.Prelude.{◌≡◌, ◌≤◌, ◌<◌, ◌+◌, ◌*◌, ◌++◌, ◌-ℤ◌, All, ℕ, IfErr, OnOk, length, map, pos};
 ghost use Rattle.std.specs.List.{flat_map, range_with_len};
 ghost use Rattle.gtfs_tables.specs.Feed.{IsDeparting};
+ghost use Rattle.service_days.specs.declared.day.TheConstants.{LAST_START};
 ghost use Rattle.service_days.specs.Instances.{IsListFault, departures_of, runs_of_row, runs_of_trip};
 
 use crate::fault::DayFault;
@@ -13,11 +14,11 @@ use gtfs_tables::{Departures, FeedTrip};
 /// Adds the runs of a trip on the day that begins at `base` seconds on the axis: none where it has no events.
 pub(crate) fn add_trip(
     runs: &mut RunList,
-    base: u32,
+    base: u64,
     number: u32,
     trip: &FeedTrip,
 ) -> Result<(), DayFault>
-    requires base { base ≤ 1036800 }
+    requires base { base ≤ LAST_START }
     requires events { All (λ e. (e.arrive ≤ 604799) × (e.depart ≤ 604799)) trip.now.events }
     requires rows { All IsDeparting trip.now.departures }
     ensures good { OnOk result (runs.new ≡ runs.old ++ runs_of_trip base number trip.now) }
@@ -40,12 +41,12 @@ pub(crate) fn add_trip(
 /// Adds the departures of all frequency rows of a trip, row by row.
 fn add_rows(
     runs: &mut RunList,
-    base: u32,
+    base: u64,
     trip: u32,
     first: u32,
     rows: &[Departures],
 ) -> Result<(), DayFault>
-    requires base { base ≤ 1036800 }
+    requires base { base ≤ LAST_START }
     requires first { first ≤ 604799 }
     requires rows { All IsDeparting rows.now }
     ensures good { OnOk result (runs.new ≡ runs.old ++ flat_map (runs_of_row base trip first) rows.now) }
@@ -60,12 +61,12 @@ fn add_rows(
 /// Adds the departures of a frequency row of a trip whose own first departure is `first`.
 fn add_row(
     runs: &mut RunList,
-    base: u32,
+    base: u64,
     trip: u32,
     first: u32,
     row: &Departures,
 ) -> Result<(), DayFault>
-    requires base { base ≤ 1036800 }
+    requires base { base ≤ LAST_START }
     requires first { first ≤ 604799 }
     requires row { IsDeparting row.now }
     ensures good { OnOk result (runs.new ≡ runs.old ++ runs_of_row base trip first row.now) }
@@ -79,7 +80,7 @@ fn add_row(
         let time = row.start + x * row.headway;
         runs.push(Run {
             trip,
-            shift: difference(base + time, first),
+            shift: difference(base + time as u64, first),
         })?;
     }
     Ok(())
@@ -98,7 +99,8 @@ fn departure_count(row: &Departures) -> u32
 }
 
 /// How much later one time is than another.
-fn difference(time: u32, other: u32) -> i64
+fn difference(time: u64, other: u32) -> i64
+    requires { time ≤ LAST_START + 604799 }
     ensures { result ≡ pos time -ℤ pos other }
 {
     time as i64 - other as i64

@@ -5,16 +5,30 @@ use thiserror::Error;
 
 /// Why the runs of a study aren't listed: of the first two the first that is true is answered.
 #[derive(Clone, Copy, Debug, PartialEq, Eq, Error)]
+#[error("{}", self.words())]
 pub enum DayFault {
     /// A day of the study lies outside the calendar's years, -9999 to 9999.
-    #[error("date out of range")]
     DateRange,
     /// There are more than 1,000,000 runs.
-    #[error("too many runs")]
     TooMany,
     /// A growth of memory was refused.
-    #[error("out of memory")]
     Memory,
+}
+
+impl DayFault {
+    ghost use Rattle.std.specs.Prelude.{◌≡◌};
+    ghost use Rattle.service_days.specs.FaultWords.{words_of};
+
+    /// What is wrong, in words.
+    pub fn words(&self) -> &'static str
+        ensures { result.now ≡ words_of self.now }
+    {
+        match self {
+            DayFault::DateRange => "date out of range",
+            DayFault::TooMany => "too many runs",
+            DayFault::Memory => "out of memory",
+        }
+    }
 }
 
 impl From<AllocError> for DayFault {

@@ -2,7 +2,7 @@
 ghost use Rattle.std.specs.Prelude.{◌≡◌, ◌⊎◌, ◌≤◌, ◌<◌, ◌+◌, ◌++◌, ◌*◌, [], All, IfErr, IfOk, OnOk, Some, length, slice_get};
 ghost use Rattle.table_records.specs.Faults.{IsFirst};
 ghost use Rattle.gtfs_tables.specs.Feed.{day_number};
-ghost use Rattle.service_days.specs.declared.day.TheConstants.{LAST_DAY};
+ghost use Rattle.service_days.specs.declared.day.TheConstants.{LAST_DAY, LAST_START};
 ghost use Rattle.service_days.specs.declared.fault.DayFault.TheVariants as day_fault;
 ghost use Rattle.service_days.specs.Services.{IsServiceDay};
 ghost use Rattle.service_days.specs.Instances.{IsListFault, IsRun, day_faults, runs_if, runs_of, runs_of_day, runs_of_days};
@@ -24,7 +24,7 @@ use std::alloc::Global;
 /// rows that overlap all of them. A trip without events never runs. (GTFS Schedule reference, `frequencies.txt`.)
 ///
 /// `DateRange` where one of the days is outside the calendar's years; else `TooMany` past 1,000,000 runs, before they are
-/// made; `Memory` where a growth was refused. `back` and `ahead` are at most 6.
+/// made; `Memory` where a growth was refused.
 pub fn active(
     alloc: Global,
     feed: &Feed,
@@ -32,8 +32,6 @@ pub fn active(
     back: u32,
     ahead: u32,
 ) -> Result<Vec<Run>, DayFault>
-    requires back { back ≤ 6 }
-    requires ahead { ahead ≤ 6 }
     ensures good { IfOk result (λ runs. (day_faults feed.now (day_number date) back ahead ≡ [])
         × (runs.items ≡ runs_of feed.now (day_number date) back ahead)) }
     ensures runs { IfOk result (λ runs. All (IsRun feed.now) runs.items) }
@@ -41,7 +39,7 @@ pub fn active(
 {
     feed.known();
     let day = number_of(date);
-    if day < back || LAST_DAY < day + ahead {
+    if day < back || LAST_DAY - day < ahead {
         return Err(DayFault::DateRange);
     }
     let mut runs = RunList::new(alloc);
@@ -57,21 +55,20 @@ fn add_days(
     first: u32,
     days: u32,
 ) -> Result<(), DayFault>
-    requires days { days ≤ 13 }
-    requires dates { first + days ≤ LAST_DAY + 1 }
+    requires { first + days ≤ LAST_DAY + 1 }
     ensures good { OnOk result (runs.new ≡ runs.old ++ runs_of_days feed.now first days) }
     ensures fault { IfErr result (λ e. IsListFault e (length runs.old + length (runs_of_days feed.now first days))) }
 {
     for x in 0..days {
         let day = ServiceDay::new(alloc, feed, first + x)?;
-        add_day(runs, feed, &day, 86_400 * x)?;
+        add_day(runs, feed, &day, 86_400 * x as u64)?;
     }
     Ok(())
 }
 
 /// Adds the runs of a day, which begins at `base` seconds on the axis.
-fn add_day(runs: &mut RunList, feed: &Feed, day: &ServiceDay, base: u32) -> Result<(), DayFault>
-    requires base { base ≤ 1036800 }
+fn add_day(runs: &mut RunList, feed: &Feed, day: &ServiceDay, base: u64) -> Result<(), DayFault>
+    requires base { base ≤ LAST_START }
     requires day { IsServiceDay feed.now day.now }
     ensures good { OnOk result (runs.new ≡ runs.old ++ runs_of_day feed.now day.now.number base) }
     ensures fault { IfErr result (λ e. IsListFault e (length runs.old + length (runs_of_day feed.now day.now.number base))) }
@@ -87,11 +84,11 @@ fn add_if_running(
     runs: &mut RunList,
     feed: &Feed,
     day: &ServiceDay,
-    base: u32,
+    base: u64,
     number: u32,
     trip: &FeedTrip,
 ) -> Result<(), DayFault>
-    requires base { base ≤ 1036800 }
+    requires base { base ≤ LAST_START }
     requires day { IsServiceDay feed.now day.now }
     requires trip { slice_get feed.now.trips number ≡ Some trip.now }
     ensures good { OnOk result (runs.new ≡ runs.old ++ runs_if feed.now day.now.number base number trip.now) }

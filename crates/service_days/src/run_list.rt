@@ -1,5 +1,5 @@
 //! The runs that were found so far.
-ghost use Rattle.std.specs.Prelude.{◌≡◌, ◌+◌, ◌<◌, ◌++◌, ◌∷◌, [], length, OnOk, IfErr};
+ghost use Rattle.std.specs.Prelude.{◌≡◌, ◌+◌, ◌*◌, ◌<◌, ◌++◌, ◌∷◌, [], length, OnOk, IfErr};
 ghost use Rattle.service_days.specs.declared.day.TheConstants as day;
 ghost use Rattle.service_days.specs.declared.fault.DayFault.TheVariants.{Memory};
 ghost use Rattle.service_days.specs.declared.run_list.TheConstants as limit;
@@ -16,6 +16,7 @@ pub const MOST_RUNS: usize = 1_000_000;
 pub fn limits_are_as_stated()
     ensures runs { limit.MOST_RUNS ≡ 1000000 }
     ensures days { day.LAST_DAY ≡ 7304483 }
+    ensures start { day.LAST_START ≡ 86400 * day.LAST_DAY }
 {}
 
 /// Runs, no more than `MOST_RUNS`. Contracts see the list.

@@ -1,6 +1,6 @@
 //! On which days services run: their weekdays between two dates, with dates added and dates removed.
 //! (GTFS Schedule reference, `calendar.txt` and `calendar_dates.txt`.)
-ghost use Rattle.std.specs.Prelude.{◌≡◌, ◌≤◌, ◌<◌, ◌==◌, ◌&&◌, ◌||◌, ℕ, All, IfOk, false, length, map, not, slice_index_or};
+ghost use Rattle.std.specs.Prelude.{◌≡◌, ◌≤◌, ◌<◌, ◌+◌, ◌==◌, ◌&&◌, ◌||◌, if◌then◌else◌, ℕ, IfOk, false, length, not, slice_index_or};
 ghost use Rattle.std.specs.List.{list_any};
 ghost use Rattle.gtfs_tables.specs.Feed.{calendar_data, day_number, exception_data};
 ghost use Rattle.service_days.specs.Services as spec;
@@ -15,42 +15,13 @@ use std::alloc::{AllocError, Global};
 /// Whether a service runs on a date: an exception adds the date; or a row of the calendar covers it, both ends
 /// included, and names its weekday, and no exception removes it. (GTFS Schedule reference, `calendar_dates.txt`.)
 ///
-/// The service is named by its number in the feed. Takes no memory.
+/// The service is named by its number in the feed; a number that the feed gives to no service never runs. Takes no memory.
 pub fn runs(feed: &Feed, service: u32, date: Date) -> bool
-    requires { service < length feed.now.services }
     ensures { result ≡ runs_on feed.now service (day_number date) }
 {
-    let day = Day::of(date);
-    let exceptions = feed.exceptions();
-    is_added(exceptions, service, day)
-        || (is_scheduled(feed.calendar(), service, day) && !is_removed(exceptions, service, day))
-}
-
-/// Whether a row of the calendar has the service run on the day.
-fn is_scheduled(calendar: &[CalendarRow], service: u32, day: Day) -> bool
-    ensures { result ≡ list_any (λ row. spec.schedules service day.number (calendar_data row)) calendar.now }
-{
-    calendar
-        .iter()
-        .any(|row| row.service == service && covers(row, day))
-}
-
-/// Whether an exception adds the day to the service.
-fn is_added(exceptions: &[ExceptionRow], service: u32, day: Day) -> bool
-    ensures { result ≡ list_any (λ row. spec.adds service day.number (exception_data row)) exceptions.now }
-{
-    exceptions
-        .iter()
-        .any(|row| row.service == service && adds(row, day))
-}
-
-/// Whether an exception removes the day from the service.
-fn is_removed(exceptions: &[ExceptionRow], service: u32, day: Day) -> bool
-    ensures { result ≡ list_any (λ row. spec.removes service day.number (exception_data row)) exceptions.now }
-{
-    exceptions
-        .iter()
-        .any(|row| row.service == service && removes(row, day))
+    let mut running = [false];
+    mark_running(&mut running, service, feed, Day::of(date));
+    running[0]
 }
 
 /// Whether the row covers the day, both ends included, and names its weekday.
@@ -89,59 +60,68 @@ impl ServiceDay {
         ensures running { IfOk result (λ d. IsServiceDay feed.now d) }
     {
         let mut running = vec![in alloc; false; feed.service_count() as usize]?;
-        mark_running(&mut running, feed, Day::at(number));
+        mark_running(&mut running, 0, feed, Day::at(number));
         Ok(ServiceDay { number, running })
     }
 }
 
-/// Marks the services that run on the day, where none is marked yet.
-fn mark_running(running: &mut [bool], feed: &Feed, day: Day)
-    requires count { length running.old ≡ length feed.now.services }
-    requires none { (s : ℕ) → s < length running.old → slice_index_or running.old s false ≡ false }
-    ensures { (s : ℕ) → s < length running.old → slice_index_or running.new s false ≡ runs_on feed.now s day.number }
+/// Marks those that run on the day, of as many services from `first` on as there are marks, where none is marked yet.
+fn mark_running(running: &mut [bool], first: u32, feed: &Feed, day: Day)
+    requires { (k : ℕ) → k < length running.old → slice_index_or running.old k false ≡ false }
+    ensures { (k : ℕ) → k < length running.old → slice_index_or running.new k false ≡ runs_on feed.now (first + k) day.number }
 {
-    feed.known();
     let exceptions = feed.exceptions();
-    mark_scheduled(running, feed.calendar(), day);
-    unmark_removed(running, exceptions, day);
-    mark_added(running, exceptions, day);
+    mark_scheduled(running, first, feed.calendar(), day);
+    unmark_removed(running, first, exceptions, day);
+    mark_added(running, first, exceptions, day);
 }
 
 /// Marks the services that the calendar has run on the day.
-fn mark_scheduled(running: &mut [bool], calendar: &[CalendarRow], day: Day)
-    requires { All (λ row. row.service < length running.old) calendar.now }
-    ensures { (s : ℕ) → s < length running.old → slice_index_or running.new s false
-        ≡ (slice_index_or running.old s false || list_any (λ row. spec.schedules s day.number (calendar_data row)) calendar.now) }
+fn mark_scheduled(running: &mut [bool], first: u32, calendar: &[CalendarRow], day: Day)
+    ensures { (k : ℕ) → k < length running.old → slice_index_or running.new k false
+        ≡ (slice_index_or running.old k false || list_any (λ row. spec.schedules (first + k) day.number (calendar_data row)) calendar.now) }
 {
     for row in calendar {
         if covers(row, day) {
-            running[row.service as usize] = true;
+            set_mark(running, first, row.service, true);
         }
     }
 }
 
 /// Unmarks the services from which the day is removed.
-fn unmark_removed(running: &mut [bool], exceptions: &[ExceptionRow], day: Day)
-    requires { All (λ row. row.service < length running.old) exceptions.now }
-    ensures { (s : ℕ) → s < length running.old → slice_index_or running.new s false
-        ≡ (slice_index_or running.old s false && not (list_any (λ row. spec.removes s day.number (exception_data row)) exceptions.now)) }
+fn unmark_removed(running: &mut [bool], first: u32, exceptions: &[ExceptionRow], day: Day)
+    ensures { (k : ℕ) → k < length running.old → slice_index_or running.new k false
+        ≡ (slice_index_or running.old k false && not (list_any (λ row. spec.removes (first + k) day.number (exception_data row)) exceptions.now)) }
 {
     for row in exceptions {
         if removes(row, day) {
-            running[row.service as usize] = false;
+            set_mark(running, first, row.service, false);
         }
     }
 }
 
 /// Marks the services to which the day is added.
-fn mark_added(running: &mut [bool], exceptions: &[ExceptionRow], day: Day)
-    requires { All (λ row. row.service < length running.old) exceptions.now }
-    ensures { (s : ℕ) → s < length running.old → slice_index_or running.new s false
-        ≡ (slice_index_or running.old s false || list_any (λ row. spec.adds s day.number (exception_data row)) exceptions.now) }
+fn mark_added(running: &mut [bool], first: u32, exceptions: &[ExceptionRow], day: Day)
+    ensures { (k : ℕ) → k < length running.old → slice_index_or running.new k false
+        ≡ (slice_index_or running.old k false || list_any (λ row. spec.adds (first + k) day.number (exception_data row)) exceptions.now) }
 {
     for row in exceptions {
         if adds(row, day) {
-            running[row.service as usize] = true;
+            set_mark(running, first, row.service, true);
         }
+    }
+}
+
+/// Marks a service, or unmarks it, where one of the marks of the services from `first` on is its own.
+fn set_mark(running: &mut [bool], first: u32, service: u32, runs: bool)
+    ensures { (k : ℕ) → k < length running.old → slice_index_or running.new k false
+        ≡ (if service == first + k then runs else slice_index_or running.old k false) }
+{
+    if service < first {
+        return;
+    }
+    let place = (service - first) as usize;
+    if place < running.len() {
+        running[place] = runs;
     }
 }

@@ -1,6 +1,6 @@
 -- One meaning, one text, and no refusal beside it.
 use Rattle.std.proofs.Common.{◌≡◌, ◌∙◌, List, ap, arith, subst, sym}
-use Rattle.timetable.specs.Footpaths.{FootLists}
+use Rattle.timetable.specs.Footpaths.{FeetData}
 use Rattle.timetable.specs.Networks.{Net}
 use Rattle.footpaths.specs.Closure.{ClosuresAreUnique, TooManyHaveNoClosure}
 use Rattle.collector.specs.Places.{MatrixData}
@@ -22,7 +22,7 @@ one_study : ClosuresAreUnique → (i : InputFiles) (s : Settings) (a b : StudyDa
 one_study once i s a b h g =
     let feet : h.made.feet ≡ g.made.feet = once (direct_in i) s.walk h.made.feet g.made.feet h.made.walked.walks.closed g.made.walked.walks.closed in
     let networks : h.networks ≡ g.networks =
-    h.made.networks_are ∙ ap (λ (f : FootLists). networks_of (feed_in i) (runs_in i s) f (scenarios_in i)) feet ∙ sym g.made.networks_are in
+    h.made.networks_are ∙ ap (λ (f : FeetData). networks_of (feed_in i) (runs_in i s) f (scenarios_in i)) feet ∙ sym g.made.networks_are in
     h.study_is ∙ ap (λ (n : List Net). study_in i s n) networks ∙ sym g.study_is
 
 pub texts_unique : ClosuresAreUnique → MatricesAreUnique → TextsAreUnique

@@ -7,14 +7,14 @@ use Rattle.timetable.specs.declared.faults.NetFault.{NetFault}
 use Rattle.timetable.specs.declared.faults.NetFault.TheVariants.{StopRange, TimesGoBack, TooLarge, Memory}
 use Rattle.timetable.specs.Trips.{EventsRise}
 use Rattle.timetable.specs.Faults.{IsFeetFault, IsNetFault}
-use Rattle.timetable.specs.Footpaths.{FootLists, FeetInRange, FeetWithin}
+use Rattle.timetable.specs.Footpaths.{FeetData, FeetInRange, FeetWithin}
 use Rattle.timetable.specs.Networks.{Net, NetInRange, NetWithin}
 use Rattle.gtfs_tables.specs.Feed.{FeedData}
 use Rattle.gtfs_tables.specs.Feed.{IsFeed}
 use Rattle.studies.specs.MinuteLine.{network_once}
 use Rattle.studies.proofs.Runs.{All-runs_from, events-runs_from, length-runs_from}
 
-pub memory_alone_feet : (e : NetFault) (n : ℕ) (feet : FootLists) → FeetInRange n feet → FeetWithin feet → IsFeetFault e n feet → e ≡ Memory
+pub memory_alone_feet : (e : NetFault) (n : ℕ) (feet : FeetData) → FeetInRange n feet → FeetWithin feet → IsFeetFault e n feet → e ≡ Memory
 memory_alone_feet StopRange n feet range within h = absurd (h range)
 memory_alone_feet TimesGoBack n feet range within h = absurd h
 memory_alone_feet TooLarge n feet range within h = absurd (h.1 within)

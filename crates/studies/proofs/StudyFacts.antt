@@ -8,7 +8,7 @@ use Rattle.table_records.specs.Faults as records
 use Rattle.table_records.specs.declared.fault.FeedFault.{FeedFault}
 use Rattle.timetable.specs.declared.faults.NetFault.{NetFault}
 use Rattle.timetable.specs.declared.trips.StopNo.{StopNo}
-use Rattle.timetable.specs.Footpaths.{FootLists}
+use Rattle.timetable.specs.Footpaths.{FeetData}
 use Rattle.timetable.specs.Networks.{Net}
 use Rattle.gtfs_tables.specs.Feed.{FeedData, IsFeed, day_number}
 use Rattle.gtfs_tables.specs.Files.{feed_faults}
@@ -106,7 +106,7 @@ module _ (i : InputFiles) (s : Settings) where
   feet_told foot.TooMany direct dated is h = inr (dated, refl, subst (λ (d : DirectLists). HasTooMany d.pairs s.walk) is h)
   feet_told foot.Memory direct dated is h = inl refl
 
-  pub are_walked : (direct : DirectLists) (feet : FootLists) → AreDated i s → direct ≡ direct_in i → IsClosure direct s.walk feet → AreWalked i s feet
+  pub are_walked : (direct : DirectLists) (feet : FeetData) → AreDated i s → direct ≡ direct_in i → IsClosure direct s.walk feet → AreWalked i s feet
   are_walked direct feet dated is closed = record { dated = dated; walks = subst (λ (d : DirectLists). IsClosure d s.walk feet) is closed }
 
   pub text_told : {V : Type 0} (r : Result V StudyFault) → IfErr r TellsText → IfErr r (λ e. Tells e i s)
@@ -123,7 +123,7 @@ module _ (i : InputFiles) (s : Settings) where
   text_told (Err fault.Memory) h = inl h
 
 -- the parts before the networks, as they are of the files
-module _ (i : InputFiles) (s : Settings) (feed : FeedData) (runs : List Run) (feet : FootLists) (scenarios : List ScenarioData)
+module _ (i : InputFiles) (s : Settings) (feed : FeedData) (runs : List Run) (feet : FeetData) (scenarios : List ScenarioData)
     (walked : AreWalked i s feet) (feed_is : feed ≡ feed_in i) (runs_are : runs ≡ days.runs_of feed (day_number s.date) s.back s.ahead)
     (scenarios_are : scenarios ≡ scenarios_in i) where
   runs_are_in : runs ≡ runs_in i s

@@ -1,5 +1,5 @@
 -- The line for one minute of the day: the least durations from one stop to all stops, where every trip of the feed
--- runs once at the feed's own times and nobody walks.
+-- runs once at the feed's own times, nobody walks, and no change takes time.
 use Rattle.std.specs.Prelude.{◌≡◌, ◌+◌, ◌*◌, ◌==◌, ◌++◌, ℕ, List, [], ◌∷◌, length, map, replicate, position, Some, decimal, if◌then◌else◌}
 use Rattle.std.specs.List.{join_with_byte}
 use Rattle.std.specs.Str.{bytes_eq}
@@ -19,12 +19,12 @@ abbrev pub runs_from : ℕ → List FeedTrip → List Trip
 runs_from number [] = []
 runs_from number (t ∷ rest) = run_of number t ∷ runs_from (number + 1) rest
 
--- the network in which every trip of a feed runs once and nobody walks
+-- the network in which every trip of a feed runs once, nobody walks and no change takes time
 abbrev pub network_once : FeedData → Net
 network_once feed = record {
   stops = length feed.stops;
   trips = runs_from 0 feed.trips;
-  feet = replicate (length feed.stops) [];
+  feet = record { walks = replicate (length feed.stops) []; changes = replicate (length feed.stops) 0 };
 }
 
 -- a duration's field: its digits, or nothing where there is none

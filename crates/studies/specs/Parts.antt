@@ -3,7 +3,7 @@ use Rattle.std.specs.Prelude.{◌+◌, ◌++◌, ℕ, List, [], ◌∷◌, map}
 use Rattle.table_records.specs.declared.fault.FeedFault.{FeedFault}
 use Rattle.timetable.specs.declared.faults.NetFault.{NetFault}
 use Rattle.timetable.specs.declared.trips.StopNo.{StopNo}
-use Rattle.timetable.specs.Footpaths.{FootLists}
+use Rattle.timetable.specs.Footpaths.{FeetData}
 use Rattle.timetable.specs.Networks.{Net}
 use Rattle.gtfs_tables.specs.Feed.{FeedData, day_number}
 use Rattle.gtfs_tables.specs.Files.{feed_faults, feed_of}
@@ -80,7 +80,7 @@ network_faults feed runs number [] = []
 network_faults feed runs number (x ∷ xs) = map (λ e. (number, e)) (net_faults feed x runs) ++ network_faults feed runs (number + 1) xs
 
 -- one network for each scenario
-abbrev pub networks_of : FeedData → List Run → FootLists → List ScenarioData → List Net
+abbrev pub networks_of : FeedData → List Run → FeetData → List ScenarioData → List Net
 networks_of feed runs feet xs = map (λ x. net_of feed x runs feet) xs
 
 -- the study of these networks

@@ -5,7 +5,7 @@ use Rattle.std.specs.Prelude.{◌≡◌, ◌⊎◌, ◌<◌, ◌≤◌, ℕ, Lis
 use Rattle.table_records.specs.Faults.{IsFirst}
 use Rattle.table_records.specs.declared.fault.What.TheVariants as what
 use Rattle.timetable.specs.declared.faults.NetFault.TheVariants as net
-use Rattle.timetable.specs.Footpaths.{FootLists}
+use Rattle.timetable.specs.Footpaths.{FeetData}
 use Rattle.timetable.specs.Networks.{Net}
 use Rattle.service_days.specs.declared.fault.DayFault.TheVariants as day
 use Rattle.footpaths.specs.declared.faults.FootFault.TheVariants as foot
@@ -45,13 +45,13 @@ pub record AreDated (i : InputFiles) (s : Settings) : Type 0 where
   pub days : day_faults i s ≡ []
 
 -- ... and the footpaths, of which these are the closed ones
-pub record AreWalked (i : InputFiles) (s : Settings) (feet : FootLists) : Type 0 where
+pub record AreWalked (i : InputFiles) (s : Settings) (feet : FeetData) : Type 0 where
   pub dated : AreDated i s
   pub walks : IsClosure (direct_in i) s.walk feet
 
 -- ... and these are the networks
 pub record AreNetworks (i : InputFiles) (s : Settings) (networks : List Net) : Type 0 where
-  pub feet : FootLists
+  pub feet : FeetData
   pub walked : AreWalked i s feet
   pub faultless : network_faults (feed_in i) (runs_in i s) 0 (scenarios_in i) ≡ []
   pub networks_are : networks ≡ networks_of (feed_in i) (runs_in i s) feet (scenarios_in i)
@@ -71,7 +71,7 @@ Refuses (fault.Scenario k e) i s = AreRead i × IsFirst (k, e) (edit_faults (fee
 Refuses (fault.Days e) i s = AreEdited i × IsFirst e (day_faults i s)
 Refuses (fault.Feet e) i s = AreDated i s × (e ≡ foot.TooMany) × HasTooMany (direct_in i).pairs s.walk
 Refuses (fault.Net k e) i s =
-    (feet : FootLists) × AreWalked i s feet × IsFirst (k, e) (network_faults (feed_in i) (runs_in i s) 0 (scenarios_in i))
+    (feet : FeetData) × AreWalked i s feet × IsFirst (k, e) (network_faults (feed_in i) (runs_in i s) 0 (scenarios_in i))
 Refuses (fault.Run e) i s = ⊥
 Refuses (fault.Text e) i s = ⊥
 Refuses fault.Memory i s = ⊥

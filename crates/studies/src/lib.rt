@@ -3,6 +3,7 @@
 //! - `study`: [`run_study`], the text of the matrix that the files ([`Inputs`], [`NamedFile`]) and the [`Settings`] mean, or the
 //!   first [`StudyFault`]. Its parts, each handing what it made to the next: `names`, `tables` (with `parts`), `scenario_files`,
 //!   `networks`.
+//! - `inputs`, `named_file`, `settings`: what a study is made of; `fault`: why there is none.
 //! - `laws`: a study has one text, and no files are both refused and accepted.
 //! - `feed_files`: [`FeedFiles`], the files of a feed as a program holds them.
 //! - `minute`: [`minute_line`], the durations of one minute over each trip of a feed once (`once`, `line`).

@@ -80,7 +80,7 @@ fn all_networks(
 ) -> Result<Vec<Network>, StudyFault>
     requires few { length scenarios.now ≤ 16 }
     requires runs { All (IsRun feed.now) runs.now }
-    requires feet { length feet.now ≡ length feed.now.stops }
+    requires feet { length feet.now.walks ≡ length feed.now.stops }
     ensures good { IfOk result (λ _. network_faults feed.now runs.now 0 scenarios.now ≡ []) }
     ensures networks { IfOk result (λ v. v.items ≡ networks_of feed.now runs.now feet.now scenarios.now) }
     ensures fault { IfErr result (λ e. TellsNetworks e feed.now runs.now scenarios.now) }

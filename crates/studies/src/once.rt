@@ -1,4 +1,5 @@
-//! The network in which every trip of a feed runs once, at the feed's own times, and nobody walks.
+//! The network in which every trip of a feed runs once, at the feed's own times, nobody walks, and no
+//! change takes time.
 
 ghost use Rattle.std.specs.Prelude.{◌≡◌, ◌≤◌, [], replicate, map, IfOk};
 ghost use Rattle.timetable.specs.Footpaths.{rows_of};
@@ -45,14 +46,16 @@ fn only_memory(fault: NetFault) -> AllocError
     }
 }
 
-/// No footpaths among some stops.
+/// No footpaths among some stops, at which no change takes time.
 fn no_feet(alloc: Global, stops: u32) -> Result<Feet, AllocError>
     requires { stops ≤ 65535 }
-    ensures { IfOk result (λ feet. feet ≡ replicate stops []) }
+    ensures { IfOk result (λ feet. feet ≡ record { walks = replicate stops []; changes = replicate stops 0 }) }
 {
-    match Feet::new(alloc, stops, no_lists(alloc, stops)?) {
+    let lists = no_lists(alloc, stops)?;
+    let changes = vec![in alloc; 0; stops as usize]?;
+    match Feet::new(alloc, stops, lists, changes) {
         Ok(feet) => Ok(feet),
-        Err((fault, _)) => Err(only_memory(fault)),
+        Err((fault, _, _)) => Err(only_memory(fault)),
     }
 }
 

@@ -10,23 +10,23 @@ use Rattle.timetable.specs.declared.trips.Event.{Event}
 use Rattle.table_files.specs.Fill.{between, event_at, events_after, filled, nearer, nearest, time_at_gap}
 use Rattle.table_files.specs.WholeTrips.{goes_back}
 use Rattle.table_files.specs.declared.fill.Neighbour.{Neighbour}
-use Rattle.table_files.specs.declared.stamps.Stamp.{Stamp}
-use Rattle.table_files.specs.declared.stamps.Times.{Times}
+use Rattle.table_files.specs.declared.trip_times.StopTime.{StopTime}
+use Rattle.table_files.specs.declared.trip_times.Times.{Times}
 
 -- the events of records that follow a neighbour
-abbrev pub filled_on : Option Neighbour → List Stamp → List Event
+abbrev pub filled_on : Option Neighbour → List StopTime → List Event
 filled_on before [] = []
 filled_on before (s ∷ rest) = event_at s (unwrap_or s.times (between before (nearest rest))) ∷ filled_on (nearer s.times before) rest
 
-filled_after : (before stamps : List Stamp) → filled_on (nearest before) stamps ≡ events_after before stamps
+filled_after : (before trip_times : List StopTime) → filled_on (nearest before) trip_times ≡ events_after before trip_times
 filled_after before [] = refl
 filled_after before (s ∷ rest) =
     ap (λ (l : List Event). event_at s (unwrap_or s.times (between (nearest before) (nearest rest))) ∷ l) (filled_after (s ∷ before) rest)
 
-pub filled_is : (stamps : List Stamp) → filled_on None stamps ≡ filled stamps
-filled_is stamps = filled_after [] stamps
+pub filled_is : (trip_times : List StopTime) → filled_on None trip_times ≡ filled trip_times
+filled_is trip_times = filled_after [] trip_times
 
-pub length-filled_on : (before : Option Neighbour) (stamps : List Stamp) → length (filled_on before stamps) ≡ length stamps
+pub length-filled_on : (before : Option Neighbour) (trip_times : List StopTime) → length (filled_on before trip_times) ≡ length trip_times
 length-filled_on before [] = refl
 length-filled_on before (s ∷ rest) = omega (arith, length-filled_on (nearer s.times before) rest)
 
@@ -116,7 +116,7 @@ after_timed : (t : Times) (before after : Option Neighbour) → departure_before
 after_timed t before after = after_first t after
 
 -- one event goes on from those before it
-pub step : (s : Stamp) (times : Option Times) (before after : Option Neighbour) (xs : List Event) → OneIs times before → OneIs times after → goes_back (left_at before) times ≡ false
+pub step : (s : StopTime) (times : Option Times) (before after : Option Neighbour) (xs : List Event) → OneIs times before → OneIs times after → goes_back (left_at before) times ≡ false
     → Climbs (departure_before (nearer times before) after) xs → Climbs (departure_before before (nearer times after)) (event_at s (unwrap_or times (between before after)) ∷ xs)
 step s (Some t) None after xs b a on up =
     let (first, second) = onward 0 t on in
@@ -139,7 +139,7 @@ step s None (Some n) (Some m) xs b a on up =
 abbrev pub IsNear : Option Neighbour → ℕ → Type 0
 IsNear o most = IfSome o (λ n. n.untimed ≤ most)
 
-pub nearest_near : (stamps : List Stamp) → IsNear (nearest stamps) (length stamps)
+pub nearest_near : (trip_times : List StopTime) → IsNear (nearest trip_times) (length trip_times)
 nearest_near [] = tt
 nearest_near (s ∷ rest) = by s.times (nearest rest) (nearest_near rest)
   where
@@ -157,9 +157,9 @@ approached_near None most h = tt
 approached_near (Some x) most h = omega (arith, h)
 
 -- no event is left after the last
-pub none_left : (before : Option Neighbour) (i : ℕ) (stamps : List Stamp) → length stamps ≤ i → filled_on before (drop i stamps) ≡ []
-none_left before i stamps le = by (drop i stamps) (omega (arith, length-drop i stamps))
+pub none_left : (before : Option Neighbour) (i : ℕ) (trip_times : List StopTime) → length trip_times ≤ i → filled_on before (drop i trip_times) ≡ []
+none_left before i trip_times le = by (drop i trip_times) (omega (arith, length-drop i trip_times))
   where
-    by : (xs : List Stamp) → length xs ≡ 0 → filled_on before xs ≡ []
+    by : (xs : List StopTime) → length xs ≡ 0 → filled_on before xs ≡ []
     by [] e = refl
     by (x ∷ xs) e = absurd (omega (arith, e))

@@ -2,7 +2,7 @@ pub mod FillFacts
 pub mod EventFacts
 pub mod OneOrder
 pub mod SortedFacts
-pub mod StampFacts
+pub mod TripTimeFacts
 pub mod NewIds
 pub mod TimeFacts
 pub mod ServiceFacts
@@ -11,7 +11,7 @@ pub mod CalendarDateFacts
 pub mod FrequencyFacts
 pub mod FeedTripFacts
 pub mod ChildrenFacts
-pub mod PlaceFacts
+pub mod LocationFacts
 pub mod EndFacts
 pub mod TransferFacts
 pub mod RowFacts

@@ -13,8 +13,8 @@ use Rattle.table_files.specs.Services.{named, number_in}
 pub same_text : (xs : List ℕ) → bytes_eq xs xs ≡ true
 same_text xs = (bytes_eq-Decides xs xs).1 refl
 
-at_place : {X : Type 0} (p : X → Bool) (xs : List X) (i : ℕ) → position_or_len p xs ≡ i → i < length xs → position p xs ≡ Some i
-at_place p xs i is lt =
+at_position : {X : Type 0} (p : X → Bool) (xs : List X) (i : ℕ) → position_or_len p xs ≡ i → i < length xs → position p xs ≡ Some i
+at_position p xs i is lt =
     let within : nat_lt i (length xs) ≡ true = grind (arith, nat_tests) in
     rw (is, within) refl
 
@@ -32,7 +32,7 @@ pub position-append : {X : Type 0} (p : X → Bool) (xs ys : List X) → list_an
 position-append p xs ys h =
     let (same, lt) = front p xs ys h in
     let longer : position_or_len p xs < length (xs ++ ys) = omega (arith, lt, length-append xs ys) in
-    at_place p (xs ++ ys) (position_or_len p xs) same longer ∙ sym (at_place p xs (position_or_len p xs) refl lt)
+    at_position p (xs ++ ys) (position_or_len p xs) same longer ∙ sym (at_position p xs (position_or_len p xs) refl lt)
 
 past : {X : Type 0} (p : X → Bool) (xs : List X) → list_any p xs ≡ false → position_or_len p xs ≡ length xs
 past p [] h = refl
@@ -49,16 +49,16 @@ nowhere p xs h =
     rw (is, outside) refl
 
 -- one that is new stands last
-last_place : {X : Type 0} (p : X → Bool) (xs : List X) (y : X) → list_any p xs ≡ false → p y ≡ true → position_or_len p (xs ++ y ∷ []) ≡ length xs
-last_place p [] y h e = rw e refl
-last_place p (x ∷ xs) y h e = by (p x) h (λ g. last_place p xs y g e)
+last_position : {X : Type 0} (p : X → Bool) (xs : List X) (y : X) → list_any p xs ≡ false → p y ≡ true → position_or_len p (xs ++ y ∷ []) ≡ length xs
+last_position p [] y h e = rw e refl
+last_position p (x ∷ xs) y h e = by (p x) h (λ g. last_position p xs y g e)
   where
     by : (b : Bool) → (b || list_any p xs) ≡ false → (list_any p xs ≡ false → position_or_len p (xs ++ y ∷ []) ≡ length xs) → (if not b then 1 + position_or_len p (xs ++ y ∷ []) else 0) ≡ suc (length xs)
     by true g again = cc g
     by false g again = let same = again g in omega (arith, same)
 
 pub position-last : {X : Type 0} (p : X → Bool) (xs : List X) (y : X) → list_any p xs ≡ false → p y ≡ true → position p (xs ++ y ∷ []) ≡ Some (length xs)
-position-last p xs y h e = at_place p (xs ++ y ∷ []) (length xs) (last_place p xs y h e) (omega (arith, length-append xs (y ∷ [])))
+position-last p xs y h e = at_position p (xs ++ y ∷ []) (length xs) (last_position p xs y h e) (omega (arith, length-append xs (y ∷ [])))
 
 -- the number of a new identifier
 pub number_new : (ids : List (List ℕ)) (id : List ℕ) → list_any (bytes_eq id) ids ≡ false → number_in (ids ++ id ∷ []) id ≡ length ids
@@ -106,7 +106,7 @@ found p xs n h = by (list_any p xs) refl
     by : (b : Bool) → list_any p xs ≡ b → (n < length xs) × (list_any p xs ≡ true)
     by true e =
         let lt = (front p xs [] e).1 in
-        let same : Some n ≡ Some (position_or_len p xs) = h ∙ at_place p xs (position_or_len p xs) refl lt in
+        let same : Some n ≡ Some (position_or_len p xs) = h ∙ at_position p xs (position_or_len p xs) refl lt in
         let is : n ≡ position_or_len p xs = cc same in
         (omega (arith, is, lt), e)
     by false e = cc (h, nowhere p xs e)
@@ -115,7 +115,7 @@ pub lost : {X : Type 0} (p : X → Bool) (xs : List X) → None ≡ position p x
 lost p xs h = by (list_any p xs) refl
   where
     by : (b : Bool) → list_any p xs ≡ b → list_any p xs ≡ false
-    by true e = cc (h, at_place p xs (position_or_len p xs) refl (front p xs [] e).1)
+    by true e = cc (h, at_position p xs (position_or_len p xs) refl (front p xs [] e).1)
     by false e = e
 
 -- what naming one more identifier does

@@ -5,9 +5,9 @@ use Rattle.std.proofs.lemmas.List.{map-append, append-nil}
 use Rattle.std.proofs.lemmas.List.Elements.{All-cons, All-nil, filter-append}
 use Rattle.std.specs.Prelude.{All, nat_lt, if◌then◌else◌}
 use Rattle.std.specs.List.{list_any}
-use Rattle.table_files.specs.Stamps.{has_number, in_order, insert_all, insert_in_order}
+use Rattle.table_files.specs.TripTimes.{has_number, in_order, insert_all, insert_in_order}
 use Rattle.table_files.specs.StopTimes.{of_trip, sorted_from}
-use Rattle.table_files.specs.declared.stamps.Stamp.{Stamp}
+use Rattle.table_files.specs.declared.trip_times.StopTime.{StopTime}
 
 equal : (m : ℕ) → (m == m) ≡ true
 equal m = grind (arith, nat_tests)
@@ -16,18 +16,18 @@ differs : (m n : ℕ) → m ≢ n → (m == n) ≡ false
 differs m n h = grind (arith, nat_tests)
 
 -- a record of a trip, and of another
-more_same : (t : ℕ) (rows : List (ℕ × Stamp)) (s : Stamp) → of_trip t (rows ++ (t, s) ∷ []) ≡ of_trip t rows ++ s ∷ []
+more_same : (t : ℕ) (rows : List (ℕ × StopTime)) (s : StopTime) → of_trip t (rows ++ (t, s) ∷ []) ≡ of_trip t rows ++ s ∷ []
 more_same t rows s =
-    rw (filter-append (λ (r : ℕ × Stamp). r.0 == t) rows ((t, s) ∷ []), equal t, map-append (λ (r : ℕ × Stamp). r.1) (filter (λ (r : ℕ × Stamp). r.0 == t) rows) ((t, s) ∷ [])) refl
+    rw (filter-append (λ (r : ℕ × StopTime). r.0 == t) rows ((t, s) ∷ []), equal t, map-append (λ (r : ℕ × StopTime). r.1) (filter (λ (r : ℕ × StopTime). r.0 == t) rows) ((t, s) ∷ [])) refl
 
-more_other : (t u : ℕ) (rows : List (ℕ × Stamp)) (s : Stamp) → t ≢ u → of_trip u (rows ++ (t, s) ∷ []) ≡ of_trip u rows
+more_other : (t u : ℕ) (rows : List (ℕ × StopTime)) (s : StopTime) → t ≢ u → of_trip u (rows ++ (t, s) ∷ []) ≡ of_trip u rows
 more_other t u rows s ne =
-    rw (filter-append (λ (r : ℕ × Stamp). r.0 == u) rows ((t, s) ∷ []), differs t u ne, append-nil (filter (λ (r : ℕ × Stamp). r.0 == u) rows)) refl
+    rw (filter-append (λ (r : ℕ × StopTime). r.0 == u) rows ((t, s) ∷ []), differs t u ne, append-nil (filter (λ (r : ℕ × StopTime). r.0 == u) rows)) refl
 
 -- a record that comes last is put among those before it
-insert_all_push : (sorted stamps : List Stamp) (s : Stamp) → insert_all sorted (stamps ++ s ∷ []) ≡ insert_in_order s (insert_all sorted stamps)
+insert_all_push : (sorted trip_times : List StopTime) (s : StopTime) → insert_all sorted (trip_times ++ s ∷ []) ≡ insert_in_order s (insert_all sorted trip_times)
 insert_all_push sorted [] s = refl
-insert_all_push sorted (t ∷ stamps) s = insert_all_push (insert_in_order t sorted) stamps s
+insert_all_push sorted (t ∷ trip_times) s = insert_all_push (insert_in_order t sorted) trip_times s
 
 any_or : (b c : Bool) → (b || c) ≡ (c || b)
 any_or true true = refl
@@ -40,7 +40,7 @@ swap_or true true c = refl
 swap_or true false c = refl
 swap_or false b c = refl
 
-any_inserted : (p : Stamp → Bool) (s : Stamp) (sorted : List Stamp) → list_any p (insert_in_order s sorted) ≡ (p s || list_any p sorted)
+any_inserted : (p : StopTime → Bool) (s : StopTime) (sorted : List StopTime) → list_any p (insert_in_order s sorted) ≡ (p s || list_any p sorted)
 any_inserted p s [] = refl
 any_inserted p s (t ∷ rest) = by (nat_lt s.sequence t.sequence) (ap (λ (b : Bool). p t || b) (any_inserted p s rest) ∙ swap_or (p t) (p s) (list_any p rest))
   where
@@ -49,9 +49,9 @@ any_inserted p s (t ∷ rest) = by (nat_lt s.sequence t.sequence) (ap (λ (b : B
     by true e = refl
     by false e = e
 
-any_all : (p : Stamp → Bool) (sorted stamps : List Stamp) → list_any p (insert_all sorted stamps) ≡ (list_any p stamps || list_any p sorted)
+any_all : (p : StopTime → Bool) (sorted trip_times : List StopTime) → list_any p (insert_all sorted trip_times) ≡ (list_any p trip_times || list_any p sorted)
 any_all p sorted [] = refl
-any_all p sorted (s ∷ stamps) = any_all p (insert_in_order s sorted) stamps ∙ ap (λ (b : Bool). list_any p stamps || b) (any_inserted p s sorted) ∙ three (p s) (list_any p stamps) (list_any p sorted)
+any_all p sorted (s ∷ trip_times) = any_all p (insert_in_order s sorted) trip_times ∙ ap (λ (b : Bool). list_any p trip_times || b) (any_inserted p s sorted) ∙ three (p s) (list_any p trip_times) (list_any p sorted)
   where
     three : (a b c : Bool) → (b || (a || c)) ≡ ((a || b) || c)
     three true true c = refl
@@ -59,29 +59,29 @@ any_all p sorted (s ∷ stamps) = any_all p (insert_in_order s sorted) stamps �
     three false b c = refl
 
 -- the order makes no difference to whether a record passes a test
-pub any_in_order : (p : Stamp → Bool) (stamps : List Stamp) → list_any p (in_order stamps) ≡ list_any p stamps
-any_in_order p stamps = any_all p [] stamps ∙ any_or (list_any p stamps) false
+pub any_in_order : (p : StopTime → Bool) (trip_times : List StopTime) → list_any p (in_order trip_times) ≡ list_any p trip_times
+any_in_order p trip_times = any_all p [] trip_times ∙ any_or (list_any p trip_times) false
 
-pub number_in_order : (n : ℕ) (stamps : List Stamp) → has_number n (in_order stamps) ≡ has_number n stamps
-number_in_order n stamps = any_in_order (λ (s : Stamp). s.sequence == n) stamps
+pub number_in_order : (n : ℕ) (trip_times : List StopTime) → has_number n (in_order trip_times) ≡ has_number n trip_times
+number_in_order n trip_times = any_in_order (λ (s : StopTime). s.sequence == n) trip_times
 
-pub sorted_length : (rows : List (ℕ × Stamp)) (first : ℕ) (ids : List (List ℕ)) → length (sorted_from rows first ids) ≡ length ids
+pub sorted_length : (rows : List (ℕ × StopTime)) (first : ℕ) (ids : List (List ℕ)) → length (sorted_from rows first ids) ≡ length ids
 sorted_length rows first [] = refl
 sorted_length rows first (id ∷ ids) = omega (arith, sorted_length rows (first + 1) ids)
 
 pub sorted_none : (first : ℕ) (ids : List (List ℕ)) → sorted_from [] first ids ≡ replicate (length ids) []
 sorted_none first [] = refl
-sorted_none first (id ∷ ids) = ap (λ (l : List (List Stamp)). [] ∷ l) (sorted_none (first + 1) ids)
+sorted_none first (id ∷ ids) = ap (λ (l : List (List StopTime)). [] ∷ l) (sorted_none (first + 1) ids)
 
 -- the records of one trip among those of all
-pub sorted_at : (rows : List (ℕ × Stamp)) (k first t : ℕ) (ids : List (List ℕ)) (d : List Stamp) → t ≡ k + first → k < length ids
+pub sorted_at : (rows : List (ℕ × StopTime)) (k first t : ℕ) (ids : List (List ℕ)) (d : List StopTime) → t ≡ k + first → k < length ids
     → get_or (sorted_from rows first ids) k d ≡ in_order (of_trip t rows)
 sorted_at rows k first t [] d e lt = absurd (omega (arith, lt))
 sorted_at rows zero first t (id ∷ ids) d e lt = let same : first ≡ t = omega (arith, e) in ap (λ (n : ℕ). in_order (of_trip n rows)) same
 sorted_at rows (suc k) first t (id ∷ ids) d e lt = sorted_at rows k (first + 1) t ids d (omega (arith, e)) (omega (arith, lt))
 
 -- a trip before some makes no difference to them
-untouched : (rows : List (ℕ × Stamp)) (t : ℕ) (s : Stamp) (first : ℕ) (ids : List (List ℕ)) → t < first → sorted_from (rows ++ (t, s) ∷ []) first ids ≡ sorted_from rows first ids
+untouched : (rows : List (ℕ × StopTime)) (t : ℕ) (s : StopTime) (first : ℕ) (ids : List (List ℕ)) → t < first → sorted_from (rows ++ (t, s) ∷ []) first ids ≡ sorted_from rows first ids
 untouched rows t s first [] lt = refl
 untouched rows t s first (id ∷ ids) lt =
     let other = more_other t first rows s (λ e. absurd (omega (arith, e, lt))) in
@@ -89,7 +89,7 @@ untouched rows t s first (id ∷ ids) lt =
     λ i. in_order (other i) ∷ more i
 
 -- one more record changes those of its trip
-pub sorted_more : (rows : List (ℕ × Stamp)) (k first t : ℕ) (s : Stamp) (ids : List (List ℕ)) (old : List Stamp) → t ≡ k + first → k < length ids → old ≡ in_order (of_trip t rows)
+pub sorted_more : (rows : List (ℕ × StopTime)) (k first t : ℕ) (s : StopTime) (ids : List (List ℕ)) (old : List StopTime) → t ≡ k + first → k < length ids → old ≡ in_order (of_trip t rows)
     → sorted_from (rows ++ (t, s) ∷ []) first ids ≡ set (sorted_from rows first ids) k (insert_in_order s old)
 sorted_more rows k first t s [] old e lt is = absurd (omega (arith, lt))
 sorted_more rows zero first t s (id ∷ ids) old e lt is =
@@ -103,7 +103,7 @@ sorted_more rows (suc k) first t s (id ∷ ids) old e lt is =
     let tail = sorted_more rows k (first + 1) t s ids old (omega (arith, e)) (omega (arith, lt)) is in
     λ i. in_order (other i) ∷ tail i
 
-pub length-insert_in_order : (s : Stamp) (xs : List Stamp) → length (insert_in_order s xs) ≡ length xs + 1
+pub length-insert_in_order : (s : StopTime) (xs : List StopTime) → length (insert_in_order s xs) ≡ length xs + 1
 length-insert_in_order s [] = refl
 length-insert_in_order s (t ∷ rest) = by (nat_lt s.sequence t.sequence) (length-insert_in_order s rest)
   where
@@ -112,7 +112,7 @@ length-insert_in_order s (t ∷ rest) = by (nat_lt s.sequence t.sequence) (lengt
     by false e = omega (arith, e)
 
 -- what holds of a record and of some holds of them together
-pub All-insert_in_order : (P : Stamp → Type 0) (s : Stamp) (xs : List Stamp) → P s → All P xs → All P (insert_in_order s xs)
+pub All-insert_in_order : (P : StopTime → Type 0) (s : StopTime) (xs : List StopTime) → P s → All P xs → All P (insert_in_order s xs)
 All-insert_in_order P s [] here all = All-cons P s [] here (All-nil P)
 All-insert_in_order P s (t ∷ rest) here all = by (nat_lt s.sequence t.sequence) (All-insert_in_order P s rest here (λ k d lt. all (suc k) d (omega (arith, lt))))
   where

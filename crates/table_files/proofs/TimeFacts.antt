@@ -12,25 +12,25 @@ use Rattle.table_records.specs.Faults.{IsFirst, faults_at}
 use Rattle.table_records.specs.declared.fault.FileName.TheVariants.{StopTimes}
 use Rattle.table_records.specs.declared.fault.What.{What}
 use Rattle.table_records.specs.declared.fault.What.TheVariants as what
-use Rattle.table_files.specs.Stamps.{AreTimes, IsSound, has_number, in_order, insert_in_order}
-use Rattle.table_files.specs.StopTimes.{AreStamps, TimeRow, checks, of_trip, place_checks, rows_from, sequence_of, sorted_from, sorted_trips, stamp_of, stamps_from, stamps_of, stop_of, times_of, trip_events, trip_of, trips_aside, visit_checks}
+use Rattle.table_files.specs.TripTimes.{AreTimes, IsSound, has_number, in_order, insert_in_order}
+use Rattle.table_files.specs.StopTimes.{AreStopTimes, TimeRow, checks, of_trip, trip_stop_checks, rows_from, sequence_of, sorted_from, sorted_trips, stop_time_of, stop_times_from, stop_times_of, stop_of, times_of, trip_events, trip_of, trips_aside, visit_checks}
 use Rattle.timetable.specs.declared.trips.Event.{Event}
 use Rattle.table_records.specs.declared.fault.FeedFault.{FeedFault}
 use Rattle.table_files.specs.WholeTrips.{events_of, is_aside, whole_trip_faults}
-use Rattle.table_files.specs.declared.stamps.Stamp.{Stamp}
+use Rattle.table_files.specs.declared.trip_times.StopTime.{StopTime}
 use Rattle.table_files.proofs.RowFacts.{first_map}
 use Rattle.table_files.proofs.SortedFacts.{All-insert_in_order, any_in_order, length-insert_in_order, number_in_order, sorted_at, sorted_more, sorted_none}
 
 -- the records with one more
-stamps_push : (trips stops : List (List ℕ)) (at : ℕ) (rows : List TimeRow) (r : TimeRow)
-    → stamps_from trips stops at (rows ++ r ∷ []) ≡ stamps_from trips stops at rows ++ (trip_of trips r, stamp_of stops (length rows + at) r) ∷ []
-stamps_push trips stops at [] r =
+stop_times_push : (trips stops : List (List ℕ)) (at : ℕ) (rows : List TimeRow) (r : TimeRow)
+    → stop_times_from trips stops at (rows ++ r ∷ []) ≡ stop_times_from trips stops at rows ++ (trip_of trips r, stop_time_of stops (length rows + at) r) ∷ []
+stop_times_push trips stops at [] r =
     let here : at ≡ length {A = TimeRow} [] + at = omega arith in
-    ap (λ (n : ℕ). (trip_of trips r, stamp_of stops n r) ∷ []) here
-stamps_push trips stops at (x ∷ rows) r =
+    ap (λ (n : ℕ). (trip_of trips r, stop_time_of stops n r) ∷ []) here
+stop_times_push trips stops at (x ∷ rows) r =
     let next : length rows + (at + 1) ≡ length (x ∷ rows) + at = omega arith in
-    ap (λ (l : List (ℕ × Stamp)). (trip_of trips x, stamp_of stops at x) ∷ l)
-    (stamps_push trips stops (at + 1) rows r ∙ ap (λ (n : ℕ). stamps_from trips stops (at + 1) rows ++ (trip_of trips r, stamp_of stops n r) ∷ []) next)
+    ap (λ (l : List (ℕ × StopTime)). (trip_of trips x, stop_time_of stops at x) ∷ l)
+    (stop_times_push trips stops (at + 1) rows r ∙ ap (λ (n : ℕ). stop_times_from trips stops (at + 1) rows ++ (trip_of trips r, stop_time_of stops n r) ∷ []) next)
 
 -- at most so much, where it is there
 abbrev AtMost : Option ℕ → ℕ → Type 0
@@ -107,14 +107,14 @@ module _ (trips stops : List (List ℕ)) (before : List TimeRow) (r : TimeRow) (
   told : (w : What) → slice_get (checks trips stops before r) 0 ≡ Some w → Told w
   told w h = first_map (λ x. record { file = StopTimes; at = length before + 2; what = x }) (checks trips stops before r) w h
 
-  pub tells_place : (w : What) → slice_get (place_checks trips stops r) 0 ≡ Some w → Told w
-  tells_place w h = told w (rw room (first_append _ _ w (first_append _ _ w h)))
+  pub tells_trip_stop : (w : What) → slice_get (trip_stop_checks trips stops r) 0 ≡ Some w → Told w
+  tells_trip_stop w h = told w (rw room (first_append _ _ w (first_append _ _ w h)))
 
-  module _ (placed : place_checks trips stops r ≡ []) where
-    pub tells_duplicate : has_number (sequence_of r) (of_trip (trip_of trips r) (stamps_of trips stops before)) ≡ true → Told what.DuplicateId
+  module _ (placed : trip_stop_checks trips stops r ≡ []) where
+    pub tells_duplicate : has_number (sequence_of r) (of_trip (trip_of trips r) (stop_times_of trips stops before)) ≡ true → Told what.DuplicateId
     tells_duplicate again = told what.DuplicateId (rw (room, placed, again) refl)
 
-    module _ (new : has_number (sequence_of r) (of_trip (trip_of trips r) (stamps_of trips stops before)) ≡ false) where
+    module _ (new : has_number (sequence_of r) (of_trip (trip_of trips r) (stop_times_of trips stops before)) ≡ false) where
       pub tells_visit : (w : What) → slice_get (visit_checks r) 0 ≡ Some w → Told w
       tells_visit w h = told w (rw (room, placed, new) h)
 
@@ -122,54 +122,54 @@ module _ (trips stops : List (List ℕ)) (before : List TimeRow) (r : TimeRow) (
       no_fault visited = rw (room, placed, new, visited) refl
 
 -- the records of the trips, with the trip of a record among them
-module _ (trips stops : List (List ℕ)) (all : List (List Stamp)) (before : List TimeRow) (r : TimeRow) (is : AreStamps trips stops all before)
-    (t : ℕ) (of : t ≡ trip_of trips r) (within : t < length trips) (old : List Stamp) (at : old ≡ get_or all t old) where
-  sorted : old ≡ in_order (of_trip t (stamps_of trips stops before))
+module _ (trips stops : List (List ℕ)) (all : List (List StopTime)) (before : List TimeRow) (r : TimeRow) (is : AreStopTimes trips stops all before)
+    (t : ℕ) (of : t ≡ trip_of trips r) (within : t < length trips) (old : List StopTime) (at : old ≡ get_or all t old) where
+  sorted : old ≡ in_order (of_trip t (stop_times_of trips stops before))
   sorted =
       let zero_on : t ≡ t + 0 = omega arith in
-      at ∙ ap (λ (l : List (List Stamp)). get_or l t old) is.sorted ∙ sorted_at (stamps_of trips stops before) t 0 t trips old zero_on within
+      at ∙ ap (λ (l : List (List StopTime)). get_or l t old) is.sorted ∙ sorted_at (stop_times_of trips stops before) t 0 t trips old zero_on within
 
-  pub has_same : (n : ℕ) → has_number n old ≡ has_number n (of_trip (trip_of trips r) (stamps_of trips stops before))
+  pub has_same : (n : ℕ) → has_number n old ≡ has_number n (of_trip (trip_of trips r) (stop_times_of trips stops before))
   has_same n =
-      ap (has_number n) sorted ∙ number_in_order n (of_trip t (stamps_of trips stops before)) ∙ ap (λ (k : ℕ). has_number n (of_trip k (stamps_of trips stops before))) of
+      ap (has_number n) sorted ∙ number_in_order n (of_trip t (stop_times_of trips stops before)) ∙ ap (λ (k : ℕ). has_number n (of_trip k (stop_times_of trips stops before))) of
 
   -- the records with one more
-  pub stamps_more : (stamp : Stamp) (new : List (List Stamp)) → length all ≡ length trips → length before < 8000000 → stamp ≡ stamp_of stops (length before + 2) r
-      → IfSome (stop_of stops r) (λ n. n < length stops) → new ≡ set all t (insert_in_order stamp old) → AreStamps trips stops new (before ++ r ∷ [])
-  stamps_more stamp new size few stamped stop put =
+  pub stop_times_more : (stop_time : StopTime) (new : List (List StopTime)) → length all ≡ length trips → length before < 8000000 → stop_time ≡ stop_time_of stops (length before + 2) r
+      → IfSome (stop_of stops r) (λ n. n < length stops) → new ≡ set all t (insert_in_order stop_time old) → AreStopTimes trips stops new (before ++ r ∷ [])
+  stop_times_more stop_time new size few is_stop_time stop put =
       let inside : t < length all = omega (arith, size, within) in
-      let added : stamps_of trips stops (before ++ r ∷ []) ≡ stamps_of trips stops before ++ (t, stamp) ∷ [] =
-      stamps_push trips stops 2 before r ∙ rw (stamped, of) refl in
+      let added : stop_times_of trips stops (before ++ r ∷ []) ≡ stop_times_of trips stops before ++ (t, stop_time) ∷ [] =
+      stop_times_push trips stops 2 before r ∙ rw (is_stop_time, of) refl in
       let zero_on : t ≡ t + 0 = omega arith in
-      let more = sorted_more (stamps_of trips stops before) t 0 t stamp trips old zero_on within sorted in
-      let sound : IsSound (length stops) stamp = subst (IsSound (length stops)) (sym stamped)
+      let more = sorted_more (stop_times_of trips stops before) t 0 t stop_time trips old zero_on within sorted in
+      let sound : IsSound (length stops) stop_time = subst (IsSound (length stops)) (sym is_stop_time)
       (record { stop = stop; times = times_small (time_of r.arrive) (time_of r.depart) (time_small r.arrive) (time_small r.depart) }) in
-      let sums = sum_by-set (length {A = Stamp}) all t (insert_in_order stamp old) old inside in
-      let old_length : length (get_or all t old) ≡ length old = ap (length {A = Stamp}) (sym at) in
-      let longer = length-insert_in_order stamp old in
+      let sums = sum_by-set (length {A = StopTime}) all t (insert_in_order stop_time old) old inside in
+      let old_length : length (get_or all t old) ≡ length old = ap (length {A = StopTime}) (sym at) in
+      let longer = length-insert_in_order stop_time old in
       let rows = length-append before (r ∷ []) in
       record {
         few = omega (arith, rows, few);
-        sorted = put ∙ ap (λ (l : List (List Stamp)). set l t (insert_in_order stamp old)) is.sorted ∙ sym more ∙ ap (λ (l : List (ℕ × Stamp)). sorted_from l 0 trips) (sym added);
-        total = ap (sum_by (length {A = Stamp})) put ∙ omega (arith, sums, old_length, longer, is.total, rows);
-        sound = rw put (All-set (All (IsSound (length stops))) all t (insert_in_order stamp old)
-            (All-insert_in_order (IsSound (length stops)) stamp old sound (subst (All (IsSound (length stops))) (sym at) (is.sound t old inside))) is.sound);
+        sorted = put ∙ ap (λ (l : List (List StopTime)). set l t (insert_in_order stop_time old)) is.sorted ∙ sym more ∙ ap (λ (l : List (ℕ × StopTime)). sorted_from l 0 trips) (sym added);
+        total = ap (sum_by (length {A = StopTime})) put ∙ omega (arith, sums, old_length, longer, is.total, rows);
+        sound = rw put (All-set (All (IsSound (length stops))) all t (insert_in_order stop_time old)
+            (All-insert_in_order (IsSound (length stops)) stop_time old sound (subst (All (IsSound (length stops))) (sym at) (is.sound t old inside))) is.sound);
       }
 
-sum_nothing : (n : ℕ) → sum_by (length {A = Stamp}) (replicate n []) ≡ 0
+sum_nothing : (n : ℕ) → sum_by (length {A = StopTime}) (replicate n []) ≡ 0
 sum_nothing zero = refl
-sum_nothing (suc n) = sum_by-cons (length {A = Stamp}) [] (replicate n []) ∙ omega (arith, sum_nothing n)
+sum_nothing (suc n) = sum_by-cons (length {A = StopTime}) [] (replicate n []) ∙ omega (arith, sum_nothing n)
 
-all_nothing : (n : ℕ) (P : Stamp → Type 0) → All (All P) (replicate n [])
+all_nothing : (n : ℕ) (P : StopTime → Type 0) → All (All P) (replicate n [])
 all_nothing zero P = All-nil (All P)
 all_nothing (suc n) P = All-cons (All P) [] (replicate n []) (All-nil P) (all_nothing n P)
 
 -- the records before the first one
-pub no_stamps : (trips stops : List (List ℕ)) (all : List (List Stamp)) → all ≡ replicate (length trips) [] → AreStamps trips stops all []
-no_stamps trips stops all empty = record {
+pub no_stop_times : (trips stops : List (List ℕ)) (all : List (List StopTime)) → all ≡ replicate (length trips) [] → AreStopTimes trips stops all []
+no_stop_times trips stops all empty = record {
   few = omega arith;
   sorted = empty ∙ sym (sorted_none 0 trips);
-  total = ap (sum_by (length {A = Stamp})) empty ∙ sum_nothing (length trips);
+  total = ap (sum_by (length {A = StopTime})) empty ∙ sum_nothing (length trips);
   sound = rw empty (all_nothing (length trips) (IsSound (length stops)));
 }
 
@@ -182,25 +182,25 @@ no_stop stops r = by (is_empty r.stop) _
     by false x = refl
 
 aside_of : (trips stops : List (List ℕ)) (t at : ℕ) (rows : List TimeRow)
-    → list_any (λ (s : Stamp). is_none s.stop) (of_trip t (stamps_from trips stops at rows)) ≡ list_any (λ (r : TimeRow). is_empty r.stop) (filter (λ (r : TimeRow). trip_of trips r == t) rows)
+    → list_any (λ (s : StopTime). is_none s.stop) (of_trip t (stop_times_from trips stops at rows)) ≡ list_any (λ (r : TimeRow). is_empty r.stop) (filter (λ (r : TimeRow). trip_of trips r == t) rows)
 aside_of trips stops t at [] = refl
 aside_of trips stops t at (r ∷ rows) = by (trip_of trips r == t) (aside_of trips stops t (at + 1) rows)
   where
-    by : (b : Bool) → list_any (λ (s : Stamp). is_none s.stop) (of_trip t (stamps_from trips stops (at + 1) rows)) ≡ list_any (λ (r : TimeRow). is_empty r.stop) (filter (λ (r : TimeRow). trip_of trips r == t) rows)
-        → list_any (λ (s : Stamp). is_none s.stop) (map (λ (s : ℕ × Stamp). s.1) (if b then (trip_of trips r, stamp_of stops at r) ∷ filter (λ (s : ℕ × Stamp). s.0 == t) (stamps_from trips stops (at + 1) rows) else filter (λ (s : ℕ × Stamp). s.0 == t) (stamps_from trips stops (at + 1) rows)))
+    by : (b : Bool) → list_any (λ (s : StopTime). is_none s.stop) (of_trip t (stop_times_from trips stops (at + 1) rows)) ≡ list_any (λ (r : TimeRow). is_empty r.stop) (filter (λ (r : TimeRow). trip_of trips r == t) rows)
+        → list_any (λ (s : StopTime). is_none s.stop) (map (λ (s : ℕ × StopTime). s.1) (if b then (trip_of trips r, stop_time_of stops at r) ∷ filter (λ (s : ℕ × StopTime). s.0 == t) (stop_times_from trips stops (at + 1) rows) else filter (λ (s : ℕ × StopTime). s.0 == t) (stop_times_from trips stops (at + 1) rows)))
         ≡ list_any (λ (x : TimeRow). is_empty x.stop) (if b then r ∷ filter (λ (x : TimeRow). trip_of trips x == t) rows else filter (λ (x : TimeRow). trip_of trips x == t) rows)
     by true e = rw (no_stop stops r, e) refl
     by false e = e
 
 asides_from : (trips stops : List (List ℕ)) (rows : List TimeRow) (t : ℕ) (ids : List (List ℕ))
-    → count_by is_aside (sorted_from (stamps_of trips stops rows) t ids) ≡ count_by (list_any (λ (r : TimeRow). is_empty r.stop)) (rows_from trips rows t ids)
+    → count_by is_aside (sorted_from (stop_times_of trips stops rows) t ids) ≡ count_by (list_any (λ (r : TimeRow). is_empty r.stop)) (rows_from trips rows t ids)
 asides_from trips stops rows t [] = refl
 asides_from trips stops rows t (id ∷ ids) =
-    let stamps = of_trip t (stamps_of trips stops rows) in
+    let trip_times = of_trip t (stop_times_of trips stops rows) in
     let mine = filter (λ (r : TimeRow). trip_of trips r == t) rows in
-    let here : is_aside (in_order stamps) ≡ list_any (λ (r : TimeRow). is_empty r.stop) mine =
-    any_in_order (λ (s : Stamp). is_none s.stop) stamps ∙ aside_of trips stops t 2 rows in
-    sum_by-cons (λ (l : List Stamp). cond (is_aside l) 1 0) (in_order stamps) (sorted_from (stamps_of trips stops rows) (t + 1) ids)
+    let here : is_aside (in_order trip_times) ≡ list_any (λ (r : TimeRow). is_empty r.stop) mine =
+    any_in_order (λ (s : StopTime). is_none s.stop) trip_times ∙ aside_of trips stops t 2 rows in
+    sum_by-cons (λ (l : List StopTime). cond (is_aside l) 1 0) (in_order trip_times) (sorted_from (stop_times_of trips stops rows) (t + 1) ids)
     ∙ (λ k. cond (here k) 1 0 + asides_from trips stops rows (t + 1) ids k)
     ∙ sym (sum_by-cons (λ (l : List TimeRow). cond (list_any (λ (r : TimeRow). is_empty r.stop) l) 1 0) mine (rows_from trips rows (t + 1) ids))
 
@@ -208,8 +208,8 @@ pub asides : (trips stops : List (List ℕ)) (rows : List TimeRow) → count_by 
 asides trips stops rows = asides_from trips stops rows 0 trips
 
 -- what the records say, where neither they nor whole trips have a fault
-pub read_whole : (trips stops : List (List ℕ)) (faults : List FeedFault) (rows given : List TimeRow) (all : List (List Stamp)) (events : List (List Event)) (aside : ℕ)
-    → faults ≡ [] → rows ≡ given → AreStamps trips stops all given → whole_trip_faults all ≡ [] → events ≡ map events_of all → aside ≡ count_by is_aside all
+pub read_whole : (trips stops : List (List ℕ)) (faults : List FeedFault) (rows given : List TimeRow) (all : List (List StopTime)) (events : List (List Event)) (aside : ℕ)
+    → faults ≡ [] → rows ≡ given → AreStopTimes trips stops all given → whole_trip_faults all ≡ [] → events ≡ map events_of all → aside ≡ count_by is_aside all
     → (faults ++ whole_trip_faults (sorted_trips trips stops rows) ≡ []) × (events ≡ trip_events trips stops rows) × (aside ≡ trips_aside trips rows)
 read_whole trips stops faults rows given all events aside none same is whole events_are aside_is =
     let sorted : all ≡ sorted_trips trips stops rows = is.sorted ∙ ap (sorted_trips trips stops) (sym same) in (

@@ -3,6 +3,7 @@
 use Rattle.std.specs.Prelude.{◌≡◌, ℕ, List, [], ◌∷◌, ◌++◌, codes, is_none, length, map, nat_le, position}
 use Rattle.std.specs.List.{list_any}
 use Rattle.std.specs.Str.{bytes_eq}
+use Rattle.timetable.specs.declared.limits.TheConstants.{MOST_TRIPS}
 use Rattle.table_records.specs.Columns.{column, field}
 use Rattle.table_records.specs.Fields.{is_empty}
 use Rattle.table_records.specs.Faults.{when}
@@ -42,7 +43,7 @@ row_of header = row_at (columns_of header)
 -- the faults of a record, in the order of their checks, by the identifiers of the feed's routes
 abbrev pub checks : List (List ℕ) → List TripRow → TripRow → List What
 checks routes before r =
-    when (nat_le 1000000 (length before)) what.TooMany
+    when (nat_le MOST_TRIPS (length before)) what.TooMany
     ++ when (is_empty r.route) what.EmptyId
     ++ when (is_none (position (bytes_eq r.route) routes)) what.UnknownRoute
     ++ when (is_empty r.service) what.EmptyId
@@ -56,7 +57,7 @@ trip_faults routes bytes = table_faults file.Trips required row_of (checks route
 abbrev pub trip_rows : List ℕ → List TripRow
 trip_rows bytes = table_rows row_of (records_of bytes)
 
--- the identifiers of the trips, in file order: a trip's number is its place here
+-- the identifiers of the trips, in file order: a trip's number is its position here
 abbrev pub trip_ids : List TripRow → List (List ℕ)
 trip_ids rows = map (λ r. r.id) rows
 

@@ -1,5 +1,5 @@
 pub mod Order
-pub mod Stamps
+pub mod TripTimes
 pub mod Fill
 pub mod StopTimes
 pub mod WholeTrips
@@ -12,5 +12,5 @@ pub mod Frequencies
 pub mod FeedTrips
 pub mod Children
 pub mod Ends
-pub mod Places
+pub mod Locations
 pub mod Transfers

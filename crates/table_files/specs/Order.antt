@@ -1,13 +1,13 @@
 -- The ascending order of a trip's records.
 use Rattle.std.specs.Prelude.{◌≡◌, List}
 use Rattle.std.specs.List.Sorted.{IsPermutation}
-use Rattle.table_files.specs.Stamps.{IsAscending, in_order}
-use Rattle.table_files.specs.declared.stamps.Stamp.{Stamp}
+use Rattle.table_files.specs.TripTimes.{IsAscending, in_order}
+use Rattle.table_files.specs.declared.trip_times.StopTime.{StopTime}
 
 -- putting records in order keeps them
 abbrev pub KeepsAll : Type 0
-KeepsAll = (stamps : List Stamp) → IsPermutation stamps (in_order stamps)
+KeepsAll = (trip_times : List StopTime) → IsPermutation trip_times (in_order trip_times)
 
 -- records have one ascending order
 abbrev pub IsOne : Type 0
-IsOne = (xs ys : List Stamp) → IsPermutation xs ys → IsAscending 0 xs → IsAscending 0 ys → xs ≡ ys
+IsOne = (xs ys : List StopTime) → IsPermutation xs ys → IsAscending 0 xs → IsAscending 0 ys → xs ≡ ys

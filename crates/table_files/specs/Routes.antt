@@ -40,7 +40,7 @@ checks before r =
 abbrev pub route_faults : List ℕ → List FeedFault
 route_faults bytes = table_faults file.Routes required row_of checks (records_of bytes)
 
--- the identifiers of the routes, in file order: a route's number is its place here
+-- the identifiers of the routes, in file order: a route's number is its position here
 abbrev pub routes_of : List RouteRow → List (List ℕ)
 routes_of rows = map (λ r. r.id) rows
 

@@ -4,6 +4,7 @@
 use Rattle.std.specs.Prelude.{◌≡◌, ◌≤◌, ◌+◌, ◌==◌, ◌&&◌, ℕ, Bool, List, [], ◌∷◌, ◌++◌, Option, Some, None, codes, count_by, filter, length, map, not, sum_by, All, is_none, nat_le, position, unwrap_or, if◌then◌else◌}
 use Rattle.std.specs.List.{list_any}
 use Rattle.std.specs.Str.{bytes_eq}
+use Rattle.timetable.specs.declared.limits.TheConstants.{MOST_EVENTS}
 use Rattle.table_records.specs.Columns.{column, field}
 use Rattle.table_records.specs.Fields.{is_empty, number_of, time_of, trimmed}
 use Rattle.table_records.specs.Faults.{when}
@@ -16,10 +17,10 @@ use Rattle.table_records.specs.declared.fault.What.TheVariants as what
 use Rattle.timetable.specs.declared.trips.Event.{Event}
 use Rattle.table_files.specs.Children.{is_number}
 use Rattle.table_files.specs.Services.{number_in}
-use Rattle.table_files.specs.Stamps.{IsSound, has_number, in_order}
+use Rattle.table_files.specs.TripTimes.{IsSound, has_number, in_order}
 use Rattle.table_files.specs.WholeTrips.{events_of, whole_trip_faults}
-use Rattle.table_files.specs.declared.stamps.Stamp.{Stamp}
-use Rattle.table_files.specs.declared.stamps.Times.{Times}
+use Rattle.table_files.specs.declared.trip_times.StopTime.{StopTime}
+use Rattle.table_files.specs.declared.trip_times.Times.{Times}
 use Rattle.table_files.specs.declared.stop_times.TimeColumns.{TimeColumns}
 
 -- what counts of a record
@@ -68,7 +69,7 @@ trip_of trips r = number_in trips r.trip
 abbrev pub stop_of : List (List ℕ) → TimeRow → Option ℕ
 stop_of stops r = if is_empty r.stop then None else Some (number_in stops r.stop)
 
--- a record's place along its trip
+-- a record's position along its trip
 abbrev pub sequence_of : TimeRow → ℕ
 sequence_of r = unwrap_or (number_of r.sequence) 0
 
@@ -84,8 +85,8 @@ abbrev pub allows : List ℕ → Bool
 allows text = not (is_number 1 (number_of text))
 
 -- what a record says of its trip, by its number in the file and the identifiers of all stops
-abbrev pub stamp_of : List (List ℕ) → ℕ → TimeRow → Stamp
-stamp_of stops at r = record {
+abbrev pub stop_time_of : List (List ℕ) → ℕ → TimeRow → StopTime
+stop_time_of stops at r = record {
   sequence = sequence_of r;
   at = at;
   stop = stop_of stops r;
@@ -95,25 +96,25 @@ stamp_of stops at r = record {
 }
 
 -- the records from a number on, each with the number of its trip
-abbrev pub stamps_from : List (List ℕ) → List (List ℕ) → ℕ → List TimeRow → List (ℕ × Stamp)
-stamps_from trips stops at [] = []
-stamps_from trips stops at (r ∷ rest) = (trip_of trips r, stamp_of stops at r) ∷ stamps_from trips stops (at + 1) rest
+abbrev pub stop_times_from : List (List ℕ) → List (List ℕ) → ℕ → List TimeRow → List (ℕ × StopTime)
+stop_times_from trips stops at [] = []
+stop_times_from trips stops at (r ∷ rest) = (trip_of trips r, stop_time_of stops at r) ∷ stop_times_from trips stops (at + 1) rest
 
 -- all records, the header being record 1
-abbrev pub stamps_of : List (List ℕ) → List (List ℕ) → List TimeRow → List (ℕ × Stamp)
-stamps_of trips stops rows = stamps_from trips stops 2 rows
+abbrev pub stop_times_of : List (List ℕ) → List (List ℕ) → List TimeRow → List (ℕ × StopTime)
+stop_times_of trips stops rows = stop_times_from trips stops 2 rows
 
 -- the records of one trip, in file order
-abbrev pub of_trip : ℕ → List (ℕ × Stamp) → List Stamp
-of_trip trip stamps = map (λ s. s.1) (filter (λ s. s.0 == trip) stamps)
+abbrev pub of_trip : ℕ → List (ℕ × StopTime) → List StopTime
+of_trip trip trip_times = map (λ s. s.1) (filter (λ s. s.0 == trip) trip_times)
 
 -- a text that has no value of its kind, though it is not empty
 abbrev pub is_wrong : (List ℕ → Option ℕ) → List ℕ → Bool
 is_wrong value text = not (is_empty text) && is_none (value text)
 
--- what is wrong with a record's trip, stop and place
-abbrev pub place_checks : List (List ℕ) → List (List ℕ) → TimeRow → List What
-place_checks trips stops r =
+-- what is wrong with a record's trip, stop and position
+abbrev pub trip_stop_checks : List (List ℕ) → List (List ℕ) → TimeRow → List What
+trip_stop_checks trips stops r =
     when (is_empty r.trip) what.EmptyId
     ++ when (is_none (position (bytes_eq r.trip) trips)) what.UnknownTrip
     ++ when (is_wrong (λ id. position (bytes_eq id) stops) r.stop) what.UnknownStop
@@ -130,19 +131,19 @@ visit_checks r =
 -- what is wrong with a record, in the order of the checks
 abbrev pub checks : List (List ℕ) → List (List ℕ) → List TimeRow → TimeRow → List What
 checks trips stops before r =
-    when (nat_le 8000000 (length before)) what.TooMany
-    ++ place_checks trips stops r
-    ++ when (has_number (sequence_of r) (of_trip (trip_of trips r) (stamps_of trips stops before))) what.DuplicateId
+    when (nat_le MOST_EVENTS (length before)) what.TooMany
+    ++ trip_stop_checks trips stops r
+    ++ when (has_number (sequence_of r) (of_trip (trip_of trips r) (stop_times_of trips stops before))) what.DuplicateId
     ++ visit_checks r
 
 -- the records of each trip from a number on, in ascending order of their sequence numbers
-abbrev pub sorted_from : List (ℕ × Stamp) → ℕ → List (List ℕ) → List (List Stamp)
-sorted_from stamps t [] = []
-sorted_from stamps t (id ∷ ids) = in_order (of_trip t stamps) ∷ sorted_from stamps (t + 1) ids
+abbrev pub sorted_from : List (ℕ × StopTime) → ℕ → List (List ℕ) → List (List StopTime)
+sorted_from trip_times t [] = []
+sorted_from trip_times t (id ∷ ids) = in_order (of_trip t trip_times) ∷ sorted_from trip_times (t + 1) ids
 
 -- the records of all trips, in the order of trips.txt
-abbrev pub sorted_trips : List (List ℕ) → List (List ℕ) → List TimeRow → List (List Stamp)
-sorted_trips trips stops rows = sorted_from (stamps_of trips stops rows) 0 trips
+abbrev pub sorted_trips : List (List ℕ) → List (List ℕ) → List TimeRow → List (List StopTime)
+sorted_trips trips stops rows = sorted_from (stop_times_of trips stops rows) 0 trips
 
 -- the records after the header
 abbrev pub time_rows : List ℕ → List TimeRow
@@ -167,8 +168,8 @@ abbrev pub trips_aside : List (List ℕ) → List TimeRow → ℕ
 trips_aside trips rows = count_by (list_any (λ r. is_empty r.stop)) (rows_from trips rows 0 trips)
 
 -- the lists have the records of each trip
-pub record AreStamps (trips stops : List (List ℕ)) (stamps : List (List Stamp)) (rows : List TimeRow) : Type 0 where
-  pub few : length rows ≤ 8000000
-  pub sorted : stamps ≡ sorted_trips trips stops rows
-  pub total : sum_by length stamps ≡ length rows
-  pub sound : All (All (IsSound (length stops))) stamps
+pub record AreStopTimes (trips stops : List (List ℕ)) (trip_times : List (List StopTime)) (rows : List TimeRow) : Type 0 where
+  pub few : length rows ≤ MOST_EVENTS
+  pub sorted : trip_times ≡ sorted_trips trips stops rows
+  pub total : sum_by length trip_times ≡ length rows
+  pub sound : All (All (IsSound (length stops))) trip_times

@@ -1,8 +1,10 @@
--- What transfers.txt says: walks between stops and stations.
+-- What transfers.txt says: walks between stops and stations, and change times of stops.
 -- A row counts where it says how long a walk takes, of any vehicle to any other; all other rows are unused.
+-- A row of type 2 from a stop to itself states how long a change between two vehicles at the stop takes at least, and one from
+-- a station to itself states that for each of its stops, beside the walks between these.
 -- (GTFS Schedule reference, transfers.txt: types 0 to 2 are recommended, timed and minimum times of a change; type 3 forbids a change,
 -- 4 and 5 are changes without leaving the vehicle.)
-use Rattle.std.specs.Prelude.{◌≡◌, ◌+◌, ◌-◌, ◌&&◌, ℕ, Bool, false, List, [], ◌∷◌, ◌++◌, Option, Some, None, codes, is_none, is_some, length, nat_le, not, position, slice_get, unwrap_or, if◌then◌else◌}
+use Rattle.std.specs.Prelude.{◌≡◌, ◌+◌, ◌-◌, ◌&&◌, ◌||◌, ◌==◌, ℕ, Bool, false, List, [], ◌∷◌, ◌++◌, Option, Some, None, codes, is_none, is_some, length, nat_le, not, position, slice_get, unwrap_or, if◌then◌else◌}
 use Rattle.std.specs.List.{enumerate_from, filter_map}
 use Rattle.std.specs.Str.{bytes_eq}
 use Rattle.table_records.specs.Columns.{column, field}
@@ -22,7 +24,7 @@ use Rattle.table_files.specs.declared.transfers.TransferColumns.{TransferColumns
 use Rattle.table_files.specs.declared.transfers.Transfers.{Transfers}
 use Rattle.table_files.specs.Children.{IsPlace, stops_at}
 use Rattle.table_files.specs.Ends.{pairs_between}
-use Rattle.table_files.specs.Places.{PlaceData, kind_of, place_named}
+use Rattle.table_files.specs.Locations.{LocationData, kind_of, location_named}
 
 -- the fields of a record that are read
 pub record TransferRow : Type 0 where
@@ -79,7 +81,16 @@ is_walk (Some kind) = nat_le kind 2
 abbrev pub is_used : TransferRow → Bool
 is_used r = is_walk (kind_of r.kind) && is_general r && is_whole r
 
--- what is wrong with a row that is used, in the order of the checks, by the identifiers of all places
+-- the type of a minimum time
+abbrev pub is_minimum : Option ℕ → Bool
+is_minimum None = false
+is_minimum (Some kind) = kind == 2
+
+-- the row states a change time: a minimum time from a place to itself
+abbrev pub is_change : TransferRow → Bool
+is_change r = is_minimum (kind_of r.kind) && bytes_eq r.from r.to
+
+-- what is wrong with a row that is used, in the order of the checks, by the identifiers of all locations
 abbrev pub used_checks : List (List ℕ) → TransferRow → List What
 used_checks names r =
     when (is_none (position (bytes_eq r.from) names)) what.UnknownStop
@@ -100,14 +111,15 @@ transfer_faults names bytes = faults_after file.Transfers (checks names) [] (tra
 
 -- the place that an end names
 abbrev pub end_of : List (List ℕ) → List Place → List ℕ → Place
-end_of names places id = unwrap_or (place_named names places id) Other
+end_of names locations id = unwrap_or (location_named names locations id) Other
 
 -- the values of a record with its number
-abbrev pub link_at : PlaceData → ℕ → TransferRow → Link
-link_at places at r = record {
-  origin = end_of places.names places.places r.from;
-  target = end_of places.names places.places r.to;
+abbrev pub link_at : LocationData → ℕ → TransferRow → Link
+link_at locations at r = record {
+  origin = end_of locations.names locations.locations r.from;
+  target = end_of locations.names locations.locations r.to;
   seconds = unwrap_or (number_of r.time) 0;
+  changes = is_change r;
   at = at;
 }
 
@@ -119,19 +131,31 @@ pairs_of children link = pairs_between (stops_at link.origin children) (stops_at
 abbrev pub gives_pair : List (List StopNo) → Link → Bool
 gives_pair children link = is_some (slice_get (pairs_of children link) 0)
 
--- the link of a row that is used and gives a pair
-abbrev pub link_of : PlaceData → ℕ → TransferRow → Option Link
-link_of places at r = if is_used r && gives_pair places.children (link_at places at r) then Some (link_at places at r) else None
+-- the stops that a link states a change time for
+abbrev pub changes_at : List (List StopNo) → Link → List StopNo
+changes_at children link = if link.changes then stops_at link.origin children else []
+
+-- there is a first one
+abbrev pub gives_change : List (List StopNo) → Link → Bool
+gives_change children link = is_some (slice_get (changes_at children link) 0)
+
+-- the link gives a pair or a change time
+abbrev pub gives_any : List (List StopNo) → Link → Bool
+gives_any children link = gives_pair children link || gives_change children link
+
+-- the link of a row that is used and gives a pair or a change time
+abbrev pub link_of : LocationData → ℕ → TransferRow → Option Link
+link_of locations at r = if is_used r && gives_any locations.children (link_at locations at r) then Some (link_at locations at r) else None
 
 -- the links of the rows, each with the number of its record
-abbrev pub links_of : PlaceData → List TransferRow → List Link
-links_of places rows = filter_map (λ x. link_of places x.0 x.1) (enumerate_from 2 rows)
+abbrev pub links_of : LocationData → List TransferRow → List Link
+links_of locations rows = filter_map (λ x. link_of locations x.0 x.1) (enumerate_from 2 rows)
 
 -- how many rows give no link
-abbrev pub unused_of : PlaceData → List TransferRow → ℕ
-unused_of places rows = length rows - length (links_of places rows)
+abbrev pub unused_of : LocationData → List TransferRow → ℕ
+unused_of locations rows = length rows - length (links_of locations rows)
 
--- both ends of a link are places with these numbers of stops and stations
+-- both ends of a link are locations with these numbers of stops and stations
 pub record IsLink (stops stations : ℕ) (link : Link) : Type 0 where
   pub origin : IsPlace stops stations link.origin
   pub target : IsPlace stops stations link.target
@@ -142,6 +166,6 @@ Takes (Some link) old new = (new.links.items ≡ old.links.items ++ link ∷ [])
 Takes None old new = (new.links.items ≡ old.links.items) × (new.unused ≡ old.unused + 1)
 
 -- what the rows make
-pub record AreTransfers (places : PlaceData) (t : Transfers) (rows : List TransferRow) : Type 0 where
-  pub links : t.links.items ≡ links_of places rows
+pub record AreTransfers (locations : LocationData) (t : Transfers) (rows : List TransferRow) : Type 0 where
+  pub links : t.links.items ≡ links_of locations rows
   pub unused : t.unused + length t.links.items ≡ length rows

@@ -4,6 +4,7 @@
 -- (GTFS Schedule reference, stop_times.txt: arrival_time, departure_time.)
 use Rattle.std.specs.Prelude.{◌≤◌, ◌<◌, ◌-◌, ◌||◌, ℕ, Bool, false, List, [], ◌∷◌, ◌++◌, length, map, slice_get, sum_by, All, Option, Some, None, is_none, nat_lt, if◌then◌else◌}
 use Rattle.std.specs.List.{list_any}
+use Rattle.timetable.specs.declared.limits.TheConstants.{MOST_EVENTS}
 use Rattle.timetable.specs.Trips.{EventsRise}
 use Rattle.timetable.specs.declared.trips.Event.{Event}
 use Rattle.table_records.specs.declared.fault.FeedFault.{FeedFault}
@@ -11,21 +12,21 @@ use Rattle.table_records.specs.declared.fault.FileName.TheVariants.{StopTimes}
 use Rattle.table_records.specs.declared.fault.What.{What}
 use Rattle.table_records.specs.declared.fault.What.TheVariants.{NoTime, TimesGoBack}
 use Rattle.table_files.specs.Fill.{filled}
-use Rattle.table_files.specs.declared.stamps.Stamp.{Stamp}
-use Rattle.table_files.specs.declared.stamps.Times.{Times}
+use Rattle.table_files.specs.declared.trip_times.StopTime.{StopTime}
+use Rattle.table_files.specs.declared.trip_times.Times.{Times}
 
 -- whether a trip is set aside: one of its records names no stop
-abbrev pub is_aside : List Stamp → Bool
-is_aside stamps = list_any (λ s. is_none s.stop) stamps
+abbrev pub is_aside : List StopTime → Bool
+is_aside trip_times = list_any (λ s. is_none s.stop) trip_times
 
 -- the record of an event, if it has no time
-abbrev pub untimed : Option Stamp → List ℕ
+abbrev pub untimed : Option StopTime → List ℕ
 untimed None = []
 untimed (Some s) = if is_none s.times then s.at ∷ [] else []
 
 -- the records of the first and the last event, where they have no time
-abbrev pub untimed_ends : List Stamp → List ℕ
-untimed_ends stamps = untimed (slice_get stamps 0) ++ untimed (slice_get stamps (length stamps - 1))
+abbrev pub untimed_ends : List StopTime → List ℕ
+untimed_ends trip_times = untimed (slice_get trip_times 0) ++ untimed (slice_get trip_times (length trip_times - 1))
 
 -- whether a trip goes back at an event, given the last departure before it
 abbrev pub goes_back : ℕ → Option Times → Bool
@@ -38,7 +39,7 @@ departed last None = last
 departed last (Some t) = t.depart
 
 -- the records at which a trip goes back
-abbrev pub records_back : ℕ → List Stamp → List ℕ
+abbrev pub records_back : ℕ → List StopTime → List ℕ
 records_back last [] = []
 records_back last (s ∷ rest) = (if goes_back last s.times then s.at ∷ [] else []) ++ records_back (departed last s.times) rest
 
@@ -47,21 +48,21 @@ abbrev pub faults_of : What → List ℕ → List FeedFault
 faults_of w records = map (λ at. record { file = StopTimes; at = at; what = w }) records
 
 -- the faults of a whole trip
-abbrev pub trip_faults : List Stamp → List FeedFault
-trip_faults stamps = if is_aside stamps then [] else faults_of NoTime (untimed_ends stamps) ++ faults_of TimesGoBack (records_back 0 stamps)
+abbrev pub trip_faults : List StopTime → List FeedFault
+trip_faults trip_times = if is_aside trip_times then [] else faults_of NoTime (untimed_ends trip_times) ++ faults_of TimesGoBack (records_back 0 trip_times)
 
 -- the faults of whole trips, trip by trip
-abbrev pub whole_trip_faults : List (List Stamp) → List FeedFault
+abbrev pub whole_trip_faults : List (List StopTime) → List FeedFault
 whole_trip_faults [] = []
-whole_trip_faults (stamps ∷ rest) = trip_faults stamps ++ whole_trip_faults rest
+whole_trip_faults (trip_times ∷ rest) = trip_faults trip_times ++ whole_trip_faults rest
 
 -- the events of a trip
-abbrev pub events_of : List Stamp → List Event
-events_of stamps = if is_aside stamps then [] else filled stamps
+abbrev pub events_of : List StopTime → List Event
+events_of trip_times = if is_aside trip_times then [] else filled trip_times
 
 -- the events of all trips: few enough, each at one of the stops and within 168 hours, and no trip goes back in time
 pub record AreEvents (stops : ℕ) (trips : List (List Event)) : Type 0 where
-  pub few : sum_by length trips ≤ 8000000
+  pub few : sum_by length trips ≤ MOST_EVENTS
   pub at_stops : All (λ t. All (λ e. e.stop.0 < stops) t) trips
   pub in_time : All (λ t. All (λ e. (e.arrive ≤ 604799) × (e.depart ≤ 604799)) t) trips
   pub rise : All EventsRise trips

@@ -1,6 +1,7 @@
 //! The stops of each station.
 
 ghost use Rattle.std.specs.Prelude.{◌≡◌, ◌<◌, ◌≤◌, ◌∷◌, ◌++◌, ◌^◌, [], List, length, map, replicate, slice_get, slice_set, Some, IfOk};
+ghost use Rattle.timetable.specs.declared.limits.TheConstants.{MOST_STOPS};
 ghost use Rattle.timetable.specs.declared.trips.StopNo.{StopNo};
 ghost use Rattle.table_files.specs.Children as spec;
 
@@ -62,7 +63,7 @@ pub fn children_of(
     stations: &Identifiers,
     parents: &[Vec<u8>],
 ) -> Result<Children, AllocError>
-    requires { length parents.now ≤ 65535 }
+    requires { length parents.now ≤ MOST_STOPS }
     ensures { IfOk result (λ c. c ≡ spec.children_of stations.now (map (λ v. v.items) parents.now)) }
 {
     let mut children = Children::none(alloc, stations.len())?;

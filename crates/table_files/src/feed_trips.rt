@@ -11,14 +11,12 @@ use std::alloc::Global;
 use table_records::{
     FeedFault, FileName, Identifiers, RecordReader, What, column, field, open_table, read_records,
 };
-
-/// The most trips of a feed.
-pub const MOST_TRIPS: u64 = 1_000_000;
+use timetable::MOST_TRIPS;
 
 /// The numbers of a trip's route and service.
 #[derive(Clone, Copy, PartialEq, Eq)]
 pub struct TripNumbers {
-    /// The route's place in `routes.txt`.
+    /// The route's position in `routes.txt`.
     pub route: u32,
     /// The service's number: services are numbered from 0 as they are first named.
     pub service: u32,
@@ -73,7 +71,7 @@ impl<'a> RecordReader for TripReader<'a> {
         at: u64,
         row: &ByteRecord,
     ) -> Result<(), FeedFault> {
-        if at > MOST_TRIPS + 1 {
+        if at > MOST_TRIPS as u64 + 1 {
             return Err(FeedFault::at(FileName::Trips, at, What::TooMany));
         }
         let route = field(row, self.columns.route);

@@ -1,10 +1,11 @@
 //! The times of events that have none, by their nearest timed events.
 
 ghost use Rattle.std.specs.Prelude.{◌≡◌, ◌≤◌, ◌<◌, ◌-◌, Some, None, length, option_map, unwrap_or, IfOk, IfSome};
+ghost use Rattle.timetable.specs.declared.limits.TheConstants.{MOST_EVENTS};
 ghost use Rattle.table_files.specs.declared.fill.Neighbour.{Neighbour};
 ghost use Rattle.table_files.specs.Fill as spec;
 
-use crate::stamps::{Stamp, Times};
+use crate::trip_times::{StopTime, Times};
 use std::alloc::{AllocError, Global};
 use timetable::{Event, StopNo};
 
@@ -19,34 +20,34 @@ pub struct Neighbour {
 /// The events of a trip's records, which all name their stops.
 ///
 /// An event without times gets those between its nearest timed events, in equal steps, rounded down.
-pub fn filled(alloc: Global, stamps: &[Stamp]) -> Result<Vec<Event>, AllocError>
-    requires { length stamps.now ≤ 8000000 }
-    ensures { IfOk result (λ v. v.items ≡ spec.filled stamps.now) }
+pub fn filled(alloc: Global, trip_times: &[StopTime]) -> Result<Vec<Event>, AllocError>
+    requires { length trip_times.now ≤ MOST_EVENTS }
+    ensures { IfOk result (λ v. v.items ≡ spec.filled trip_times.now) }
 {
-    let mut events = Vec::with_capacity(alloc, stamps.len())?;
+    let mut events = Vec::with_capacity(alloc, trip_times.len())?;
     let mut before = None;
-    let mut next = nearest(stamps);
-    for i in 0..stamps.len() {
-        let stamp = stamps[i];
-        let after = match stamp.times {
-            Some(_) => nearest(&stamps[i + 1..]),
+    let mut next = nearest(trip_times);
+    for i in 0..trip_times.len() {
+        let stop_time = trip_times[i];
+        let after = match stop_time.times {
+            Some(_) => nearest(&trip_times[i + 1..]),
             None => approached(next),
         };
-        events.push(event_at(stamp, before, after))?;
-        before = nearer(stamp.times, before);
+        events.push(event_at(stop_time, before, after))?;
+        before = nearer(stop_time.times, before);
         next = after;
     }
     Ok(events)
 }
 
 // The nearest timed event among some. All calls of a trip together look at each record at most twice.
-fn nearest(stamps: &[Stamp]) -> Option<Neighbour>
-    requires { length stamps.now ≤ 8000000 }
-    ensures { result ≡ spec.nearest stamps.now }
+fn nearest(trip_times: &[StopTime]) -> Option<Neighbour>
+    requires { length trip_times.now ≤ MOST_EVENTS }
+    ensures { result ≡ spec.nearest trip_times.now }
 {
     let mut untimed = 0;
-    for stamp in stamps {
-        if let Some(times) = stamp.times {
+    for stop_time in trip_times {
+        if let Some(times) = stop_time.times {
             return Some(Neighbour { times, untimed });
         }
         untimed += 1;
@@ -67,7 +68,7 @@ fn approached(next: Option<Neighbour>) -> Option<Neighbour>
 
 // The nearest timed event before the next event.
 fn nearer(times: Option<Times>, beyond: Option<Neighbour>) -> Option<Neighbour>
-    requires { IfSome beyond (λ n. n.untimed ≤ 8000000) }
+    requires { IfSome beyond (λ n. n.untimed ≤ MOST_EVENTS) }
     ensures { result ≡ spec.nearer times beyond }
 {
     match (times, beyond) {
@@ -81,28 +82,28 @@ fn nearer(times: Option<Times>, beyond: Option<Neighbour>) -> Option<Neighbour>
 }
 
 // The event of a record between its nearest timed events.
-fn event_at(stamp: Stamp, before: Option<Neighbour>, after: Option<Neighbour>) -> Event
-    requires before { IfSome before (λ n. n.untimed ≤ 8000000) }
-    requires after { IfSome after (λ n. n.untimed ≤ 8000000) }
-    ensures { result ≡ spec.event_at stamp (unwrap_or stamp.times (spec.between before after)) }
+fn event_at(stop_time: StopTime, before: Option<Neighbour>, after: Option<Neighbour>) -> Event
+    requires before { IfSome before (λ n. n.untimed ≤ MOST_EVENTS) }
+    requires after { IfSome after (λ n. n.untimed ≤ MOST_EVENTS) }
+    ensures { result ≡ spec.event_at stop_time (unwrap_or stop_time.times (spec.between before after)) }
 {
-    let times = match stamp.times {
+    let times = match stop_time.times {
         Some(times) => times,
         None => between(before, after),
     };
     Event {
-        stop: StopNo(stamp.stop.unwrap_or(0)),
+        stop: StopNo(stop_time.stop.unwrap_or(0)),
         arrive: times.arrive,
         depart: times.depart,
-        board: stamp.board,
-        alight: stamp.alight,
+        board: stop_time.board,
+        alight: stop_time.alight,
     }
 }
 
 // The times of an event that has none.
 fn between(before: Option<Neighbour>, after: Option<Neighbour>) -> Times
-    requires before { IfSome before (λ n. n.untimed ≤ 8000000) }
-    requires after { IfSome after (λ n. n.untimed ≤ 8000000) }
+    requires before { IfSome before (λ n. n.untimed ≤ MOST_EVENTS) }
+    requires after { IfSome after (λ n. n.untimed ≤ MOST_EVENTS) }
     ensures { result ≡ spec.between before after }
 {
     match (before, after) {

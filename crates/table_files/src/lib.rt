@@ -2,14 +2,14 @@
 //! (GTFS Schedule reference: `stops.txt`, `routes.txt`, `calendar.txt`, `calendar_dates.txt`, `trips.txt`, `stop_times.txt`, `frequencies.txt`,
 //! `transfers.txt`.)
 //!
-//! - [`read_places`] gives the stops, stations and other places, and the stops of each station.
+//! - [`read_locations`] gives the stops, stations and other locations, and the stops of each station.
 //! - [`read_routes`] gives the identifiers of the routes, and [`read_feed_trips`] the trips with their routes and services.
 //! - [`read_calendar`] and [`read_calendar_dates`] give the days of the services.
 //! - [`read_stop_times`] gives the events of each trip, in the order in which the vehicle makes them, with the times that the file leaves open.
 //! - [`read_frequencies`] gives the departures of the trips that run at a headway.
 //! - [`read_transfers`] gives the walks between stops and stations.
 //!
-//! Beside the readers stand `children` and `ends` (the stops for which a place stands), `stamps` (the records of one
+//! Beside the readers stand `children` and `ends` (the stops for which a place stands), `trip_times` (the records of one
 //! trip, in order), `whole_trips` (what is checked once all records of a trip are known) and `fill` (the times of events that have none).
 //! `specs/` has one module per file, with its checks in their order.
 #![tactic(auto)]
@@ -22,14 +22,14 @@ mod ends;
 mod feed_trips;
 mod fill;
 mod frequencies;
+mod locations;
 mod order;
 mod place;
-mod places;
 mod routes;
 mod services;
-mod stamps;
 mod stop_times;
 mod transfers;
+mod trip_times;
 mod whole_trips;
 
 pub use calendar::{Calendar, CalendarRow, read_calendar};
@@ -38,11 +38,11 @@ pub use children::Children;
 pub use ends::Ends;
 pub use feed_trips::{FeedTrips, TripNumbers, read_feed_trips};
 pub use frequencies::{Departures, no_departures, read_frequencies};
+pub use locations::{Locations, read_locations};
 pub use order::one_order;
 pub use place::Place;
-pub use places::{Places, read_places};
 pub use routes::read_routes;
-pub use stamps::{Stamp, Times};
 pub use stop_times::read_stop_times;
 pub use transfers::{Link, Transfers, read_transfers};
+pub use trip_times::{StopTime, Times};
 pub use whole_trips::StopTimes;

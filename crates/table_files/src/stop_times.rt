@@ -1,6 +1,7 @@
 //! The events of each trip: `stop_times.txt`.
 
 ghost use Rattle.std.specs.Prelude.{◌≡◌, ◌≤◌, ◌<◌, [], true, false, length, position, replicate, slice_get, IfOk, IfErr, IfSome, if◌then◌else◌};
+ghost use Rattle.timetable.specs.declared.limits.TheConstants.{MOST_STOPS, MOST_TRIPS};
 ghost use Rattle.std.specs.Str.{bytes_eq};
 ghost use Rattle.csv.specs.Records.{fields_of};
 ghost use Rattle.table_records.specs.Faults.{Tells};
@@ -11,7 +12,7 @@ ghost use Rattle.table_files.specs.StopTimes.{is_wrong};
 ghost use Rattle.table_files.specs.StopTimes as spec;
 ghost use Rattle.table_files.specs.WholeTrips.{AreEvents};
 
-use crate::stamps::{Stamp, Stamps, Times};
+use crate::trip_times::{StopTime, Times, TripTimes};
 use crate::whole_trips::{StopTimes, events_of_trips};
 use csv::ByteRecord;
 use std::alloc::{AllocError, Global};
@@ -19,9 +20,7 @@ use table_records::{
     FeedFault, FileName, Identifiers, RecordReader, What, column, field, number, open_table,
     read_records, read_time, trim,
 };
-
-/// The most records of `stop_times.txt`.
-pub const MOST_RECORDS: u64 = 8_000_000;
+use timetable::MOST_EVENTS;
 
 /// The columns of `stop_times.txt` that are read.
 #[derive(Clone, Copy)]
@@ -43,15 +42,15 @@ pub struct TimeReader<'a> {
     pub stops: &'a Identifiers,
 }
 
-// Which trip a record is of, where it stops, and its place along the trip.
+// Which trip a record is of, where it stops, and its position along the trip.
 #[derive(Clone, Copy)]
-struct Place {
+struct TripStop {
     trip: usize,
     stop: Option<u32>,
     sequence: u32,
 }
 
-// When a trip is at its place, and whether travellers may board and alight there.
+// When a trip is at its stop, and whether travellers may board and alight there.
 #[derive(Clone, Copy)]
 struct Visit {
     times: Option<Times>,
@@ -62,9 +61,9 @@ struct Visit {
 impl<'a> RecordReader for TimeReader<'a> {
     ghost use Rattle.std.specs.Prelude.{◌≡◌, ◌≤◌, length};
     ghost use Rattle.table_records.specs.declared.fault.FileName.TheVariants as file_name;
-    ghost use Rattle.table_files.specs.StopTimes.{AreStamps, TimeRow, row_at, checks};
+    ghost use Rattle.table_files.specs.StopTimes.{AreStopTimes, TimeRow, row_at, checks};
 
-    type Table = Vec<Stamps>;
+    type Table = Vec<TripTimes>;
 
     ghost Row = { TimeRow };
 
@@ -74,36 +73,36 @@ impl<'a> RecordReader for TimeReader<'a> {
 
     ghost checks = { λ s. checks s.trips.now s.stops.now };
 
-    ghost After = { λ s _ rows now. AreStamps s.trips.now s.stops.now now.items rows };
+    ghost After = { λ s _ rows now. AreStopTimes s.trips.now s.stops.now now.items rows };
 
-    ghost HasRoom = { λ s table _. (length s.stops.now ≤ 65535) × (length table.items ≡ length s.trips.now) };
+    ghost HasRoom = { λ s table _. (length s.stops.now ≤ MOST_STOPS) × (length table.items ≡ length s.trips.now) };
 
     fn add(
         &self,
         _alloc: Global,
-        table: &mut Vec<Stamps>,
+        table: &mut Vec<TripTimes>,
         at: u64,
         row: &ByteRecord,
     ) -> Result<(), FeedFault> {
-        if at > MOST_RECORDS + 1 {
+        if at > MOST_EVENTS as u64 + 1 {
             return Err(FeedFault::at(FileName::StopTimes, at, What::TooMany));
         }
-        let place = match self.place(row) {
-            Ok(place) => place,
+        let trip_stop = match self.trip_stop(row) {
+            Ok(trip_stop) => trip_stop,
             Err(what) => return Err(FeedFault::at(FileName::StopTimes, at, what)),
         };
-        let stamps = &mut table[place.trip];
-        if stamps.has(place.sequence) {
+        let trip_times = &mut table[trip_stop.trip];
+        if trip_times.has(trip_stop.sequence) {
             return Err(FeedFault::at(FileName::StopTimes, at, What::DuplicateId));
         }
         let visit = match self.visit(row) {
             Ok(visit) => visit,
             Err(what) => return Err(FeedFault::at(FileName::StopTimes, at, what)),
         };
-        stamps.insert(Stamp {
-            sequence: place.sequence,
+        trip_times.insert(StopTime {
+            sequence: trip_stop.sequence,
             at: at as u32,
-            stop: place.stop,
+            stop: trip_stop.stop,
             times: visit.times,
             board: visit.board,
             alight: visit.alight,
@@ -114,14 +113,14 @@ impl<'a> RecordReader for TimeReader<'a> {
 
 impl<'a> TimeReader<'a> {
     // Where a record belongs.
-    fn place(&self, row: &ByteRecord) -> Result<Place, What>
-        requires { length self.now.stops.now ≤ 65535 }
+    fn trip_stop(&self, row: &ByteRecord) -> Result<TripStop, What>
+        requires { length self.now.stops.now ≤ MOST_STOPS }
         ensures good { let r = spec.row_at self.now.columns (fields_of row.now) in
-            IfOk result (λ p. (spec.place_checks self.now.trips.now self.now.stops.now r ≡ []) × (p.trip ≡ spec.trip_of self.now.trips.now r)
+            IfOk result (λ p. (spec.trip_stop_checks self.now.trips.now self.now.stops.now r ≡ []) × (p.trip ≡ spec.trip_of self.now.trips.now r)
             × (p.stop ≡ spec.stop_of self.now.stops.now r) × (p.sequence ≡ spec.sequence_of r)) }
         ensures inside { IfOk result (λ p. (p.trip < length self.now.trips.now) × IfSome p.stop (λ n. n < length self.now.stops.now)) }
         ensures fault { let r = spec.row_at self.now.columns (fields_of row.now) in
-            IfErr result (λ e. slice_get (spec.place_checks self.now.trips.now self.now.stops.now r) 0 ≡ Some e) }
+            IfErr result (λ e. slice_get (spec.trip_stop_checks self.now.trips.now self.now.stops.now r) 0 ≡ Some e) }
     {
         let trip = field(row, self.columns.trip);
         if trip.is_empty() {
@@ -134,7 +133,7 @@ impl<'a> TimeReader<'a> {
         let Some(sequence) = number(trim(field(row, self.columns.sequence))) else {
             return Err(What::BadNumber);
         };
-        Ok(Place {
+        Ok(TripStop {
             trip,
             stop,
             sequence,
@@ -162,7 +161,7 @@ impl<'a> TimeReader<'a> {
 
 // The number of a stop, none where the text is empty.
 fn read_stop(text: &[u8], stops: &Identifiers) -> Result<Option<u32>, What>
-    requires { length stops.now ≤ 65535 }
+    requires { length stops.now ≤ MOST_STOPS }
     ensures good { IfOk result (λ stop. (is_wrong (λ id. position (bytes_eq id) stops.now) text.now ≡ false)
         × (stop ≡ (if is_empty text.now then None else Some (number_in stops.now text.now)))) }
     ensures inside { IfOk result (λ stop. IfSome stop (λ n. n < length stops.now)) }
@@ -228,12 +227,12 @@ fn columns_in(header: &ByteRecord) -> TimeColumns
 }
 
 // No records yet, for each of the trips.
-fn no_records(alloc: Global, count: usize) -> Result<Vec<Stamps>, AllocError>
+fn no_records(alloc: Global, count: usize) -> Result<Vec<TripTimes>, AllocError>
     ensures { IfOk result (λ v. v.items ≡ replicate count []) }
 {
     let mut trips = Vec::with_capacity(alloc, count)?;
     for _ in 0..count {
-        trips.push(Stamps::new(alloc))?;
+        trips.push(TripTimes::new(alloc))?;
     }
     Ok(trips)
 }
@@ -247,8 +246,8 @@ pub fn read_stop_times(
     trips: &Identifiers,
     stops: &Identifiers,
 ) -> Result<StopTimes, FeedFault>
-    requires few { length stops.now ≤ 65535 }
-    requires trips { length trips.now ≤ 1000000 }
+    requires few { length stops.now ≤ MOST_STOPS }
+    requires trips { length trips.now ≤ MOST_TRIPS }
     requires size { length bytes.now ≤ 1073741824 }
     ensures good { IfOk result (λ t. (spec.time_faults trips.now stops.now bytes.now ≡ [])
         × (t.trips.items ≡ spec.trip_events trips.now stops.now (spec.time_rows bytes.now))

@@ -1,4 +1,4 @@
-//! Walks between stops and stations: `transfers.txt`.
+//! Walks between stops and stations, and change times: `transfers.txt`.
 
 ghost use Rattle.std.specs.Prelude.{◌≡◌, ◌≤◌, ◌<◌, ◌+◌, ◌^◌, ◌∷◌, ◌++◌, [], All, Some, length, map, IfOk, IfErr};
 ghost use Rattle.csv.specs.Records.{fields_of};
@@ -9,8 +9,8 @@ ghost use Rattle.table_records.specs.declared.fault.FileName.TheVariants as file
 ghost use Rattle.table_files.specs.Transfers as spec;
 
 use crate::ends::have_pair;
+use crate::locations::{Locations, kind_number};
 use crate::place::Place;
-use crate::places::{Places, kind_number};
 use csv::ByteRecord;
 use std::alloc::{AllocError, Global};
 use table_records::{
@@ -19,17 +19,20 @@ use table_records::{
 };
 
 /// A walk from one place to another, as a row of `transfers.txt` states it. A station stands for all its stops.
+/// A row of type 2 from a place to itself states a change time too: how long a change between two vehicles there takes at least.
 #[derive(Clone, Copy, Debug, PartialEq, Eq)]
 pub struct Link {
     pub origin: Place,
     pub target: Place,
-    /// How long the walk takes.
+    /// How long the walk takes, or the change.
     pub seconds: u32,
+    /// Whether the row states a change time, for the stop or for each stop of the station.
+    pub changes: bool,
     /// The number of the record, counted from 1 with the header.
     pub at: u64,
 }
 
-/// What `transfers.txt` says: the rows that give a walk, in file order, and how many rows give none.
+/// What `transfers.txt` says: the rows that give a walk or a change time, in file order, and how many rows give neither.
 #[derive(Debug, Drop)]
 pub struct Transfers {
     pub links: Vec<Link>,
@@ -57,7 +60,8 @@ fn lacks(row: &ByteRecord, column: Option<usize>) -> bool
 }
 
 impl TransferColumns {
-    ghost use Rattle.std.specs.Prelude.{◌≡◌, ◌≤◌, ◌&&◌, nat_le};
+    ghost use Rattle.std.specs.Prelude.{◌≡◌, ◌==◌, ◌≤◌, ◌&&◌, nat_le};
+    ghost use Rattle.std.specs.Str.{bytes_eq};
     ghost use Rattle.table_files.specs.Transfers.{is_general, is_whole, row_at};
 
     // Whether a row holds for every route and trip.
@@ -83,31 +87,39 @@ impl TransferColumns {
     {
         kind <= 2 && self.is_general(row) && self.is_whole(row)
     }
+
+    // Whether a row with this type states a change time.
+    fn is_change(&self, kind: u32, row: &ByteRecord) -> bool
+        ensures { result ≡ ((kind == 2) && bytes_eq (row_at self.now (fields_of row.now)).from (row_at self.now (fields_of row.now)).to) }
+    {
+        kind == 2 && field(row, self.from) == field(row, self.to)
+    }
 }
 
-/// A reader of `transfers.txt`, whose records name the feed's places.
+/// A reader of `transfers.txt`, whose records name the feed's locations.
 #[derive(Drop)]
 pub struct TransferReader<'a> {
     pub columns: TransferColumns,
-    pub places: &'a Places,
+    pub locations: &'a Locations,
 }
 
 impl<'a> TransferReader<'a> {
     ghost use Rattle.std.specs.Prelude.{◌≡◌, [], length, map, IfOk, IfErr, IfSome};
-    ghost use Rattle.table_files.specs.Transfers.{IsLink, checks, link_at, link_of, row_at, used_checks};
+    ghost use Rattle.table_files.specs.Transfers.{IsLink, checks, is_change, link_at, link_of, row_at, used_checks};
 
-    // The values of a row that is used.
-    fn link(&self, at: u64, row: &ByteRecord) -> Result<Link, FeedFault>
-        ensures good { IfOk result (λ link. (used_checks self.now.places.now.names (row_at self.now.columns (fields_of row.now)) ≡ [])
-            × (link ≡ link_at self.now.places.now at (row_at self.now.columns (fields_of row.now)))) }
-        ensures in_range { IfOk result (λ link. IsLink (length self.now.places.now.stops) (length self.now.places.now.stations) link) }
+    // The values of a row that is used, and states a change time or none.
+    fn link(&self, at: u64, changes: bool, row: &ByteRecord) -> Result<Link, FeedFault>
+        requires { changes ≡ is_change (row_at self.now.columns (fields_of row.now)) }
+        ensures good { IfOk result (λ link. (used_checks self.now.locations.now.names (row_at self.now.columns (fields_of row.now)) ≡ [])
+            × (link ≡ link_at self.now.locations.now at (row_at self.now.columns (fields_of row.now)))) }
+        ensures in_range { IfOk result (λ link. IsLink (length self.now.locations.now.stops) (length self.now.locations.now.stations) link) }
         ensures fault { IfErr result (λ e. IsFirst e (map (λ w. record { file = file_name.Transfers; at = at; what = w })
-            (used_checks self.now.places.now.names (row_at self.now.columns (fields_of row.now))))) }
+            (used_checks self.now.locations.now.names (row_at self.now.columns (fields_of row.now))))) }
     {
-        let Some(origin) = self.places.place(field(row, self.columns.from)) else {
+        let Some(origin) = self.locations.place(field(row, self.columns.from)) else {
             return Err(FeedFault::at(FileName::Transfers, at, What::UnknownStop));
         };
-        let Some(target) = self.places.place(field(row, self.columns.to)) else {
+        let Some(target) = self.locations.place(field(row, self.columns.to)) else {
             return Err(FeedFault::at(FileName::Transfers, at, What::UnknownStop));
         };
         let Some(seconds) = number(trim(field(row, self.columns.time))) else {
@@ -117,16 +129,17 @@ impl<'a> TransferReader<'a> {
             origin,
             target,
             seconds,
+            changes,
             at,
         })
     }
 
-    // The link of a row, if it gives one.
+    // The link of a row, if it gives a walk or a change time.
     fn link_in(&self, at: u64, row: &ByteRecord) -> Result<Option<Link>, FeedFault>
-        ensures good { IfOk result (λ link. (checks self.now.places.now.names [] (row_at self.now.columns (fields_of row.now)) ≡ [])
-            × (link ≡ link_of self.now.places.now at (row_at self.now.columns (fields_of row.now)))) }
+        ensures good { IfOk result (λ link. (checks self.now.locations.now.names [] (row_at self.now.columns (fields_of row.now)) ≡ [])
+            × (link ≡ link_of self.now.locations.now at (row_at self.now.columns (fields_of row.now)))) }
         ensures fault { IfErr result (λ e. IsFirst e (map (λ w. record { file = file_name.Transfers; at = at; what = w })
-            (checks self.now.places.now.names [] (row_at self.now.columns (fields_of row.now))))) }
+            (checks self.now.locations.now.names [] (row_at self.now.columns (fields_of row.now))))) }
     {
         let Some(kind) = kind_number(trim(field(row, self.columns.kind))) else {
             return Err(FeedFault::at(FileName::Transfers, at, What::BadNumber));
@@ -134,20 +147,37 @@ impl<'a> TransferReader<'a> {
         if !self.columns.is_used(kind, row) {
             return Ok(None);
         }
-        let link = self.link(at, row)?;
-        if !self.gives_pair(link) {
+        let link = self.link(at, self.columns.is_change(kind, row), row)?;
+        if !self.gives_any(link) {
             return Ok(None);
         }
         Ok(Some(link))
     }
 
+    // Whether a link gives a pair or a change time.
+    fn gives_any(&self, link: Link) -> bool
+        requires { IsLink (length self.now.locations.now.stops) (length self.now.locations.now.stations) link }
+        ensures { result ≡ spec.gives_any self.now.locations.now.children link }
+    {
+        self.gives_pair(link) || self.gives_change(link)
+    }
+
+    // Whether a link states a change time for some stop.
+    fn gives_change(&self, link: Link) -> bool
+        requires { IsLink (length self.now.locations.now.stops) (length self.now.locations.now.stations) link }
+        ensures { result ≡ spec.gives_change self.now.locations.now.children link }
+    {
+        let stops = self.locations.stops_at(link.origin);
+        link.changes && !stops.as_slice().is_empty()
+    }
+
     // Whether a link's ends give a pair of different stops.
     fn gives_pair(&self, link: Link) -> bool
-        requires { IsLink (length self.now.places.now.stops) (length self.now.places.now.stations) link }
-        ensures { result ≡ spec.gives_pair self.now.places.now.children link }
+        requires { IsLink (length self.now.locations.now.stops) (length self.now.locations.now.stations) link }
+        ensures { result ≡ spec.gives_pair self.now.locations.now.children link }
     {
-        let from = self.places.stops_at(link.origin);
-        let to = self.places.stops_at(link.target);
+        let from = self.locations.stops_at(link.origin);
+        let to = self.locations.stops_at(link.target);
         have_pair(from.as_slice(), to.as_slice())
     }
 }
@@ -181,9 +211,9 @@ impl<'a> RecordReader for TransferReader<'a> {
 
     ghost row_of = { λ s. row_at s.columns };
 
-    ghost checks = { λ s. checks s.places.now.names };
+    ghost checks = { λ s. checks s.locations.now.names };
 
-    ghost After = { λ s _ rows now. AreTransfers s.places.now now rows };
+    ghost After = { λ s _ rows now. AreTransfers s.locations.now now rows };
 
     ghost HasRoom = { λ _ table at. table.unused + 2 ≤ at };
 
@@ -227,17 +257,22 @@ fn open_file(alloc: Global, bytes: &[u8]) -> Result<OpenTable<'_>, AllocError>
     Ok(OpenTable { header, rows })
 }
 
-/// The walks of `transfers.txt`, or its first fault. No column is required, nor any record.
+/// The walks and change times of `transfers.txt`, or its first fault. No column is required, nor any record.
 ///
 /// A row counts where its type is empty or at most 2, it names no route and no trip, it has a `min_transfer_time`, and its ends stand
-/// for two different stops at least; all other rows are counted as unused. The bytes are at most 2^30, the limit of an input file.
-pub fn read_transfers(alloc: Global, bytes: &[u8], places: &Places) -> Result<Transfers, FeedFault>
+/// for two different stops at least, or its type is 2 and its two ends are one stop or one station with stops; all other rows are
+/// counted as unused. The bytes are at most 2^30, the limit of an input file.
+pub fn read_transfers(
+    alloc: Global,
+    bytes: &[u8],
+    locations: &Locations,
+) -> Result<Transfers, FeedFault>
     requires { length bytes.now ≤ 1073741824 }
-    ensures good { IfOk result (λ t. (spec.transfer_faults places.now.names bytes.now ≡ [])
-        × (t.links.items ≡ spec.links_of places.now (spec.transfer_rows bytes.now))
-        × (t.unused ≡ spec.unused_of places.now (spec.transfer_rows bytes.now))) }
-    ensures in_range { IfOk result (λ t. All (spec.IsLink (length places.now.stops) (length places.now.stations)) t.links.items) }
-    ensures fault { IfErr result (λ e. Tells e (spec.transfer_faults places.now.names bytes.now)) }
+    ensures good { IfOk result (λ t. (spec.transfer_faults locations.now.names bytes.now ≡ [])
+        × (t.links.items ≡ spec.links_of locations.now (spec.transfer_rows bytes.now))
+        × (t.unused ≡ spec.unused_of locations.now (spec.transfer_rows bytes.now))) }
+    ensures in_range { IfOk result (λ t. All (spec.IsLink (length locations.now.stops) (length locations.now.stations)) t.links.items) }
+    ensures fault { IfErr result (λ e. Tells e (spec.transfer_faults locations.now.names bytes.now)) }
 {
     let mut file = open_file(alloc, bytes)?;
     let mut transfers = Transfers {
@@ -246,10 +281,10 @@ pub fn read_transfers(alloc: Global, bytes: &[u8], places: &Places) -> Result<Tr
     };
     let reader = TransferReader {
         columns: columns_in(&file.header),
-        places,
+        locations,
     };
     let read = read_records(alloc, &reader, &mut transfers, &mut file.rows);
     drop(file);
-    places.known();
+    locations.known();
     read.and(Ok(transfers))
 }

@@ -1,11 +1,12 @@
 //! What is checked once all records of a trip are known, and the events that they give.
 
 ghost use Rattle.std.specs.Prelude.{◌≡◌, ◌≤◌, [], count_by, length, map, slice_get, sum_by, IfOk, IfErr};
+ghost use Rattle.timetable.specs.declared.limits.TheConstants.{MOST_EVENTS, MOST_TRIPS};
 ghost use Rattle.table_records.specs.Faults.{Tells};
 ghost use Rattle.table_files.specs.WholeTrips as spec;
 
 use crate::fill::filled;
-use crate::stamps::{Stamp, Stamps, Times};
+use crate::trip_times::{StopTime, Times, TripTimes};
 use std::alloc::Global;
 use table_records::{FeedFault, FileName, What};
 use timetable::Events;
@@ -20,17 +21,17 @@ pub struct StopTimes {
 }
 
 /// The events of each trip, or the first fault of a whole trip.
-pub fn events_of_trips(alloc: Global, trips: Vec<Stamps>) -> Result<StopTimes, FeedFault>
-    requires trips { length trips.items ≤ 1000000 }
-    requires records { sum_by length trips.items ≤ 8000000 }
+pub fn events_of_trips(alloc: Global, trips: Vec<TripTimes>) -> Result<StopTimes, FeedFault>
+    requires trips { length trips.items ≤ MOST_TRIPS }
+    requires records { sum_by length trips.items ≤ MOST_EVENTS }
     ensures good { IfOk result (λ t. (spec.whole_trip_faults trips.items ≡ []) × (t.trips.items ≡ map spec.events_of trips.items)
         × (t.aside ≡ count_by spec.is_aside trips.items)) }
     ensures fault { IfErr result (λ e. Tells e (spec.whole_trip_faults trips.items)) }
 {
     let mut all = Vec::with_capacity(alloc, trips.len())?;
     let mut aside = 0;
-    for stamps in trips {
-        let records = stamps.into_vec();
+    for trip_times in trips {
+        let records = trip_times.into_vec();
         let is_aside = is_aside(records.as_slice());
         let events = events_of_trip(alloc, records.as_slice(), is_aside)?;
         all.push(events)?;
@@ -40,58 +41,62 @@ pub fn events_of_trips(alloc: Global, trips: Vec<Stamps>) -> Result<StopTimes, F
 }
 
 // Whether one of a trip's records names no stop.
-fn is_aside(stamps: &[Stamp]) -> bool
-    ensures { result ≡ spec.is_aside stamps.now }
+fn is_aside(trip_times: &[StopTime]) -> bool
+    ensures { result ≡ spec.is_aside trip_times.now }
 {
-    stamps.iter().any(|stamp| stamp.stop.is_none())
+    trip_times.iter().any(|stop_time| stop_time.stop.is_none())
 }
 
 // The events of one trip.
-fn events_of_trip(alloc: Global, stamps: &[Stamp], is_aside: bool) -> Result<Events, FeedFault>
-    requires few { length stamps.now ≤ 8000000 }
-    requires aside { is_aside ≡ spec.is_aside stamps.now }
-    ensures good { IfOk result (λ events. (spec.trip_faults stamps.now ≡ []) × (events ≡ spec.events_of stamps.now)) }
-    ensures fault { IfErr result (λ e. Tells e (spec.trip_faults stamps.now)) }
+fn events_of_trip(
+    alloc: Global,
+    trip_times: &[StopTime],
+    is_aside: bool,
+) -> Result<Events, FeedFault>
+    requires few { length trip_times.now ≤ MOST_EVENTS }
+    requires aside { is_aside ≡ spec.is_aside trip_times.now }
+    ensures good { IfOk result (λ events. (spec.trip_faults trip_times.now ≡ []) × (events ≡ spec.events_of trip_times.now)) }
+    ensures fault { IfErr result (λ e. Tells e (spec.trip_faults trip_times.now)) }
 {
     if is_aside {
         return Ok(Events::new(Vec::new(alloc)));
     }
-    if let Some(at) = first_untimed_end(stamps) {
+    if let Some(at) = first_untimed_end(trip_times) {
         return Err(FeedFault::at(FileName::StopTimes, u64::from(at), What::NoTime));
     }
-    if let Some(at) = first_record_back(stamps) {
+    if let Some(at) = first_record_back(trip_times) {
         return Err(FeedFault::at(FileName::StopTimes, u64::from(at), What::TimesGoBack));
     }
-    Ok(Events::new(filled(alloc, stamps)?))
+    Ok(Events::new(filled(alloc, trip_times)?))
 }
 
 // The record of the first event, or else of the last one, that has no time.
-fn first_untimed_end(stamps: &[Stamp]) -> Option<u32>
-    ensures { result ≡ slice_get (spec.untimed_ends stamps.now) 0 }
+fn first_untimed_end(trip_times: &[StopTime]) -> Option<u32>
+    ensures { result ≡ slice_get (spec.untimed_ends trip_times.now) 0 }
 {
-    untimed(stamps.first().copied()).or(untimed(stamps.last().copied()))
+    untimed(trip_times.first().copied()).or(untimed(trip_times.last().copied()))
 }
 
 // The record of an event that has no time.
-fn untimed(stamp: Option<Stamp>) -> Option<u32>
-    ensures { result ≡ slice_get (spec.untimed stamp) 0 }
+fn untimed(stop_time: Option<StopTime>) -> Option<u32>
+    ensures { result ≡ slice_get (spec.untimed stop_time) 0 }
 {
-    match stamp {
-        Some(stamp) if stamp.times.is_none() => Some(stamp.at),
+    match stop_time {
+        Some(stop_time) if stop_time.times.is_none() => Some(stop_time.at),
         _ => None,
     }
 }
 
 // The record of the first event at which a trip goes back.
-fn first_record_back(stamps: &[Stamp]) -> Option<u32>
-    ensures { result ≡ slice_get (spec.records_back 0 stamps.now) 0 }
+fn first_record_back(trip_times: &[StopTime]) -> Option<u32>
+    ensures { result ≡ slice_get (spec.records_back 0 trip_times.now) 0 }
 {
     let mut departed = 0;
-    for stamp in stamps {
-        if goes_back(departed, stamp.times) {
-            return Some(stamp.at);
+    for stop_time in trip_times {
+        if goes_back(departed, stop_time.times) {
+            return Some(stop_time.at);
         }
-        departed = stamp.times.map_or(departed, |times| times.depart);
+        departed = stop_time.times.map_or(departed, |times| times.depart);
     }
     None
 }

@@ -1,7 +1,7 @@
 -- The faults of records, one record at a time.
-use Rattle.std.proofs.Common.{◌≡◌, ℕ, Bool, true, List, [], ◌∷◌, ◌++◌, map, Some, refl, sym, ap, subst, inl, inr, ◌∙◌}
+use Rattle.std.proofs.Common.{◌≡◌, List, [], ◌∷◌, ◌++◌, Some, refl, sym, ap, subst, inl, inr, append_assoc, ◌∙◌}
 use Rattle.std.specs.Prelude.{slice_get}
-use Rattle.table_records.specs.Table.{Gives}
+use Rattle.std.proofs.lemmas.List.{append-nil}
 use Rattle.table_records.specs.Faults.{Tells, faults_after, faults_at}
 use Rattle.table_records.specs.declared.fault.FeedFault.{FeedFault}
 use Rattle.table_records.specs.declared.fault.FileName.{FileName}
@@ -15,21 +15,19 @@ pub tells_more : (e : FeedFault) (xs ys : List FeedFault) → Tells e xs → Tel
 tells_more e xs ys t = elim t [ inl m ↦ inl m | inr h ↦ inr (first_append xs ys e h) ]
 
 module _ {R : Type 0} (file : FileName) (checks : List R → R → List What) where
-  -- a record without fault
-  pub faults_pass : (seen rest : List R) (r : R) → checks seen r ≡ [] → faults_after file checks (seen ++ r ∷ []) rest ≡ faults_after file checks seen (r ∷ rest)
-  faults_pass seen rest r h = rw h refl
+  faults_append : (seen xs ys : List R) → faults_after file checks seen (xs ++ ys) ≡ faults_after file checks seen xs ++ faults_after file checks (seen ++ xs) ys
+  faults_append seen [] ys = ap (λ (s : List R). faults_after file checks s ys) (sym (append-nil seen))
+  faults_append seen (x ∷ xs) ys =
+      ap (λ (l : List FeedFault). faults_at file checks seen x ++ l)
+      (faults_append (seen ++ x ∷ []) xs ys ∙ ap (λ (s : List R). faults_after file checks (seen ++ x ∷ []) xs ++ faults_after file checks s ys) (append_assoc seen (x ∷ []) xs))
+      ∙ sym (append_assoc (faults_at file checks seen x) (faults_after file checks (seen ++ x ∷ []) xs) (faults_after file checks (seen ++ x ∷ xs) ys))
 
-  -- the first fault of a record is that of the records from it on
-  pub faults_first : (e : FeedFault) (seen rest : List R) (r : R) → Tells e (faults_at file checks seen r) → Tells e (faults_after file checks seen (r ∷ rest))
-  faults_first e seen rest r t = tells_more e _ _ t
+  -- one record more without fault
+  pub faults_pass : (before : List R) (r : R) → faults_after file checks [] before ≡ [] → checks before r ≡ [] → faults_after file checks [] (before ++ r ∷ []) ≡ []
+  faults_pass before r none h = faults_append [] before (r ∷ []) ∙ rw (none, h) refl
 
-  -- and so of all records, where those before it have none
-  pub faults_told : (e : FeedFault) (seen left rest : List R) (r : R) (all : List FeedFault) → left ≡ r ∷ rest → faults_after file checks seen left ≡ all
-      → Tells e (faults_at file checks seen r) → Tells e all
-  faults_told e seen left rest r all next is t = subst (Tells e) (ap (λ (l : List R). faults_after file checks seen l) (sym next) ∙ is) (faults_first e seen rest r t)
-
--- the next record of those that are left, as rows of a type
-pub given_row : {R : Type 0} (row : List (List ℕ) → R) (rows rest : List (List (List ℕ))) (found : Bool) (fields : List (List ℕ)) (left : List R) → found ≡ true → Gives rows found fields rest
-    → left ≡ map row rows → left ≡ row fields ∷ map row rest
-given_row row [] rest found fields left t g e = cc (t, g.0)
-given_row row (r ∷ rs) rest found fields left t g e = e ∙ rw (g.1, g.2) refl
+  -- the first fault of a record is that of all records, where those before it have none
+  pub faults_told : (e : FeedFault) (before after : List R) (r : R) → faults_after file checks [] before ≡ [] → Tells e (faults_at file checks before r)
+      → Tells e (faults_after file checks [] (before ++ r ∷ after))
+  faults_told e before after r none t =
+      subst (Tells e) (sym (faults_append [] before (r ∷ after) ∙ ap (λ (l : List FeedFault). l ++ faults_after file checks before (r ∷ after)) none)) (tells_more e _ _ t)

@@ -1,4 +1,4 @@
--- A field at a place, and the first column that passes a test.
+-- A field at a position, and the first column that passes a test.
 use Rattle.std.proofs.Common.{◌≡◌, ◌<◌, ◌≤◌, ℕ, zero, suc, Bool, true, false, List, [], ◌∷◌, length, get_or, position, slice_get, nat_lt, Some, None, refl, arith}
 use Rattle.std.specs.List.{position_or_len}
 use Rattle.std.proofs.lemmas.List.Sums.{position_or_len_is}

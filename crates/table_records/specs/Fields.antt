@@ -49,7 +49,7 @@ number_of text =
 abbrev pub sixty : ℕ → ℕ → Option ℕ
 sixty a b = if nat_le 48 a && nat_le a 53 && is_digit b then Some (10 * (a - 48) + (b - 48)) else None
 
--- the two digits of the minutes or seconds, from a place in the text on
+-- the two digits of the minutes or seconds, from a position in the text on
 abbrev pub sixty_at : ℕ → List ℕ → Option ℕ
 sixty_at i text = sixty (slice_index text i) (slice_index text (i + 1))
 
@@ -57,7 +57,7 @@ sixty_at i text = sixty (slice_index text i) (slice_index text (i + 1))
 abbrev pub hours_of : List ℕ → Option ℕ
 hours_of text = option_and_then (λ h. if nat_le h 167 then Some h else None) (number_of text)
 
--- a colon stands at a place in the text
+-- a colon stands at a position in the text
 abbrev pub is_colon : ℕ → List ℕ → Bool
 is_colon i text = slice_index text i == 58
 

@@ -6,7 +6,7 @@ ghost use Rattle.table_records.specs.Columns as spec;
 
 use csv::ByteRecord;
 
-/// The place of a column, from 0: the first one of a header that has this name.
+/// The position of a column, from 0: the first one of a header that has this name.
 ///
 /// The spaces around a header's field don't count; `name` has to be without them.
 pub fn column(header: &ByteRecord, name: &[u8]) -> Option<usize>

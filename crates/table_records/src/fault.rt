@@ -57,6 +57,15 @@ pub enum What {
     Memory,
 }
 
+/// Why the records of a file can't be read by the columns of its header.
+#[derive(Clone, Copy)]
+pub enum HeaderFault {
+    /// There is no header, or it lacks a required column.
+    MissingColumn,
+    /// There was no memory; nothing is said of the file.
+    Memory,
+}
+
 /// The first fault of the files that were read.
 ///
 /// Records are counted from 1 with the header, as a spreadsheet shows them; an absent file is

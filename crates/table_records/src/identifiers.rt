@@ -9,7 +9,7 @@ use std::alloc::{AllocError, Global};
 use std::marker::Model;
 
 /// Identifiers in the order in which they came, each once. An identifier is a string of bytes,
-/// compared exactly; its number is its place in the order.
+/// compared exactly; its number is its position in the order.
 #[derive(Drop)]
 pub struct Identifiers {
     set: IndexSet<Vec<u8>>,

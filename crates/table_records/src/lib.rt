@@ -7,8 +7,9 @@
 //! - `fields`: [`trim`], [`number`], [`read_time`] and [`read_date`] give texts their values.
 //! - `identifiers`: [`Identifiers`] numbers stops, routes, trips and services.
 //! - `reading`: [`open_table`] reads a header with its required columns, and [`read_records`] record after record by a
-//!   [`RecordReader`], up to the first fault.
-//! - `fault`: [`FeedFault`] says what is wrong ([`What`]), in which file and record.
+//!   [`RecordReader`], up to the first fault. [`open_records`] and [`take_records`] do the same for a file with faults of its
+//!   own, by a [`RecordTaker`].
+//! - `fault`: [`FeedFault`] says what is wrong ([`What`]), in which file and record; [`HeaderFault`], that a header can't be used.
 //!
 //! The rules are those of the GTFS Schedule reference ("File requirements" and "Field types"),
 //! with the grammars of times and numbers narrowed to what the engine counts with. Their
@@ -23,8 +24,10 @@ mod reading;
 mod rows;
 
 pub use columns::{column, field};
-pub use fault::{FeedFault, FileName, What};
+pub use fault::{FeedFault, FileName, HeaderFault, What};
 pub use fields::{number, read_date, read_time, trim};
 pub use identifiers::Identifiers;
-pub use reading::{OpenTable, RecordReader, open_table, read_records};
+pub use reading::{
+    OpenTable, RecordReader, RecordTaker, open_records, open_table, read_records, take_records,
+};
 pub use rows::Rows;

@@ -5,17 +5,18 @@ ghost use Rattle.std.specs.List.{list_any};
 ghost use Rattle.table_records.specs.Columns as spec;
 ghost use Rattle.csv.specs.Records.{fields_of};
 ghost use Rattle.table_records.specs.Faults.{Tells, faults_after, faults_at};
-ghost use Rattle.table_records.specs.Table.{records_of};
+ghost use Rattle.table_records.specs.Table.{Gives, records_of};
 ghost use Rattle.table_records.specs.declared.fault.FileName.{FileName};
+ghost use Rattle.table_records.specs.declared.fault.HeaderFault.TheVariants as header_fault;
 ghost use Rattle.table_records.specs.declared.fault.What.{What};
 ghost use Rattle.table_records.specs.declared.fault.What.TheVariants.{Memory};
 ghost use Rattle.table_records.specs.Reading.{lacks_column, missing_column};
 
 use crate::columns::column;
-use crate::fault::{FeedFault, FileName, What};
+use crate::fault::{FeedFault, FileName, HeaderFault, What};
 use crate::rows::Rows;
 use csv::ByteRecord;
-use std::alloc::Global;
+use std::alloc::{AllocError, Global};
 
 /// A reader of one file's records: the columns of its header, and what its records are checked against.
 pub trait RecordReader {
@@ -57,6 +58,82 @@ pub trait RecordReader {
             → Tells e (faults_at file (checks self.now) before (row_of self.now (fields_of row.now)))) };
 }
 
+/// What is done with each record of a file, whatever its faults are: [`take_records`] goes by it.
+pub trait RecordTaker {
+    /// What the records make.
+    type Table;
+
+    /// Why a record is refused.
+    type Fault;
+
+    // what records without fault make of a table
+    ghost Makes: { Self → Self.Table → List (List (List ℕ)) → Self.Table → Type 0 };
+
+    // a fault that may be told of records
+    ghost Refuses: { Self → Self.Table → List (List (List ℕ)) → Self.Fault → Type 0 };
+
+    // the table has room for the record of a number
+    ghost HasRoom: { Self → Self.Table → ℕ → Type 0 };
+
+    /// Takes the next record, or refuses it. Its number counts the header as 1.
+    fn take(
+        &self,
+        alloc: Global,
+        table: &mut Self::Table,
+        at: u64,
+        row: &ByteRecord,
+    ) -> Result<(), Self::Fault>
+        requires few { at < 2 ^ 31 }
+        requires room { HasRoom self.now table.old at }
+        ensures good { IfOk result (λ _. (start : Self.Table) (before : List (List (List ℕ))) → at ≡ length before + 2 → Makes self.now start before table.old
+            → Makes self.now start (before ++ fields_of row.now ∷ []) table.new) }
+        ensures room { IfOk result (λ _. HasRoom self.now table.new (at + 1)) }
+        ensures fault { IfErr result (λ e. (start : Self.Table) (before after : List (List (List ℕ))) → at ≡ length before + 2 → Makes self.now start before table.old
+            → Refuses self.now start (before ++ fields_of row.now ∷ after) e) };
+
+    /// Want of memory, which may be told of any records.
+    fn memory(&self) -> Self::Fault
+        ensures { (start : Self.Table) (records : List (List (List ℕ))) → Refuses self.now start records result };
+}
+
+/// Takes all records that are left, in order, up to the first that is refused.
+pub fn take_records<T: RecordTaker>(
+    alloc: Global,
+    taker: &T,
+    table: &mut T::Table,
+    rows: &mut Rows<'_>,
+) -> Result<(), T::Fault>
+    requires few { length rows.old ≤ 2 ^ 30 }
+    requires room { T.HasRoom taker.now table.old 2 }
+    requires empty { T.Makes taker.now table.old [] table.old }
+    ensures good { IfOk result (λ _. T.Makes taker.now table.old rows.old table.new) }
+    ensures room { IfOk result (λ _. T.HasRoom taker.now table.new (length rows.old + 2)) }
+    ensures fault { IfErr result (λ e. T.Refuses taker.now table.old rows.old e) }
+{
+    let mut row = ByteRecord::new(alloc);
+    let mut at: u64 = 2;
+    while next_of(taker, rows, &mut row)? {
+        taker.take(alloc, table, at, &row)?;
+        at += 1;
+    }
+    Ok(())
+}
+
+// Puts the next record into `row`, and says whether there was one; want of memory is told as the taker tells it.
+fn next_of<T: RecordTaker>(
+    taker: &T,
+    rows: &mut Rows<'_>,
+    row: &mut ByteRecord,
+) -> Result<bool, T::Fault>
+    ensures given { IfOk result (λ found. Gives rows.old found (fields_of row.new) rows.new) }
+    ensures memory { IfErr result (λ e. (start : T.Table) (records : List (List (List ℕ))) → T.Refuses taker.now start records e) }
+{
+    match rows.next(row) {
+        Ok(found) => Ok(found),
+        Err(_) => Err(taker.memory()),
+    }
+}
+
 /// Reads all records that are left, in order, up to the first fault.
 pub fn read_records<R: RecordReader>(
     alloc: Global,
@@ -72,13 +149,40 @@ pub fn read_records<R: RecordReader>(
     ensures room { IfOk result (λ _. R.HasRoom reader.now table.new (length rows.old + 2)) }
     ensures fault { IfErr result (λ e. Tells e (faults_after R.file (R.checks reader.now) [] (map (R.row_of reader.now) rows.old))) }
 {
-    let mut row = ByteRecord::new(alloc);
-    let mut at: u64 = 2;
-    while rows.next(&mut row)? {
-        reader.add(alloc, table, at, &row)?;
-        at += 1;
+    take_records(alloc, &FeedRecords { reader }, table, rows)
+}
+
+// The records of a file of a feed, each checked against those before.
+#[derive(Clone, Copy)]
+struct FeedRecords<'a, R> {
+    reader: &'a R,
+}
+
+impl<'a, R: RecordReader> RecordTaker for FeedRecords<'a, R> {
+    type Table = R::Table;
+
+    type Fault = FeedFault;
+
+    ghost Makes = { λ s start records table. (faults_after R.file (R.checks s.reader.now) [] (map (R.row_of s.reader.now) records) ≡ [])
+        × R.After s.reader.now start (map (R.row_of s.reader.now) records) table };
+
+    ghost Refuses = { λ s _ records e. Tells e (faults_after R.file (R.checks s.reader.now) [] (map (R.row_of s.reader.now) records)) };
+
+    ghost HasRoom = { λ s. R.HasRoom s.reader.now };
+
+    fn take(
+        &self,
+        alloc: Global,
+        table: &mut R::Table,
+        at: u64,
+        row: &ByteRecord,
+    ) -> Result<(), FeedFault> {
+        self.reader.add(alloc, table, at, row)
     }
-    Ok(())
+
+    fn memory(&self) -> FeedFault {
+        FeedFault::from(AllocError)
+    }
 }
 
 // Whether a header lacks one of the columns with these names.
@@ -95,7 +199,7 @@ pub struct OpenTable<'a> {
     pub rows: Rows<'a>,
 }
 
-/// Reads the header of a file, which must name each required column.
+/// Reads the header of a file of a feed, which must name each required column.
 pub fn open_table<'a>(
     alloc: Global,
     bytes: &'a [u8],
@@ -109,9 +213,29 @@ pub fn open_table<'a>(
     ensures fault { IfErr result (λ e. (e.what ≡ Memory)
         ⊎ ((lacks_column (map (λ name. name.now) required.now) (records_of bytes.now) ≡ true) × (e ≡ missing_column file))) }
 {
+    match open_records(alloc, bytes, required) {
+        Ok(table) => Ok(table),
+        Err(HeaderFault::MissingColumn) => Err(FeedFault::at(file, 1, What::MissingColumn)),
+        Err(HeaderFault::Memory) => Err(FeedFault::from(AllocError)),
+    }
+}
+
+/// Reads the header of any file, which must name each required column.
+pub fn open_records<'a>(
+    alloc: Global,
+    bytes: &'a [u8],
+    required: &[&[u8]],
+) -> Result<OpenTable<'a>, HeaderFault>
+    requires { length bytes.now ≤ 1073741824 }
+    ensures columns { IfOk result (λ _. lacks_column (map (λ name. name.now) required.now) (records_of bytes.now) ≡ false) }
+    ensures records { IfOk result (λ t. records_of bytes.now ≡ fields_of t.header ∷ t.rows) }
+    ensures few { IfOk result (λ t. length t.rows ≤ 1073741824) }
+    ensures fault { IfErr result (λ e. (e ≡ header_fault.Memory)
+        ⊎ ((lacks_column (map (λ name. name.now) required.now) (records_of bytes.now) ≡ true) × (e ≡ header_fault.MissingColumn))) }
+{
     let mut rows = Rows::new(alloc, bytes);
     let mut header = ByteRecord::new(alloc);
-    match read_header(&mut rows, &mut header, file, required) {
+    match read_header(&mut rows, &mut header, required) {
         Ok(()) => Ok(OpenTable { header, rows }),
         Err(fault) => {
             drop(rows);
@@ -125,19 +249,21 @@ pub fn open_table<'a>(
 fn read_header(
     rows: &mut Rows<'_>,
     header: &mut ByteRecord,
-    file: FileName,
     required: &[&[u8]],
-) -> Result<(), FeedFault>
+) -> Result<(), HeaderFault>
     ensures columns { OnOk result (lacks_column (map (λ name. name.now) required.now) rows.old ≡ false) }
     ensures records { OnOk result (rows.old ≡ fields_of header.new ∷ rows.new) }
-    ensures fault { IfErr result (λ e. (e.what ≡ Memory)
-        ⊎ ((lacks_column (map (λ name. name.now) required.now) rows.old ≡ true) × (e ≡ missing_column file))) }
+    ensures fault { IfErr result (λ e. (e ≡ header_fault.Memory)
+        ⊎ ((lacks_column (map (λ name. name.now) required.now) rows.old ≡ true) × (e ≡ header_fault.MissingColumn))) }
 {
-    if !rows.next(header)? {
-        return Err(FeedFault::at(file, 1, What::MissingColumn));
+    let Ok(found) = rows.next(header) else {
+        return Err(HeaderFault::Memory);
+    };
+    if !found {
+        return Err(HeaderFault::MissingColumn);
     }
     if lacks_one(header, required) {
-        return Err(FeedFault::at(file, 1, What::MissingColumn));
+        return Err(HeaderFault::MissingColumn);
     }
     Ok(())
 }

@@ -100,12 +100,14 @@ fn has_two_links(feed: &Feed) -> bool {
         origin: Place::Stop(StopNo(0)),
         target: Place::Stop(StopNo(1)),
         seconds: 60,
+        changes: false,
         at: 2,
     };
     let change = Link {
         origin: Place::Station(0),
         target: Place::Stop(StopNo(2)),
         seconds: 120,
+        changes: false,
         at: 4,
     };
     feed.links() == [walk, change].as_slice()

@@ -5,12 +5,12 @@ ghost use Rattle.std.specs.Prelude.{◌≤◌, length};
 use std::alloc::{AllocError, Global};
 use std::process::Abort;
 use std::test::Fail;
-use table_files::{Place, Places, read_places};
+use table_files::{Locations, Place, read_locations};
 use table_records::{FeedFault, FileName, What};
 use timetable::StopNo;
 
 // Whether a place stands for these stops.
-fn stands_for(places: &Places, id: &[u8], stops: &[StopNo]) -> bool {
+fn stands_for(places: &Locations, id: &[u8], stops: &[StopNo]) -> bool {
     match places.place(id) {
         Some(place) => places.stops_at(place).as_slice() == stops,
         None => false,
@@ -18,7 +18,7 @@ fn stands_for(places: &Places, id: &[u8], stops: &[StopNo]) -> bool {
 }
 
 // Whether three stops, two stations and an entrance have their numbers.
-fn has_six_places(places: &Places) -> bool {
+fn has_six_places(places: &Locations) -> bool {
     places.names().len() == 6
         && places.stops().len() == 3
         && places.place(b"A") == Some(Place::Stop(StopNo(0)))
@@ -32,7 +32,7 @@ fn has_six_places(places: &Places) -> bool {
 
 // Whether six places of three kinds are read as such.
 fn reads_six_places(alloc: Global) -> Result<bool, FeedFault> {
-    let places = read_places(
+    let places = read_locations(
         alloc,
         b"stop_id,location_type\nA,\nS,1\nB, 0 \nE,2\nT,1\n\" \",0\n",
     )?;
@@ -46,7 +46,7 @@ fn stops_and_stations_are_numbered_apart(rt: HostRuntime) -> Result<(), Fail> {
 }
 
 // Whether the station S stands for the stops A and F, T for B, a stop for itself, and the entrance E for none.
-fn has_two_stations(places: &Places) -> bool {
+fn has_two_stations(places: &Locations) -> bool {
     stands_for(places, b"S", &[StopNo(0), StopNo(4)])
         && stands_for(places, b"T", &[StopNo(1)])
         && stands_for(places, b"A", &[StopNo(0)])
@@ -57,7 +57,7 @@ fn has_two_stations(places: &Places) -> bool {
 // Whether two stations are read with their stops. B's parent comes later in the file, D's is a stop, C's is nowhere,
 // and the entrance E is no stop.
 fn reads_two_stations(alloc: Global) -> Result<bool, FeedFault> {
-    let places = read_places(
+    let places = read_locations(
         alloc,
         b"stop_id,parent_station,location_type\nA,S,\nB,T,0\nS,,1\nT,,1\nC,Z,\nD,A,\nE,S,2\nF,S,0\n",
     )?;
@@ -74,7 +74,7 @@ fn a_station_stands_for_its_stops(rt: HostRuntime) -> Result<(), Fail> {
 fn fault_of(alloc: Global, bytes: &[u8]) -> Option<FeedFault>
     requires { length bytes.now ≤ 1073741824 }
 {
-    read_places(alloc, bytes).err()
+    read_locations(alloc, bytes).err()
 }
 
 // A file is refused for this fault.

@@ -5,13 +5,13 @@ ghost use Rattle.std.specs.Prelude.{◌≤◌, length};
 use std::alloc::Global;
 use std::process::Abort;
 use std::test::Fail;
-use table_files::{Link, Place, Places, Transfers, read_places, read_transfers};
+use table_files::{Link, Locations, Place, Transfers, read_locations, read_transfers};
 use table_records::{FeedFault, FileName, What};
 use timetable::StopNo;
 
 // Stops A and B, station S with the stops B and C, the empty station T, and an entrance E.
-fn some_places(alloc: Global) -> Result<Places, FeedFault> {
-    read_places(
+fn some_places(alloc: Global) -> Result<Locations, FeedFault> {
+    read_locations(
         alloc,
         b"stop_id,location_type,parent_station\nA,,\nB,,S\nS,1,\nC,0,S\nT,1,\nE,2,S\n",
     )
@@ -37,18 +37,21 @@ fn stops_and_stations_are_linked(rt: HostRuntime) -> Result<(), Fail> {
         origin: Place::Stop(StopNo(0)),
         target: Place::Stop(StopNo(1)),
         seconds: 60,
+        changes: false,
         at: 2,
     };
     let change = Link {
         origin: Place::Station(0),
         target: Place::Station(0),
         seconds: 30,
+        changes: false,
         at: 3,
     };
     let short = Link {
         origin: Place::Stop(StopNo(1)),
         target: Place::Station(0),
         seconds: 0,
+        changes: false,
         at: 4,
     };
     let holds = gives(
@@ -67,15 +70,50 @@ fn rows_without_a_walk_are_counted(rt: HostRuntime) -> Result<(), Fail> {
         origin: Place::Stop(StopNo(0)),
         target: Place::Stop(StopNo(1)),
         seconds: 60,
+        changes: false,
         at: 10,
     };
     // A forbidden change, one of a route, one of a trip, no time, no stop, equal stops, a station without stops, an entrance.
     let holds = gives(
         rt.alloc(),
         b"from_stop_id,to_stop_id,transfer_type,min_transfer_time,from_route_id,to_trip_id\n\
-A,B,3,60,,\nA,B,2,60,R1,\nA,Z,2,x,,T1\nA,B,2,  ,,\nA,,2,60,,\nA,A,2,60,,\nS,T,2,60,,\nE,A,2,60,,\nA,B,0,60,,\n",
+A,B,3,60,,\nA,B,2,60,R1,\nA,Z,2,x,,T1\nA,B,2,  ,,\nA,,2,60,,\nA,A,0,60,,\nS,T,2,60,,\nE,A,2,60,,\nA,B,0,60,,\n",
         &[walk],
         8,
+    )?;
+    assert!(rt; holds);
+    Ok(())
+}
+
+#[test]
+fn change_times_are_stated(rt: HostRuntime) -> Result<(), Fail> {
+    let stop = Link {
+        origin: Place::Stop(StopNo(0)),
+        target: Place::Stop(StopNo(0)),
+        seconds: 60,
+        changes: true,
+        at: 2,
+    };
+    let station = Link {
+        origin: Place::Station(0),
+        target: Place::Station(0),
+        seconds: 4_294_967_295,
+        changes: true,
+        at: 3,
+    };
+    let ways = Link {
+        seconds: 30,
+        changes: false,
+        at: 4,
+        ..station
+    };
+    // a stop, a station, the same of another type, then a station without stops, an entrance, an empty type, and a trip's
+    let holds = gives(
+        rt.alloc(),
+        b"from_stop_id,to_stop_id,transfer_type,min_transfer_time,from_trip_id\n\
+A,A,2,60,\nS,S,02,4294967295,\nS,S,1,30,\nT,T,2,60,\nE,E,2,60,\nA,A,,60,\nA,A,2,60,T1\n",
+        &[stop, station, ways],
+        4,
     )?;
     assert!(rt; holds);
     Ok(())

@@ -5,3 +5,4 @@ pub mod Faults
 pub mod Least
 pub mod Journeys
 pub mod Steps
+pub mod FaultWords

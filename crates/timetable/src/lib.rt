@@ -2,14 +2,14 @@
 //! A network that was accepted has its stops in range, times that never fall along a trip, and a size within the limits.
 //!
 //! - `trips`: [`StopNo`], [`Event`], [`Events`] and [`Trip`].
-//! - `footpaths`: [`Feet`], at most one footpath from each stop to each other.
+//! - `footpaths`: [`Feet`], at most one footpath from each stop to each other, and the change time of each stop.
 //! - `networks`: [`Network`], what journeys are made in.
 //! - `faults`: [`NetFault`], why footpaths or a network were refused.
 //! - `limits`: how large all of these may be.
 //! - `least`: [`NEVER`], the label of a stop that isn't reached, and the law that least durations are unique.
 //!
 //! `specs/` has the words of every layer above: what a ride, a journey and a least duration are
-//! (`Journeys`, `Least`), and what one trip and the footpaths offer in a round (`Steps`).
+//! (`Journeys`, `Least`), and what one trip, the footpaths and the change times offer in a round (`Steps`).
 #![tactic(auto)]
 
 mod faults;
@@ -23,8 +23,8 @@ pub use faults::NetFault;
 pub use footpaths::Feet;
 pub use least::{NEVER, least_durations_are_unique};
 pub use limits::{
-    END_OF_AXIS, MOST_EVENTS, MOST_FOOT_SECONDS, MOST_FOOTPATHS, MOST_STOPS, MOST_TRIPS,
-    limits_are_as_stated,
+    END_OF_AXIS, MOST_CHANGE_SECONDS, MOST_EVENTS, MOST_FOOT_SECONDS, MOST_FOOTPATHS, MOST_STOPS,
+    MOST_TRIPS, limits_are_as_stated,
 };
 pub use networks::Network;
 pub use trips::{Event, Events, StopNo, Trip};

@@ -3,11 +3,13 @@
 use Rattle.std.specs.Prelude.{◌≡◌, ◌≤◌, ◌⊎◌, ℕ, List, Option, length}
 use Rattle.std.specs.Io.KnownBytes.{Appends}
 use Rattle.clap.specs.Words.{Text}
-use Rattle.command_line.specs.Lines.{line, line_of, names_of, no_memory, status_of}
-use Rattle.command_line.specs.Words.{IsAsked, rows_of_words, word_status_of}
+use Rattle.command_line.specs.Lines.{line_of, names_of, status_of}
+use Rattle.command_line.specs.Words.{IsAsked, NamesFiles, rows_of_words, word_status_of}
 use Rattle.command_line.specs.Words.{Tells as TellsWords}
+use Rattle.command_line.specs.declared.statuses.TheConstants.{DONE}
+use Rattle.command_line.specs.declared.task.Task.{Task}
 use Rattle.command_line.specs.declared.task.WordFault.{WordFault}
-use Rattle.matrix_text.specs.Prefixes.{PutsPrefix}
+use Rattle.matrix_text.specs.Prefixes.{PutsPart}
 use Rattle.matrix_text.specs.declared.faults.TextFault.TheVariants as text
 use Rattle.studies.specs.Inputs.{InputFiles, inputs_of}
 use Rattle.studies.specs.Study.{IsStudyText, Tells}
@@ -15,10 +17,7 @@ use Rattle.studies.specs.declared.fault.StudyFault.{StudyFault}
 use Rattle.studies.specs.declared.fault.StudyFault.TheVariants as fault
 use Rattle.studies.specs.declared.inputs.Inputs.{Inputs}
 use Rattle.studies.specs.declared.settings.Settings.{Settings}
-
--- a line is put out, or the one that says that there was no memory for it: as far as the output takes it
-abbrev pub TellsLine : Option (List ℕ) → Option (List ℕ) → List ℕ → Type 0
-TellsLine old new l = PutsPrefix old new l ⊎ PutsPrefix old new (line no_memory)
+use Rattle.ttm.specs.Files.{AreNamed, Finds, TellsLine}
 
 -- the whole matrix of the study that the files and settings mean is out
 pub record IsPrinted (i : InputFiles) (s : Settings) (out printed : Option (List ℕ)) : Type 0 where
@@ -35,7 +34,7 @@ pub record IsTold (e : StudyFault) (i : Inputs) (err told : Option (List ℕ)) (
 pub record IsCutShort (i : InputFiles) (s : Settings) (out printed : Option (List ℕ)) : Type 0 where
   pub text : List ℕ
   pub text_is : IsStudyText i s text
-  pub part : PutsPrefix out printed text
+  pub part : PutsPart out printed text
 
 -- why the matrix isn't out whole: the first fault of the inputs, or want of memory, and nothing is out; or the output took no more
 abbrev pub IsWhy : StudyFault → InputFiles → Settings → Option (List ℕ) → Option (List ℕ) → Type 0
@@ -50,26 +49,40 @@ pub record IsRefused (i : Inputs) (s : Settings) (out printed err told : Option 
 -- what a study leaves behind
 abbrev pub IsAnswered : Inputs → Settings → Option (List ℕ) → Option (List ℕ) → Option (List ℕ) → Option (List ℕ) → ℕ → Type 0
 IsAnswered i s out printed err told status =
-    ((status ≡ 0) × IsPrinted (inputs_of i) s out printed) ⊎ IsRefused i s out printed err told status
+    ((status ≡ DONE) × IsPrinted (inputs_of i) s out printed) ⊎ IsRefused i s out printed err told status
 
 -- ---- what status 0 says of a run of the program
 
--- the whole matrix of these settings is out, for the files that were there
-abbrev pub IsMade : Settings → Option (List ℕ) → Option (List ℕ) → Type 0
-IsMade s out printed = (i : InputFiles) × IsPrinted i s out printed
+-- the whole matrix of a task is out: of its settings, for the files that are found at its paths
+pub record IsMade (finds : Finds) (task : Task) (out printed : Option (List ℕ)) : Type 0 where
+  pub files : InputFiles
+  pub named : AreNamed finds task files
+  pub whole : IsPrinted files task.settings out printed
+
+-- the words ask for a task: its settings and its paths are theirs; and its whole matrix is out
+pub record IsStudied (finds : Finds) (words : List Text) (out printed : Option (List ℕ)) : Type 0 where
+  pub task : Task
+  pub asked : IsAsked (rows_of_words words) task.settings
+  pub paths : NamesFiles (rows_of_words words) task
+  pub made : IsMade finds task out printed
 
 -- the words ask for no study, and that is no fault: they ask for help, and the whole of a text is out
 pub record IsHelped (words : List Text) (out printed : Option (List ℕ)) : Type 0 where
   pub fault : WordFault
   pub told : TellsWords fault words
-  pub no_fault : word_status_of fault ≡ 0
+  pub no_fault : word_status_of fault ≡ DONE
   pub text : List ℕ
   pub whole : Appends out printed text
 
--- the whole matrix of the settings that the words ask for is out, or the help that they ask for
-abbrev pub Succeeds : List Text → Option (List ℕ) → Option (List ℕ) → Type 0
-Succeeds words out printed = ((s : Settings) × IsAsked (rows_of_words words) s × IsMade s out printed) ⊎ IsHelped words out printed
+-- the whole matrix that the words ask for is out, or the help that they ask for
+abbrev pub Succeeds : Finds → List Text → Option (List ℕ) → Option (List ℕ) → Type 0
+Succeeds finds words out printed = IsStudied finds words out printed ⊎ IsHelped words out printed
 
--- without words but the program's name, the whole matrix of some settings of its own is out; with words they succeed
-abbrev pub EndsWell : List Text → Option (List ℕ) → Option (List ℕ) → Type 0
-EndsWell words out printed = ((length words ≤ 1) × (s : Settings) × IsMade s out printed) ⊎ ((2 ≤ length words) × Succeeds words out printed)
+-- the whole matrix of a study of the program's own is out
+abbrev pub IsExample : Option (List ℕ) → Option (List ℕ) → Type 0
+IsExample out printed = (i : InputFiles) × (s : Settings) × IsPrinted i s out printed
+
+-- without words but the program's name, the whole matrix of a study of its own is out; with words they succeed
+abbrev pub EndsWell : Finds → List Text → Option (List ℕ) → Option (List ℕ) → Type 0
+EndsWell finds words out printed =
+    ((length words ≤ 1) × IsExample out printed) ⊎ ((2 ≤ length words) × Succeeds finds words out printed)

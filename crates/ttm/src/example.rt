@@ -32,6 +32,9 @@ T2,08:15:00,08:15:00,B,1
 T2,08:30:00,08:30:00,C,2
 ";
 
+/// The origins of the study that the program carries.
+pub(crate) const EXAMPLE_ORIGINS: &[u8] = b"stop_id\nA\n";
+
 /// The files of the small feed.
 pub(crate) fn example_feed() -> FeedBytes<'static>
     ensures { AreWithinLimit (files_of result) }

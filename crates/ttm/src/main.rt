@@ -3,11 +3,14 @@
 //! With words the program makes the study that they ask for; with none, a study of the small feed that it carries (`example`).
 //!
 //! - `program`: the whole way, from words to a printed matrix.
-//! - `disk` reads the files that the words name; the crate `studies` makes the matrix's text of them.
+//! - `reading` reads the files that the words name from the `disk` into `study_files`; the crate `studies` makes the
+//!   matrix's text of them.
 //!
 //! What the words ask for and which line tells a fault is the crate `command_line`'s.
 #![tactic(auto)]
 
+#[cfg(test)]
+mod change_tests;
 mod disk;
 #[cfg(test)]
 mod disk_tests;
@@ -15,12 +18,14 @@ mod example;
 mod program;
 #[cfg(test)]
 mod program_tests;
+mod reading;
 #[cfg(test)]
 mod refusal_tests;
 #[cfg(test)]
 mod row_feeds;
 #[cfg(test)]
 mod row_tests;
+mod study_files;
 #[cfg(test)]
 mod study_tests;
 #[cfg(test)]

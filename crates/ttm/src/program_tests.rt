@@ -17,8 +17,9 @@ const ASKED: &str =
 /// A file in the folder.
 const ORIGINS: &str = "feed_of_whole_runs/origins.csv";
 
-/// The origins and the scenario file of the folder.
-const OWN_FILES: &str = "--origins feed_of_whole_runs/origins.csv feed_of_whole_runs/cut.csv";
+/// The origins and the scenario files of the folder.
+const OWN_FILES: &str =
+    "--origins feed_of_whole_runs/origins.csv feed_of_whole_runs/cut.csv feed_of_whole_runs/late.csv";
 
 /// From every stop at 08:00: nothing leaves C, and nothing comes to A.
 const FROM_ALL: &[u8] = b"scenario,origin,access,A,B,C
@@ -27,10 +28,11 @@ base,B,2,,0,1800
 base,C,1,,,0
 ";
 
-/// From A, with T2 and without it.
-const WITHOUT_T2: &[u8] = b"scenario,origin,access,A,B,C
+/// From A, without edits, without T2, and with T1 five minutes later.
+const SCENARIOS: &[u8] = b"scenario,origin,access,A,B,C
 base,A,3,0,600,1800
 cut,A,2,0,600,
+late,A,3,0,900,1800
 ";
 
 const EXAMPLE: &[u8] = b"scenario,origin,access,A,B,C
@@ -56,7 +58,7 @@ fn write(rt: &HostRuntime, name: &str, bytes: Option<&[u8]>) -> io::Result<()> {
     }
 }
 
-/// Writes the small feed, an origin and a scenario.
+/// Writes the small feed, an origin and two scenarios.
 fn write_files(rt: &HostRuntime) -> io::Result<()> {
     let feed = example_feed();
     fs::create_dir_all(rt, FOLDER)?;
@@ -66,7 +68,12 @@ fn write_files(rt: &HostRuntime) -> io::Result<()> {
     write(rt, "trips.txt", feed.trips)?;
     write(rt, "stop_times.txt", feed.stop_times)?;
     write(rt, "origins.csv", Some(b"stop_id\nA\n"))?;
-    write(rt, "cut.csv", Some(b"action,id,seconds\nremove_trip,T2,\n"))
+    write(rt, "cut.csv", Some(b"action,id,seconds\nremove_trip,T2,\n"))?;
+    write(
+        rt,
+        "late.csv",
+        Some(b"action,id,seconds\nshift_trip,T1,300\n"),
+    )
 }
 
 /// The words of a line, which spaces part.
@@ -91,7 +98,7 @@ fn leaves(
     let mut out = Vec::new(rt.alloc());
     let mut err = Vec::new(rt.alloc());
     let words = words_of(rt.alloc(), line)?;
-    let code = run_words(rt, &words, &mut out, &mut err);
+    let code = run_words(rt.alloc(), rt, &words, &mut out, &mut err);
     Ok(code == ExitCode::from(status) && out.as_slice() == printed && err.as_slice() == fault)
 }
 
@@ -112,7 +119,7 @@ fn study_leaves(
 fn are_right(rt: &HostRuntime) -> io::Result<bool> {
     let cases: [(&str, &str, &[u8], &[u8], u8); 8] = [
         (FOLDER, "", FROM_ALL, b"", 0),
-        (FOLDER, OWN_FILES, WITHOUT_T2, b"", 0),
+        (FOLDER, OWN_FILES, SCENARIOS, b"", 0),
         (FOLDER, "--back 7", b"", b"ttm: bad back\n", 2),
         (
             "no_such_folder",
@@ -179,7 +186,7 @@ fn helps(rt: &HostRuntime, beginning: &[u8]) -> io::Result<bool> {
     let mut out = Vec::new(rt.alloc());
     let mut err = Vec::new(rt.alloc());
     let words = words_of(rt.alloc(), "ttm --help")?;
-    let code = run_words(rt, &words, &mut out, &mut err);
+    let code = run_words(rt.alloc(), rt, &words, &mut out, &mut err);
     Ok(code == ExitCode::SUCCESS && out.starts_with(beginning) && err.is_empty())
 }
 

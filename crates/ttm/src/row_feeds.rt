@@ -108,6 +108,30 @@ T2,08:15:00,08:15:00,B2,1
 T2,08:30:00,08:30:00,C,2
 ";
 
+/// A change at B takes as long as there is between T1 and T2, or a second more; that is the greater of two times, too.
+pub const CHANGE_IN_TIME: &[u8] = b"from_stop_id,to_stop_id,transfer_type,min_transfer_time
+B,B,2,300
+";
+
+pub const CHANGE_TOO_LONG: &[u8] = b"from_stop_id,to_stop_id,transfer_type,min_transfer_time
+B,B,2,301
+";
+
+pub const TWO_CHANGES: &[u8] = b"from_stop_id,to_stop_id,transfer_type,min_transfer_time
+B,B,2,301
+B,B,2,200
+";
+
+/// A recommended transfer at B, which is no change time.
+pub const RECOMMENDED: &[u8] = b"from_stop_id,to_stop_id,transfer_type,min_transfer_time
+B,B,0,301
+";
+
+/// Five minutes for a change at station S, on foot or at one of its stops.
+pub const LONG_CHANGE_AT_S: &[u8] = b"from_stop_id,to_stop_id,transfer_type,min_transfer_time
+S,S,2,300
+";
+
 pub const CHANGE_AT_S: &[u8] = b"from_stop_id,to_stop_id,transfer_type,min_transfer_time
 S,S,2,60
 ";

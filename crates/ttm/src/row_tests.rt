@@ -10,18 +10,18 @@ use workers::Open;
 
 /// What an example asks for. Times are in seconds, minutes of the day from midnight.
 #[derive(Clone, Copy)]
-struct Asked {
-    back: u32,
-    first: u32,
-    minutes: u32,
-    rides: u32,
-    walk: u32,
-    share: u32,
-    within: u32,
+pub(crate) struct Asked {
+    pub back: u32,
+    pub first: u32,
+    pub minutes: u32,
+    pub rides: u32,
+    pub walk: u32,
+    pub share: u32,
+    pub within: u32,
 }
 
 /// From 08:00 to 08:00 with two trips, no walks, half of the minutes, and half an hour.
-const EIGHT: Asked = Asked {
+pub(crate) const EIGHT: Asked = Asked {
     back: 1,
     first: 480,
     minutes: 1,
@@ -60,12 +60,18 @@ fn gives(alloc: Global, inputs: &Inputs<'_>, asked: Asked, text: &[u8]) -> bool 
     }
 }
 
-fn expect(rt: &impl Abort, alloc: Global, inputs: &Inputs<'_>, asked: Asked, text: &[u8]) {
+pub(crate) fn expect(
+    rt: &impl Abort,
+    alloc: Global,
+    inputs: &Inputs<'_>,
+    asked: Asked,
+    text: &[u8],
+) {
     assert!(rt; gives(alloc, inputs, asked, text));
 }
 
 // The small feed with these files in place of its own.
-fn inputs_of(feed: FeedBytes<'static>) -> Inputs<'static> {
+pub(crate) fn inputs_of(feed: FeedBytes<'static>) -> Inputs<'static> {
     Inputs {
         feed,
         footpaths: None,

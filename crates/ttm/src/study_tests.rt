@@ -1,7 +1,7 @@
 //! Studies of the small feed: their texts, and why others are refused.
 
 use crate::example::example_feed;
-use gtfs_tables::{FeedFault, FileName, What, read_date};
+use gtfs_tables::{FeedBytes, FeedFault, FileName, What, read_date};
 use jiff::civil::Date;
 use scenarios::{ScenarioFault, ScenarioWhat};
 use service_days::DayFault;
@@ -18,6 +18,10 @@ const CUT: (&[u8], &[u8]) = (b"cut", b"action,id,seconds\nremove_route,R2,\n");
 
 const LATE: (&[u8], &[u8]) = (b"late", b"action,id,seconds\nshift_trip,T1,300\n");
 
+const LATER: (&[u8], &[u8]) = (b"later", b"action,id,seconds\nshift_trip,T2,1\n");
+
+const CHANGE_AT_B: &[u8] = b"from_stop_id,to_stop_id,transfer_type,min_transfer_time\nB,B,2,301\n";
+
 const TOO_EARLY: (&[u8], &[u8]) = (b"early", b"action,id,seconds\nshift_trip,T1,-30000\n");
 
 /// A scenario's name and the bytes of its file.
@@ -32,6 +36,7 @@ struct Case {
     rides: u32,
     share: u32,
     workers: u32,
+    transfers: Option<&'static [u8]>,
     origins: &'static [u8],
     scenarios: &'static [Named],
 }
@@ -44,6 +49,7 @@ const FIRST: Case = Case {
     rides: 2,
     share: 50,
     workers: 1,
+    transfers: None,
     origins: FROM_A,
     scenarios: &[],
 };
@@ -93,7 +99,10 @@ fn settings_of(rt: &impl Abort, case: &Case) -> Settings {
 fn study_of(rt: &impl Abort, alloc: Global, case: &Case) -> Result<Vec<u8>, StudyFault> {
     let files = files_of(rt, alloc, case.scenarios);
     let inputs = Inputs {
-        feed: example_feed(),
+        feed: FeedBytes {
+            transfers: case.transfers,
+            ..example_feed()
+        },
         footpaths: None,
         origins: Some(case.origins),
         opportunities: None,
@@ -169,6 +178,22 @@ late,C,1,,,0
         };
         expect_text(&rt, rt.alloc(), &case, want);
     }
+}
+
+#[test]
+fn every_scenario_has_the_feeds_change_times(rt: HostRuntime) {
+    // at B there are 300 seconds between the trips, 301, and none
+    let want = b"scenario,origin,access,A,B,C
+base,A,2,0,600,
+later,A,2,0,600,1801
+late,A,2,0,900,
+";
+    let case = Case {
+        transfers: Some(CHANGE_AT_B),
+        scenarios: &[LATER, LATE],
+        ..FIRST
+    };
+    expect_text(&rt, rt.alloc(), &case, want);
 }
 
 #[test]

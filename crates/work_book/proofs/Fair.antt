@@ -115,7 +115,7 @@ settled book seat k true fair h = record {
 }
 
 -- a list with a number in it counts it
-counted : (xs : List ℕ) (n : ℕ) → list_any (λ x. x == n) xs ≡ true → 0 < count_by (λ x. x == n) xs
+pub counted : (xs : List ℕ) (n : ℕ) → list_any (λ x. x == n) xs ≡ true → 0 < count_by (λ x. x == n) xs
 counted xs n h =
     let some = Any-from_list_any (λ x. x == n) xs h in
     let total = sum_by-set (λ x. one_if (x == n)) xs some.0 (n + 1) some.1 some.2 in

@@ -14,12 +14,12 @@ use Rattle.work_book.specs.declared.steps.Answer.TheVariants as answer
 use Rattle.work_book.proofs.Fair.{IsFair, step_fair, run_fair}
 
 -- a later book has the jobs and tries of an earlier one, and no lower next number
-record IsLater (old new : BookState) : Type 0 where
-  jobs : new.jobs ≡ old.jobs
-  tries : new.tries ≡ old.tries
-  next : old.next ≤ new.next
+pub record IsLater (old new : BookState) : Type 0 where
+  pub jobs : new.jobs ≡ old.jobs
+  pub tries : new.tries ≡ old.tries
+  pub next : old.next ≤ new.next
 
-one_later : (book : BookState) (step : Step) → IsLater book (after book step)
+pub one_later : (book : BookState) (step : Step) → IsLater book (after book step)
 one_later book (Draw seat) = go (acts book seat && nat_lt book.next (book.jobs * book.tries))
   where
     go : (b : Bool) → IsLater book (if b then record (on_seat book seat (with_drawn book.next)) { next = book.next + 1 } else book)

@@ -24,9 +24,13 @@ acts book seat = option_map_or (λ (s : SeatState). not s.lost) (slice_get book.
 abbrev pub seat_has : BookState → ℕ → ℕ → Bool
 seat_has book seat number = option_map_or (has_drawn number) (slice_get book.seats seat) false
 
--- the job that a number is for
+-- the job that a number is for, among so many jobs
+abbrev pub job_among : ℕ → ℕ → ℕ
+job_among jobs number = number % jobs
+
+-- the job of the book that a number is for
 abbrev pub job_of : BookState → ℕ → ℕ
-job_of book number = number % book.jobs
+job_of book number = job_among book.jobs number
 
 -- whether a job is settled
 abbrev pub is_marked : BookState → ℕ → Bool

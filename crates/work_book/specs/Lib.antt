@@ -3,3 +3,9 @@ pub mod Book
 pub mod Steps
 pub mod TakenBack
 pub mod Laws
+pub mod Views
+pub mod Shown
+pub mod Rule
+pub mod Moves
+pub mod Board
+pub mod Runs

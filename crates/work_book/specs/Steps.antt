@@ -1,16 +1,20 @@
 -- What each step answers, and what it changes. A step that isn't allowed is `Refused` and changes nothing.
 use Rattle.std.specs.Prelude.{◌+◌, ◌*◌, ◌/◌, ◌&&◌, not, true, ℕ, List, [], ◌∷◌, nat_lt, slice_set, if◌then◌else◌}
 use Rattle.work_book.specs.Seat.{with_drawn, with_kept, as_lost}
-use Rattle.work_book.specs.Book.{BookState, acts, seat_has, job_of, is_marked, on_seat}
+use Rattle.work_book.specs.Book.{BookState, acts, seat_has, job_among, job_of, is_marked, on_seat}
 use Rattle.work_book.specs.declared.lease.Lease.{Lease}
 use Rattle.work_book.specs.declared.steps.Step.{Step}
 use Rattle.work_book.specs.declared.steps.Step.TheVariants.{Draw, Look, Settle, Loss}
 use Rattle.work_book.specs.declared.steps.Answer.{Answer}
 use Rattle.work_book.specs.declared.steps.Answer.TheVariants as answer
 
--- the lease of a number
+-- the lease of a number, among so many jobs
+abbrev pub lease_among : ℕ → ℕ → Lease
+lease_among jobs number = record { number = number; job = job_among jobs number; pass = number / jobs }
+
+-- the lease of a number of the book
 abbrev pub lease_of : BookState → ℕ → Lease
-lease_of book number = record { number = number; job = job_of book number; pass = number / book.jobs }
+lease_of book number = lease_among book.jobs number
 
 -- a draw gives the next number while there is one; a look, the job's mark; the first to settle a job keeps it
 abbrev pub answer_of : BookState → Step → Answer

@@ -2,7 +2,10 @@
 ghost use Rattle.std.specs.Prelude.{ℕ, List};
 ghost use Rattle.work_book.specs.Book.{new_book};
 ghost use Rattle.work_book.specs.Laws.{AreDrawnOnce, AreKeptOnce, IsNothingLast, reached};
+ghost use Rattle.work_book.specs.Runs.{IsSomeRun};
 ghost use Rattle.work_book.specs.declared.steps.Step.{Step};
+ghost use Rattle.work_book.specs.declared.rule.View.{View};
+ghost use Rattle.work_book.specs.declared.shared.Closed.{Closed};
 
 /// For every book and every list of steps, whoever makes them and in whatever order: the numbers drawn are those
 /// below the next number, each once; a job is kept once where it is settled and by nobody else; and `Nothing` is
@@ -11,4 +14,10 @@ pub fn runs_are_fair()
     ensures drawn { (jobs tries seats : ℕ) (steps : List Step) → AreDrawnOnce (reached jobs tries seats steps) }
     ensures kept { (jobs tries seats : ℕ) (steps : List Step) → AreKeptOnce (reached jobs tries seats steps) }
     ensures nothing { (jobs tries seats : ℕ) (steps : List Step) → IsNothingLast (new_book jobs tries seats) steps }
+{}
+
+/// For every board that is closed by the only seat left, whatever its threads did and in whatever order: some run of a
+/// book has the same next number, the same settled jobs, and each number drawn and each job kept as often.
+pub fn closed_boards_are_runs()
+    ensures { (v : View) (closed : Closed) → IsSomeRun v closed }
 {}

@@ -4,17 +4,29 @@
 //! - `Book` is the whole state, and one call is one step: `draw`, `look`, `settle`, `lose`.
 //! - `Step` and `Answer` are the same steps as data, and `Book::run` makes a list of them.
 //! - `runs_are_fair` is what holds of every list of steps.
+//! - `Board` is a book that threads share, each with a `WorkSeat` of its own; `Closed` is what is left of it at the end.
+//! - `closed_boards_are_runs` says that it then tells what some list of steps of a `Book` tells.
+//!
+//! - `lease` is what a seat draws; `steps` and `seat` are the book's; `shared`, `rule` and `moves` are the board's: its types, what holds
+//!   of its words between any two steps, and the kinds of its steps.
 //!
 //! A step's answer and change stand in `specs/Steps.antt`, as a table by cases; the laws stand in `specs/Laws.antt`.
+//! What holds of a board in every schedule stands in `specs/Rule.antt`, and what its calls promise in `specs/Board.antt`.
 #![tactic(auto)]
 
+mod board;
 mod book;
 mod laws;
 mod lease;
+mod moves;
+mod rule;
 mod seat;
+mod shared;
 mod steps;
 
 pub use book::Book;
-pub use laws::runs_are_fair;
+pub use laws::{closed_boards_are_runs, runs_are_fair};
 pub use lease::{Lease, Settled};
+pub use rule::{Extent, Numbers, View};
+pub use shared::{Board, Closed, Draw, WorkSeat};
 pub use steps::{Answer, Step};

@@ -3,3 +3,4 @@ pub mod Rows
 pub mod Matrices
 pub mod Jobs
 pub mod Laws
+pub mod FaultWords

@@ -5,8 +5,10 @@ use Rattle.command_line.proofs.StudyCommand.{same_settings, same_bad}
 use Rattle.command_line.proofs.words.task_of.Goals as goal
 
 pub returns-in-Err-clause-fault : goal.returns-in-Err-clause-fault
-returns-in-Err-clause-fault c =
-    same_bad (rows_of (found_of c.in_ok-matches.matches)) (rows_of_words (map string_bytes c.args.words.now)) c.in-Err.opt c.in_ok-matches.ensures.rows c.in-Err.ensures.bad
+returns-in-Err-clause-fault c = (
+  c.in_ok-matches.ensures.taken,
+  same_bad (rows_of (found_of c.in_ok-matches.matches)) (rows_of_words (map string_bytes c.args.words.now)) c.in-Err.opt c.in_ok-matches.ensures.rows c.in-Err.ensures.bad,
+)
 
 pub returns-in-Ok-with_paths-clause-asked : goal.returns-in-Ok-with_paths-clause-asked
 returns-in-Ok-with_paths-clause-asked c =

@@ -7,21 +7,21 @@ use Rattle.rounds.proofs.steps.walk.Goals.{then-time, else-time}
 
 pub walk_from-requires-clause-targets : goal.walk_from-requires-clause-targets
 walk_from-requires-clause-targets c k d within =
-    let feet = c.args.feet.now in
+    let feet = c.args.feet.now.walks in
     let row = c.leaving.result.now in
-    let in_range = (c.known.ensures.in_range.rows c.loop-stop.stop row c.leaving.ensures).targets k (get_or row k d) (slice_get-get_or row k d within) in
+    let in_range = (c.known.ensures.in_range.walks.rows c.loop-stop.stop row c.leaving.ensures).targets k (get_or row k d) (slice_get-get_or row k d within) in
     omega (arith, in_range.0, c.lower.auto.labels)
 
 pub walk_from-requires-clause-seconds : goal.walk_from-requires-clause-seconds
 walk_from-requires-clause-seconds c k d within =
     let row = c.leaving.result.now in
-    let short = c.known.ensures.within.rows c.loop-stop.stop row c.leaving.ensures k (get_or row k d) (slice_get-get_or row k d within) in
+    let short = c.known.ensures.within.walks.rows c.loop-stop.stop row c.leaving.ensures k (get_or row k d) (slice_get-get_or row k d within) in
     let room = c.requires.labels c.loop-stop.stop c.if-time.true in
     omega (arith, short, room)
 
 pub loop-stop-preserved : goal.loop-stop-preserved
 loop-stop-preserved c =
-    let feet = c.args.feet.now in
+    let feet = c.args.feet.now.walks in
     let x = c.loop-stop.stop in
     record {
       same = search rules;
@@ -36,4 +36,4 @@ loop-stop-preserved c =
     }
 
 pub returns : goal.returns
-returns c = offer_each c.args.feet.now c.args.ride.now c.loop-stop.stop (omega arith) (omega arith) c.loop-stop.invariant.lowered
+returns c = offer_each c.args.feet.now.walks c.args.ride.now c.loop-stop.stop (omega arith) (omega arith) c.loop-stop.invariant.lowered

@@ -7,5 +7,5 @@ abbrev pub invariant-loop-stop : goal.invariant-loop-stop
 invariant-loop-stop l =
     record {
       same : length l.ready ≡ length l.ride;
-      lowered : Lowers (OfferedBelow l.feet l.ride l.stop) l.initial.ready l.ready;
+      lowered : Lowers (OfferedBelow l.feet.walks l.ride l.stop) l.initial.ready l.ready;
     }

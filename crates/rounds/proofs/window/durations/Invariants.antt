@@ -7,7 +7,7 @@ use Rattle.rounds.proofs.window.durations.Given as goal
 abbrev pub invariant-loop-minute : goal.invariant-loop-minute
 invariant-loop-minute l =
     record {
-      places : length l.labels.items ≡ l.network.stops * l.fn.window.minutes;
+      size : length l.labels.items ≡ l.network.stops * l.fn.window.minutes;
       each : (p m : ℕ) → p < l.network.stops → m < l.minute →
           IsLeastOrNever (IsDuration l.network l.fn.origin.0 (departure l.fn.window m) l.fn.rides p) (slice_index l.labels.items (p * l.fn.window.minutes + m));
     }

@@ -4,8 +4,8 @@ use Rattle.scenarios.specs.Moving.{arriving}
 use Rattle.scenarios.specs.Networks.{is_event_on_axis, moved_event}
 use Rattle.scenarios.proofs.moving.moved_events.Given as goal
 
-abbrev pub invariant-loop-place : goal.invariant-loop-place
-invariant-loop-place l = record {
-  made : l.made.items ≡ map (moved_event l.fn.seconds) (take l.place (arriving l.departs l.events));
-  axis : list_all (is_event_on_axis l.fn.seconds) (take l.place (arriving l.departs l.events)) ≡ true;
+abbrev pub invariant-loop-position : goal.invariant-loop-position
+invariant-loop-position l = record {
+  made : l.made.items ≡ map (moved_event l.fn.seconds) (take l.position (arriving l.departs l.events));
+  axis : list_all (is_event_on_axis l.fn.seconds) (take l.position (arriving l.departs l.events)) ≡ true;
 }

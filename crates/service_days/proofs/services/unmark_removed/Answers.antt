@@ -1,4 +1,4 @@
-use Rattle.std.proofs.Common.{◌<◌, ◌==◌, ◌&&◌, ◌∙◌, Bool, false, not, length, get_or, ap, sym, subst, arith, ℕ}
+use Rattle.std.proofs.Common.{◌+◌, ap, ◌==◌, ◌&&◌, ◌∙◌, Bool, false, not, get_or, sym, arith, ℕ}
 use Rattle.table_files.specs.declared.calendar_dates.ExceptionRow.{ExceptionRow}
 use Rattle.gtfs_tables.specs.Feed.{day_number}
 use Rattle.service_days.proofs.Marking.{unmarked, still_unmarked}
@@ -10,10 +10,11 @@ loop-row-preserved c s lt =
     let x = c.row-item.result in
     let i = c.loop-row.row-index in
     let of : ExceptionRow → ℕ = λ r. r.service in
-    let says : ExceptionRow → Bool = (λ r. (day_number r.date == c.args.day.number) && not r.adds) in
-    let small : x.service < length c.args.running.now = subst (λ (r : ExceptionRow). r.service < length c.args.running.now) (sym c.row-item.is) (c.requires i x c.loop-row-test.true) in
-    let within : x.service < length c.loop-row.running = omega arith in
+    let says : ExceptionRow → Bool = λ r. (day_number r.date == c.args.day.number) && not r.adds in
+    let service = c.args.first + s in
+    let start = get_or c.args.running.now s false in
+    let old = get_or c.loop-row.running s false in
     elim c.if-removes.branch [
-      | then-removes w ↦ ap (λ l. get_or l s false) w.running-is ∙ unmarked of says c.args.exceptions.now i x c.loop-row-test.true c.row-item.is s (get_or c.args.running.now s false) c.loop-row.running (sym c.removes.ensures ∙ w.if-removes.true) within (c.loop-row.invariant s lt)
-      | else-removes w ↦ ap (λ l. get_or l s false) w.running-is ∙ still_unmarked of says c.args.exceptions.now i x c.loop-row-test.true c.row-item.is s (get_or c.args.running.now s false) c.loop-row.running (sym c.removes.ensures ∙ w.if-removes.false) (c.loop-row.invariant s lt)
+      | then-removes w ↦ ap (λ l. get_or l s false) w.running-is ∙ unmarked of says c.args.exceptions.now i x c.loop-row-test.true c.row-item.is service start old _ (sym c.removes.ensures ∙ w.if-removes.true) (w.set_mark.ensures s (omega arith)) (c.loop-row.invariant s lt)
+      | else-removes w ↦ ap (λ l. get_or l s false) w.running-is ∙ still_unmarked of says c.args.exceptions.now i x c.loop-row-test.true c.row-item.is service start old (sym c.removes.ensures ∙ w.if-removes.false) (c.loop-row.invariant s lt)
     ]

@@ -8,12 +8,6 @@ use Rattle.studies.specs.Inputs.{inputs_of}
 use Rattle.studies.proofs.StudyFacts.{are_dated, are_walked, days_told, feet_told, networks_made, networks_told, scenario_count}
 use Rattle.studies.proofs.networks.networks_for.Goals as goal
 
-pub active-requires-clause-back : goal.active-requires-clause-back
-active-requires-clause-back c = c.requires.settings.back
-
-pub active-requires-clause-ahead : goal.active-requires-clause-ahead
-active-requires-clause-ahead c = c.requires.settings.ahead
-
 pub returns-in-Err-clause-fault : goal.returns-in-Err-clause-fault
 returns-in-Err-clause-fault c =
     days_told (inputs_of c.args.inputs.now) c.args.settings.now c.in-Err.fault c.args.feed.now c.requires.edited c.requires.feed c.in-Err.ensures.fault

@@ -2,18 +2,18 @@ use Rattle.std.proofs.Common.{◌≤◌, ◌+◌, ◌-◌, ◌∙◌, ◌++◌, 
 use Rattle.std.proofs.lemmas.List.{append-nil, length-take}
 use Rattle.timetable.specs.declared.trips.Event.{Event}
 use Rattle.table_files.specs.Fill.{nearest}
-use Rattle.table_files.specs.declared.stamps.Stamp.{Stamp}
+use Rattle.table_files.specs.declared.trip_times.StopTime.{StopTime}
 use Rattle.table_files.proofs.FillFacts.{approached_near, filled_is, near_within, nearest_near, none_left}
 use Rattle.table_files.proofs.fill.filled.Goals as goal
 use Rattle.table_files.proofs.fill.filled.Goals.{in-Some, in-None}
 
 pub event_at-requires-clause-after : goal.event_at-requires-clause-after
 event_at-requires-clause-after c =
-    let xs = c.args.stamps.now in
+    let xs = c.args.trip_times.now in
     let few : length xs ≤ 8000000 = c.requires in
-    elim c.match-stamp.branch [
+    elim c.match-stop_time.branch [
       | in-Some w ↦
-          let rest : List Stamp = take (length xs - (c.loop-i.i + 1)) (drop (c.loop-i.i + 1) xs) in
+          let rest : List StopTime = take (length xs - (c.loop-i.i + 1)) (drop (c.loop-i.i + 1) xs) in
           let short : length rest ≤ 8000000 = omega (arith, length-take (length xs - (c.loop-i.i + 1)) (drop (c.loop-i.i + 1) xs)) in
           rw (w.after-is, w.nearest-after.ensures) (near_within (nearest rest) (length rest) 8000000 short (nearest_near rest))
       | in-None w ↦
@@ -24,8 +24,8 @@ event_at-requires-clause-after c =
 
 pub returns : goal.returns
 returns c =
-    sym (append-nil c.loop-i.events.items) ∙ sym (ap (λ (l : List Event). c.loop-i.events.items ++ l) (none_left c.loop-i.before c.loop-i.i c.args.stamps.now c.loop-i-test.false))
-    ∙ c.loop-i.invariant.1 ∙ filled_is c.args.stamps.now
+    sym (append-nil c.loop-i.events.items) ∙ sym (ap (λ (l : List Event). c.loop-i.events.items ++ l) (none_left c.loop-i.before c.loop-i.i c.args.trip_times.now c.loop-i-test.false))
+    ∙ c.loop-i.invariant.1 ∙ filled_is c.args.trip_times.now
 
 pub event_at-requires-clause-before : goal.event_at-requires-clause-before
 event_at-requires-clause-before c =

@@ -6,4 +6,4 @@ use Rattle.table_files.proofs.fill.filled.Given as goal
 
 abbrev pub invariant-loop-i : goal.invariant-loop-i
 invariant-loop-i l =
-    (l.next ≡ nearest (drop l.i l.stamps)) × (l.events.items ++ filled_on l.before (drop l.i l.stamps) ≡ filled_on None l.stamps) × IfSome l.before (λ n. n.untimed ≤ l.i)
+    (l.next ≡ nearest (drop l.i l.trip_times)) × (l.events.items ++ filled_on l.before (drop l.i l.trip_times) ≡ filled_on None l.trip_times) × IfSome l.before (λ n. n.untimed ≤ l.i)

@@ -9,14 +9,14 @@ use Rattle.table_records.specs.Table.{records_of}
 use Rattle.table_records.specs.declared.fault.FileName.TheVariants as file
 use Rattle.table_files.specs.StopTimes.{checks, required, row_of}
 use Rattle.table_files.specs.WholeTrips.{AreEvents, is_aside}
-use Rattle.table_files.specs.declared.stamps.Stamp.{Stamp}
+use Rattle.table_files.specs.declared.trip_times.StopTime.{StopTime}
 use Rattle.table_files.proofs.EventFacts.{are_events}
-use Rattle.table_files.proofs.TimeFacts.{no_stamps, read_whole}
+use Rattle.table_files.proofs.TimeFacts.{no_stop_times, read_whole}
 use Rattle.table_files.proofs.stop_times.read_stop_times.Goals as goal
 
 pub read_records-read-requires-clause-empty : goal.read_records-read-requires-clause-empty
 read_records-read-requires-clause-empty c =
-    no_stamps c.args.trips.now c.args.stops.now _ (c.in_ok-records.ensures ∙ ap (λ n. replicate {A = List Stamp} n []) c.len.ensures.len)
+    no_stop_times c.args.trips.now c.args.stops.now _ (c.in_ok-records.ensures ∙ ap (λ n. replicate {A = List StopTime} n []) c.len.ensures.len)
 
 pub returns-in_err-file-clause-fault : goal.returns-in_err-file-clause-fault
 returns-in_err-file-clause-fault c =

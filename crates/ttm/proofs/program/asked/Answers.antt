@@ -1,5 +1,6 @@
 use Rattle.std.proofs.Common.{inl}
 use Rattle.ttm.proofs.program.asked.Goals as goal
 
-pub returns-in-Ok : goal.returns-in-Ok
-returns-in-Ok g c = record { success = λ z. inl (c.in-Ok.task.settings, c.in-Ok.ensures.asked, c.study-code.ensures.success z) }
+pub returns-in-Ok-clause-success : goal.returns-in-Ok-clause-success
+returns-in-Ok-clause-success g c = λ z.
+    inl record { task = c.in-Ok.task; asked = c.in-Ok.ensures.asked; paths = c.in-Ok.ensures.paths; made = c.study-code.ensures.success z }

@@ -1,4 +1,4 @@
 use Rattle.ttm.proofs.program.example.Goals as goal
 
-pub returns : goal.returns
-returns g c = record { success = λ z. (_, (_, c.answer.ensures.success z)) }
+pub returns-clause-success : goal.returns-clause-success
+returns-clause-success g c = λ z. (_, _, c.answer.ensures.success z)

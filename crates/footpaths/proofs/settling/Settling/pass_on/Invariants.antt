@@ -3,4 +3,4 @@ use Rattle.footpaths.specs.Settling.{marks, PassedOn}
 use Rattle.footpaths.proofs.settling.Settling.pass_on.Given as goal
 
 abbrev pub invariant-loop-stop : goal.invariant-loop-stop
-invariant-loop-stop l = PassedOn l.limit l.label (take l.stop-index l.legs) (marks l.fn.self) (marks l.self)
+invariant-loop-stop l = PassedOn l.limit l.label (take l.stop-index l.leaving) (marks l.fn.self) (marks l.self)

@@ -39,38 +39,38 @@ leaving-requires-clause-stop c =
     let count = c.requires.footpaths.count in
     omega (arith, below, count)
 
-pub pass_on-requires-clause-legs : goal.pass_on-requires-clause-legs
-pass_on-requires-clause-legs c =
+pub pass_on-requires-clause-leaving : goal.pass_on-requires-clause-leaving
+pass_on-requires-clause-leaving c =
     let stops = length c.args.self.now.labels.items in
     let taken = note_taken (part c.args.footpaths.now) stops c.args.source.0 c.args.limit (marks c.loop-left.self) (heap_items c.pop.new.self)
     (c.in-Some.left, c.in-Some.stop) c.in-Some.ensures.permutation c.loop-left.invariant in
-    let all = All-same (λ (leg : StopNo × ℕ). leg.0.0 < stops) c.leaving.result.now (part c.args.footpaths.now c.in-Some.stop) c.leaving.ensures (c.requires.footpaths.targets c.in-Some.stop taken.1) in
-    subst (λ (n : ℕ). All (λ (leg : StopNo × ℕ). leg.0.0 < n) c.leaving.result.now) (sym c.loop-left.invariant.count) all
+    let all = All-same (λ (footpath : StopNo × ℕ). footpath.0.0 < stops) c.leaving.result.now (part c.args.footpaths.now c.in-Some.stop) c.leaving.ensures (c.requires.footpaths.targets c.in-Some.stop taken.1) in
+    subst (λ (n : ℕ). All (λ (footpath : StopNo × ℕ). footpath.0.0 < n) c.leaving.result.now) (sym c.loop-left.invariant.count) all
 
 pub loop-left-preserved-in-Continue-branch-2 : goal.loop-left-preserved-in-Continue-branch-2
 loop-left-preserved-in-Continue-branch-2 c =
-    let legs = part c.args.footpaths.now in
+    let leaving = part c.args.footpaths.now in
     let stops = length c.args.self.now.labels.items in
     let m = marks c.loop-left.self in
     let ks = heap_items c.pop.new.self in
-    let taken = note_taken legs stops c.args.source.0 c.args.limit m ks (c.in-Some.left, c.in-Some.stop) c.in-Some.ensures.permutation c.loop-left.invariant in
+    let taken = note_taken leaving stops c.args.source.0 c.args.limit m ks (c.in-Some.left, c.in-Some.stop) c.in-Some.ensures.permutation c.loop-left.invariant in
     let at = c.index.ensures ∙ get_or_default m.labels c.in-Some.stop c.index.result.now 0 (rw c.loop-left.invariant.count taken.1) in
     let now : Marks = record { labels = m.labels; touched = m.touched; noted = ks } in
-    let passed : PassedOn c.args.limit (c.args.limit - c.in-Some.left) (legs c.in-Some.stop) now (marks c.pass_on.new.self) =
+    let passed : PassedOn c.args.limit (c.args.limit - c.in-Some.left) (leaving c.in-Some.stop) now (marks c.pass_on.new.self) =
     subst (λ (ls : List (StopNo × ℕ)). PassedOn c.args.limit (c.args.limit - c.in-Some.left) ls now (marks c.pass_on.new.self)) c.leaving.ensures c.in_ok-pass_on.ensures in
-    note_served legs stops c.args.source.0 c.args.limit m (marks c.pass_on.new.self) ks (c.in-Some.left, c.in-Some.stop) c.in-Some.ensures.permutation c.loop-left.invariant
+    note_served leaving stops c.args.source.0 c.args.limit m (marks c.pass_on.new.self) ks (c.in-Some.left, c.in-Some.stop) c.in-Some.ensures.permutation c.loop-left.invariant
     (c.if-label-index.true ∙ at) passed
 
 pub loop-left-preserved : goal.loop-left-preserved
 loop-left-preserved c =
-    let legs = part c.args.footpaths.now in
+    let leaving = part c.args.footpaths.now in
     let stops = length c.args.self.now.labels.items in
     let m = marks c.loop-left.self in
     let ks = heap_items c.pop.new.self in
-    let taken = note_taken legs stops c.args.source.0 c.args.limit m ks (c.in-Some.left, c.in-Some.stop) c.in-Some.ensures.permutation c.loop-left.invariant in
+    let taken = note_taken leaving stops c.args.source.0 c.args.limit m ks (c.in-Some.left, c.in-Some.stop) c.in-Some.ensures.permutation c.loop-left.invariant in
     let at = c.index.ensures ∙ get_or_default m.labels c.in-Some.stop c.index.result.now 0 (rw c.loop-left.invariant.count taken.1) in
     let other = c.if-label-index.false in
-    note_dropped legs stops c.args.source.0 c.args.limit m ks (c.in-Some.left, c.in-Some.stop) c.in-Some.ensures.permutation c.loop-left.invariant (λ e. other (e ∙ sym at))
+    note_dropped leaving stops c.args.source.0 c.args.limit m ks (c.in-Some.left, c.in-Some.stop) c.in-Some.ensures.permutation c.loop-left.invariant (λ e. other (e ∙ sym at))
 
 pub returns : goal.returns
 returns c =

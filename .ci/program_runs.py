@@ -1,0 +1,179 @@
+#!/usr/bin/env python3
+"""Runs the built program as a user does, with words on folders and files, and compares both outputs and the exit status byte for byte.
+
+program_runs.py PROGRAM: the program as one compiler built it; the other compiler's build, PROGRAM.by-rattle, is run where it is there.
+The expected matrices are computed by hand from the small feed: T1 leaves A at 08:00 and arrives at B at 08:10, T2 leaves B at 08:15
+and arrives at C at 08:30, on Mondays.
+"""
+
+import os
+import shutil
+import subprocess
+import sys
+import tempfile
+from pathlib import Path
+
+NOBODY = 65534
+SECONDS = 120
+
+FEED = {
+    "stops.txt": "stop_id,stop_name\nA,Alpha\nB,Beta\nC,Gamma\n",
+    "routes.txt": "route_id\nR1\nR2\n",
+    "calendar.txt": "service_id,monday,tuesday,wednesday,thursday,friday,saturday,sunday,start_date,end_date\n"
+    "MON,1,0,0,0,0,0,0,20260504,20260531\n",
+    "trips.txt": "route_id,service_id,trip_id\nR1,MON,T1\nR2,MON,T2\n",
+    "stop_times.txt": "trip_id,arrival_time,departure_time,stop_id,stop_sequence\n"
+    "T1,08:00:00,08:00:00,A,1\nT1,08:10:00,08:10:00,B,2\nT2,08:15:00,08:15:00,B,1\nT2,08:30:00,08:30:00,C,2\n",
+}
+OWN = {
+    "walks.csv": "from_stop_id,to_stop_id,seconds\nC,B,120\n",
+    "chances.csv": "stop_id,opportunities\nB,10\nC,5\n",
+    "origins.csv": "stop_id\nC\nA\n",
+    "cut.csv": "action,id,seconds\nremove_route,R2,\n",
+    "late.csv": "action,id,seconds\nshift_trip,T1,300\n",
+}
+ASKED = "--date 20260504 --from 08:00 --to 08:00 --trips 2 --share 50 --within 1800 --workers 1 --tries 1 --walk"
+OWN_WORDS = "--footpaths walks.csv --opportunities chances.csv --origins origins.csv"
+
+# From C one walks to B in 120 seconds and rides nowhere; from A one rides to B and on to C.
+BASE = "base,C,15,,120,0\nbase,A,15,0,600,1800\n"
+CUT = "cut,C,15,,120,0\ncut,A,10,0,600,\n"
+LATE = "late,C,15,,120,0\nlate,A,15,0,900,1800\n"
+HEAD = "scenario,origin,access,A,B,C\n"
+EXAMPLE = HEAD + "base,A,3,0,600,1800\n"
+
+# what is done to the folder, the words, the standard output, the standard error, the status
+RUNS = [
+    ("no words", None, "", EXAMPLE, "", 0),
+    ("all own files and two scenarios", None, f"--feed feed {ASKED} 300 {OWN_WORDS} cut.csv late.csv", HEAD + BASE + CUT + LATE, "", 0),
+    ("the scenarios the other way round", None, f"--feed feed {ASKED} 300 {OWN_WORDS} late.csv cut.csv", HEAD + BASE + LATE + CUT, "", 0),
+    ("a walk past the limit", None, f"--feed feed {ASKED} 119 {OWN_WORDS}", HEAD + "base,C,5,,,0\nbase,A,15,0,600,1800\n", "", 0),
+    ("a bad setting", None, f"--feed feed {ASKED} 7201 {OWN_WORDS}", "", "ttm: bad walk\n", 2),
+    ("a bad record", ("feed/stop_times.txt", "trip_id,stop_id,stop_sequence\nT1,A,1\nT1,B,x\n"), f"--feed feed {ASKED} 0", "", "ttm: stop_times.txt: record 3: bad number\n", 2),
+    ("footpaths for opportunities", None, f"--feed feed {ASKED} 0 --opportunities walks.csv", "", "ttm: opportunities: record 1: missing column\n", 2),
+    ("a bad scenario", ("cut.csv", "action,id,seconds\nremove_trip,T9,\n"), f"--feed feed {ASKED} 0 cut.csv", "", "ttm: scenario cut: record 2: unknown trip\n", 2),
+    ("a name used twice", None, f"--feed feed {ASKED} 0 cut.csv ./cut.csv", "", "ttm: scenario name: cut\n", 2),
+    ("a feed that isn't there", None, f"--feed nowhere {ASKED} 0", "", "ttm: stops.txt: missing file\n", 2),
+    ("a file of the feed that isn't there", ("feed/trips.txt", None), f"--feed feed {ASKED} 0", "", "ttm: trips.txt: missing file\n", 2),
+    ("an own file that isn't there", None, f"--feed feed {ASKED} 0 --origins none.csv", "", "ttm: none.csv: read fault\n", 5),
+    ("a scenario that isn't there", None, f"--feed feed {ASKED} 0 none.csv", "", "ttm: none.csv: read fault\n", 5),
+    ("a file of the feed without permission", ("feed/calendar_dates.txt", 0), f"--feed feed {ASKED} 0", "", "ttm: feed/calendar_dates.txt: read fault\n", 5),
+    ("an own file without permission", ("origins.csv", 0), f"--feed feed {ASKED} 0 {OWN_WORDS}", "", "ttm: origins.csv: read fault\n", 5),
+    ("a folder without permission", ("feed", 0), f"--feed feed {ASKED} 0", "", "ttm: feed/stops.txt: read fault\n", 5),
+    ("a folder for a file", None, f"--feed feed {ASKED} 0 --origins feed", "", "ttm: feed: read fault\n", 5),
+    ("a file for the folder", None, f"--feed cut.csv {ASKED} 0", "", "ttm: cut.csv/stops.txt: read fault\n", 5),
+]
+
+
+def as_nobody():
+    """How a process is started so that permissions count: root may read everything."""
+    return {"user": NOBODY, "group": NOBODY, "extra_groups": []} if os.geteuid() == 0 else {}
+
+
+def lay_out(room):
+    """Writes the feed and the own files."""
+    for name, text in {**{f"feed/{it}": text for it, text in FEED.items()}, **OWN}.items():
+        (room / name).parent.mkdir(exist_ok=True)
+        (room / name).write_text(text)
+
+
+def change(room, path, to):
+    """Gives a file another text, takes it away (None), or takes all permissions from it (0)."""
+    if to is None:
+        (room / path).unlink()
+    elif to == 0:
+        if not (room / path).exists():
+            (room / path).write_text("service_id,date,exception_type\n")
+        (room / path).chmod(0)
+    else:
+        (room / path).write_text(to)
+
+
+def start(program, words, room, **outputs):
+    """Starts the program in a folder, with these outputs or with pipes."""
+    outputs = {"stdout": subprocess.PIPE, "stderr": subprocess.PIPE, **outputs}
+    return subprocess.Popen([program, *words], cwd=room, stdin=subprocess.DEVNULL, env={"LANG": "C.UTF-8"}, **outputs, **as_nobody())
+
+
+def left(started):
+    """What a program leaves: both outputs and its status."""
+    out, err = started.communicate(timeout=SECONDS)
+    return (out or b"").decode(errors="replace"), (err or b"").decode(errors="replace"), started.returncode
+
+
+def in_a_room(changes, leaves):
+    """Gives what a run leaves in a fresh folder."""
+    with tempfile.TemporaryDirectory(prefix="ttm-runs-") as made:
+        room = Path(made)
+        room.chmod(0o755)
+        lay_out(room)
+        if changes:
+            change(room, *changes)
+        try:
+            return leaves(room)
+        finally:
+            if changes and changes[1] == 0:
+                (room / changes[0]).chmod(0o755)
+
+
+def full_disk(program):
+    """A matrix that can't be written is told, by a line and a status."""
+    with open("/dev/full", "wb") as full:
+        return in_a_room(None, lambda room: left(start(program, [], room, stdout=full))), ("", "ttm: write fault\n", 5)
+
+
+def closed_pipe(program):
+    """So it is where nobody reads."""
+    reader, writer = os.pipe()
+    os.close(reader)
+    try:
+        return in_a_room(None, lambda room: left(start(program, [], room, stdout=writer))), ("", "ttm: write fault\n", 5)
+    finally:
+        os.close(writer)
+
+
+def help_text(program):
+    """Help is a success, on the standard output alone; only its first line is compared here."""
+    out, err, status = in_a_room(None, lambda room: left(start(program, ["--help"], room)))
+    return (out.splitlines()[:1], err, status), (["Travel time matrices over a GTFS feed, for a base network and for scenarios."], "", 0)
+
+
+def wrong_word(program):
+    """Words that aren't the program's are told on the standard error; only the first line is compared here."""
+    out, err, status = in_a_room(None, lambda room: left(start(program, ["--nope"], room)))
+    return (out, err.splitlines()[:1], status), ("", ["error: unexpected argument '--nope' found"], 2)
+
+
+def no_text(program):
+    """Words that are no UTF-8 are told."""
+    return in_a_room(None, lambda room: left(start(program, [b"--feed", b"\xff"], room))), ("", "ttm: words that are not UTF-8\n", 2)
+
+
+def tried(program):
+    """Each run with what it left and what it should have."""
+    for name, changes, words, out, err, status in RUNS:
+        yield name, in_a_room(changes, lambda room: left(start(program, words.split(), room))), (out, err, status)
+    for special in (full_disk, closed_pipe, help_text, wrong_word, no_text):
+        yield special.__doc__.split(":")[0].rstrip("."), *special(program)
+
+
+def main():
+    programs = [it for it in (sys.argv[1], f"{sys.argv[1]}.by-rattle") if os.path.isfile(it)]
+    passed = failed = 0
+    with tempfile.TemporaryDirectory(prefix="ttm-program-") as room:
+        os.chmod(room, 0o755)
+        for built in programs:
+            program = shutil.copy(built, room)
+            os.chmod(program, 0o755)
+            for name, was, wanted in tried(program):
+                passed, failed = passed + (was == wanted), failed + (was != wanted)
+                if was != wanted:
+                    print(f"{os.path.basename(built)}, {name}: left {was!r} in place of {wanted!r}")
+    if not programs:
+        print(f"{sys.argv[1]}: no such program")
+    print(f"{passed} passed, {failed if programs else 1} failed")
+    return 1 if failed or not programs else 0
+
+
+if __name__ == "__main__":
+    sys.exit(main())

@@ -1,0 +1,158 @@
+//! The command of `clap` that the words are taken by: its options as a table, in the order of the help.
+
+ghost use Rattle.std.specs.Prelude.{◌≡◌, IfOk, false, map};
+ghost use Rattle.clap.specs.Words.{app_of, rule_of};
+ghost use Rattle.command_line.specs.Words as spec;
+
+use crate::option_text::OptionText;
+use clap::{Arg, ArgAction, Command};
+use std::alloc::{AllocError, Global};
+
+const ABOUT: &str = "Travel time matrices over a GTFS feed, for a base network and for scenarios.";
+
+const EXAMPLE: &str =
+    "Example: ttm --feed town --date 20260504 --from 08:00 --to 08:59 --trips 3 --walk 600 --share 50 \
+    --within 1800 --workers 4 --tries 2 cut.csv";
+
+/// The options: the feed and the departures, the journeys and what is told of them, the run, the service days beside
+/// that of the date, and the analyst's own files.
+const OPTIONS: &[OptionText] = &[
+    OptionText {
+        name: "feed",
+        value: "DIR",
+        help: "Folder of the feed's files, as stops.txt",
+        is_needed: true,
+    },
+    OptionText {
+        name: "date",
+        value: "YYYYMMDD",
+        help: "Date of the departures",
+        is_needed: true,
+    },
+    OptionText {
+        name: "from",
+        value: "HH:MM",
+        help: "First minute of departure, 00:00 to 23:59",
+        is_needed: true,
+    },
+    OptionText {
+        name: "to",
+        value: "HH:MM",
+        help: "Last minute of departure, 00:00 to 23:59, not before --from",
+        is_needed: true,
+    },
+    OptionText {
+        name: "trips",
+        value: "K",
+        help: "Most rides of a journey, 1 to 8",
+        is_needed: true,
+    },
+    OptionText {
+        name: "walk",
+        value: "S",
+        help: "Longest walk in seconds, 0 to 7200",
+        is_needed: true,
+    },
+    OptionText {
+        name: "share",
+        value: "P",
+        help: "Share of the minutes in percent that a travel time covers, 1 to 100",
+        is_needed: true,
+    },
+    OptionText {
+        name: "within",
+        value: "S",
+        help: "Travel time in seconds within which a stop counts for access, 0 to 4294967295",
+        is_needed: true,
+    },
+    OptionText {
+        name: "workers",
+        value: "N",
+        help: "Number of threads, 1 to 64",
+        is_needed: true,
+    },
+    OptionText {
+        name: "tries",
+        value: "N",
+        help: "How often each row may be begun, 1 to 8",
+        is_needed: true,
+    },
+    OptionText {
+        name: "back",
+        value: "N",
+        help: "Service days before the date that count, 0 to 6; 0 where the network is too large [default: 1]",
+        is_needed: false,
+    },
+    OptionText {
+        name: "ahead",
+        value: "N",
+        help: "Service days after the date that count, 0 to 6; 0 where the network is too large [default: 1]",
+        is_needed: false,
+    },
+    OptionText {
+        name: "origins",
+        value: "F",
+        help: "File of the stops where journeys begin [default: all stops]",
+        is_needed: false,
+    },
+    OptionText {
+        name: "opportunities",
+        value: "F",
+        help: "File of the opportunities at stops [default: 1 at each]",
+        is_needed: false,
+    },
+    OptionText {
+        name: "footpaths",
+        value: "F",
+        help: "File of further footpaths, in seconds [default: none]",
+        is_needed: false,
+    },
+];
+
+/// The command.
+pub(crate) fn command<'a>(alloc: Global) -> Result<Command<'a>, AllocError>
+    ensures { IfOk result (λ c. app_of c ≡ spec.study_app) }
+{
+    let command = Command::new(alloc, "ttm").about(ABOUT).after_help(EXAMPLE);
+    with_options(alloc, command, OPTIONS)?.arg(scenario_files(alloc))
+}
+
+/// The command with more options.
+fn with_options<'a>(
+    alloc: Global,
+    command: Command<'a>,
+    options: &[OptionText],
+) -> Result<Command<'a>, AllocError>
+    ensures { IfOk result (λ c. app_of c ≡ spec.with_rules (app_of command.entry) (map spec.rule_in options.now)) }
+{
+    let mut command = command;
+    for option in options {
+        command = command.arg(argument(alloc, option))?;
+    }
+    Ok(command)
+}
+
+/// An option with one text as value.
+fn argument<'a>(alloc: Global, option: &OptionText) -> Arg<'a>
+    ensures rule { rule_of result ≡ spec.rule_in option.now }
+    ensures local { result.global ≡ false }
+{
+    Arg::new(alloc, option.name)
+        .long(option.name)
+        .action(ArgAction::Set)
+        .value_name(option.value)
+        .help(option.help)
+        .required(option.is_needed)
+}
+
+/// The scenario files: the words that belong to no option.
+fn scenario_files<'a>(alloc: Global) -> Arg<'a>
+    ensures rule { rule_of result ≡ spec.scenario_rule }
+    ensures local { result.global ≡ false }
+{
+    Arg::new(alloc, "scenario")
+        .action(ArgAction::Append)
+        .num_args(0..)
+        .value_name("SCENARIO")
+        .help("Scenario files, at most 15; each is named by its file name without .csv")
+}

@@ -1,0 +1,5 @@
+use Rattle.work_book.proofs.Told.{some_run}
+use Rattle.work_book.proofs.laws.closed_boards_are_runs.Goals as goal
+
+pub returns : goal.returns
+returns c = some_run

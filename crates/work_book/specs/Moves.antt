@@ -1,0 +1,35 @@
+-- What each kind of atomic step tells the seat that makes it.
+use Rattle.std.specs.Prelude.{◌≡◌, ℕ, ◌-◌, ◌<◌, ◌≤◌, false}
+use Rattle.std.specs.List.{All}
+use Rattle.atomic_table.specs.Table.{Me, Step}
+use Rattle.work_book.specs.Laws.{drawn_in, kept_in}
+use Rattle.work_book.specs.Views.{seat_of, knows, drew, told_nothing, knowing, keeping}
+use Rattle.work_book.specs.declared.rule.View.{View}
+
+-- a seat, by its view; it holds no slot of the table
+abbrev pub Mine : Type 0
+Mine = Me (Unit {0}) View
+
+-- the number found is the seat's, and above all that it drew, where it is below the limit; else all numbers are drawn
+abbrev pub Draws : Step (Unit {0}) → Mine → ℕ → Mine → Type 0
+Draws s v found w =
+    (w.1 ≡ v.1) × (found < v.0.limit → (w.0 ≡ drew found v.0) × All (λ drawn. drawn < found) v.0.drawn) × (v.0.limit ≤ found → w.0 ≡ told_nothing v.0)
+
+-- no number and no job stands twice in a view
+pub record IsOnce (v : View) : Type 0 where
+  pub drawn : (number : ℕ) → drawn_in number (seat_of v) ≤ 1
+  pub kept : (job : ℕ) → kept_in job (seat_of v) ≤ 1
+
+-- a load of any word shows that nothing stands twice, and that there are no more shares than all
+abbrev pub Shows : Step (Unit {0}) → Mine → ℕ → Mine → Type 0
+Shows s v found w = (w ≡ v) × IsOnce v.0 × (v.0.share ≤ 65536)
+
+-- a job whose word is 0 wasn't known to be settled; one whose word isn't 0 is known from then on
+abbrev pub Looks : Step (Unit {0}) → Mine → ℕ → Mine → Type 0
+Looks s v found w =
+    (w.1 ≡ v.1) × (found ≡ 0 → (w.0 ≡ v.0) × (knows v.0 (s.word - 1) ≡ false)) × (0 < found → w.0 ≡ knowing (s.word - 1) v.0)
+
+-- a job whose word was 0 is kept, and settled from then on; one whose word wasn't 0 was settled before
+abbrev pub Settles : Step (Unit {0}) → Mine → ℕ → Mine → Type 0
+Settles s v found w =
+    (w.1 ≡ v.1) × (found ≡ 0 → (w.0 ≡ keeping (s.word - 1) v.0) × (knows v.0 (s.word - 1) ≡ false)) × (0 < found → w.0 ≡ knowing (s.word - 1) v.0)
