@@ -222,7 +222,7 @@ def gate(root, chosen, sums, toolchain):
         results = [counted(status, lines)]
         note(root, lines, chosen, sums, toolchain)
         program = room / "crates/ttm/out/ttm"
-        for script, words in (("program_runs.py", [str(program)]), ("gate_tests.py", [])):
+        for script, words in (("program_runs.py", [str(program)]), ("random_feeds.py", [str(program)]), ("gate_tests.py", [])):
             if (own / script).is_file():
                 results.append(counted(*run([sys.executable, str(own / script), *words], root)))
     return sum(it[0] for it in results), sum(it[1] for it in results)

@@ -39,6 +39,21 @@ def number(row, column):
     return int((row.get(column) or "").strip() or 0)
 
 
+def times_of(calls):
+    """Both times of each record of a trip: one gives the other, and where there is none it lies evenly between those around it."""
+    times = []
+    for r in calls:
+        arrive, depart = ((r.get(kind + "_time") or "").strip() for kind in ("arrival", "departure"))
+        times.append((seconds(arrive or depart), seconds(depart or arrive)) if arrive or depart else None)
+    for at in [at for at, time in enumerate(times) if time is None]:
+        before = max(k for k in range(at) if calls[k]["arrival_time"].strip() or calls[k]["departure_time"].strip())
+        after = min(k for k in range(at, len(calls)) if calls[k]["arrival_time"].strip() or calls[k]["departure_time"].strip())
+        leaves, reaches = times[before][1], times[after][0]
+        between = leaves + (reaches - leaves) * (at - before) // (after - before)
+        times[at] = (between, between)
+    return times
+
+
 class Feed:
     def __init__(self, folder):
         self.folder = folder
@@ -53,17 +68,23 @@ class Feed:
         self.calendar = rows(self.path("calendar.txt"))
         self.exceptions = rows(self.path("calendar_dates.txt"))
         self.trips = rows(self.path("trips.txt"))
-        self.events = collections.defaultdict(list)
+        calls = collections.defaultdict(list)
         for r in sorted(rows(self.path("stop_times.txt")), key=lambda r: int(r["stop_sequence"])):
-            self.events[r["trip_id"]].append(
-                Event(self.stop_no[r["stop_id"]], seconds(r["arrival_time"]), seconds(r["departure_time"]),
-                      number(r, "pickup_type") != 1, number(r, "drop_off_type") != 1))
+            calls[r["trip_id"]].append(r)
+        self.events = collections.defaultdict(list, {trip: self.events_of(c) for trip, c in calls.items()})
         self.headways = collections.defaultdict(list)
         for r in rows(self.path("frequencies.txt")):
             self.headways[r["trip_id"]].append((seconds(r["start_time"]), seconds(r["end_time"]), int(r["headway_secs"])))
 
     def path(self, name):
         return os.path.join(self.folder, name)
+
+    def events_of(self, calls):
+        """The events of a trip; a trip with a record that names no stop has none."""
+        if any(not r["stop_id"] for r in calls):
+            return []
+        return [Event(self.stop_no[r["stop_id"]], arrive, depart, number(r, "pickup_type") != 1, number(r, "drop_off_type") != 1)
+                for r, (arrive, depart) in zip(calls, times_of(calls))]
 
     def runs_on(self, service, date):
         """Whether a service runs on a date: it is added; or a row covers the date on its weekday, and it isn't removed."""
@@ -188,13 +209,13 @@ def cell(times, share):
     return reached[rank - 1] if rank <= len(reached) else None
 
 
-def options():
+def options(words):
     parser = argparse.ArgumentParser(usage=__doc__)
     for name in ["feed", "date", "from", "to", "trips", "walk", "share", "within", "workers", "tries", "back", "ahead",
                  "origins", "opportunities", "footpaths"]:
         parser.add_argument("--" + name, default="1" if name in ("back", "ahead") else None)
     parser.add_argument("scenario", nargs="*")
-    chosen = parser.parse_args()
+    chosen = parser.parse_args(words)
     for name in ["trips", "walk", "share", "within", "back", "ahead"]:
         setattr(chosen, name, int(getattr(chosen, name)))
     chosen.date = datetime.datetime.strptime(chosen.date, "%Y%m%d").date()
@@ -203,14 +224,15 @@ def options():
     return chosen
 
 
-def main():
-    asked = options()
+def write_matrix(words, file):
+    """Writes the matrix that these words ask for."""
+    asked = options(words)
     feed = Feed(asked.feed)
     feet = closed_footpaths(len(feed.stops), feed.direct_footpaths(asked.footpaths), asked.walk)
     changes = feed.change_times()
     origins = [r["stop_id"] for r in rows(asked.origins)] if asked.origins else feed.stops
     counts = {r["stop_id"]: int(r["opportunities"]) for r in rows(asked.opportunities)} if asked.opportunities else None
-    out = csv.writer(sys.stdout, lineterminator="\n")
+    out = csv.writer(file, lineterminator="\n")
     out.writerow(["scenario", "origin", "access"] + feed.stops)
     for scenario in [None] + asked.scenario:
         name = os.path.basename(scenario).removesuffix(".csv") if scenario else "base"
@@ -223,4 +245,6 @@ def main():
             out.writerow([name, origin, access] + ["" if c is None else c for c in cells])
 
 
-main()
+
+if __name__ == "__main__":
+    write_matrix(sys.argv[1:], sys.stdout)

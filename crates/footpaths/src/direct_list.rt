@@ -82,6 +82,7 @@ impl Direct {
     pub(crate) fn known(&self)
         ensures { AreDirect self.now }
     {
+        // A look at a field brings the invariant into the proof.
         let _ = &self.pairs;
     }
 }

@@ -58,6 +58,9 @@ pub fn read_catalog(alloc: Global, files: &FeedBytes<'_>) -> Result<Catalog, Fee
     }
 }
 
+// Each step owns one big value, and what it makes holds that of the step after it: a function that owned several would make
+// the prover follow the letting go of each at every way out.
+
 /// The routes, and what runs on them.
 #[derive(Drop)]
 struct RoutesWithTrips {

@@ -103,6 +103,7 @@ impl Feed {
     pub fn known(&self)
         ensures { IsFeed self.now }
     {
+        // A look at a field brings the invariant into the proof.
         let _ = &self.trips;
     }
 

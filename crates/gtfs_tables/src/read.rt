@@ -1,4 +1,6 @@
 //! A feed from the bytes of its files.
+//! Each step owns one big value and borrows those before it: a function that owned several would make the prover follow the
+//! letting go of each at every way out.
 
 ghost use Rattle.std.specs.Prelude.{◌≡◌, ◌≤◌, ◌++◌, [], All, length, map, IfOk, IfErr};
 ghost use Rattle.timetable.specs.declared.limits.TheConstants.{MOST_STOPS, MOST_TRIPS};

@@ -123,6 +123,7 @@ enum Asked {
     OneRide,
     EveryRow,
     OneRow,
+    WholeDay,
     NoOrigins,
     Limits,
     Opportunities,
@@ -146,6 +147,7 @@ fn give(alloc: Global, networks: &[Network], asked: Asked) -> bool {
         Asked::OneRide => count_rides(alloc, networks),
         Asked::EveryRow => give_every_row(alloc, networks),
         Asked::OneRow => give_one_row(alloc, networks),
+        Asked::WholeDay => give_the_row_of_a_day(alloc, networks),
         Asked::NoOrigins => give_no_rows(alloc, networks),
         Asked::Limits => fit_up_to_each_limit(networks),
         Asked::Opportunities => fit_an_opportunity_for_each_stop(networks),
@@ -270,6 +272,21 @@ fn give_one_row(alloc: Global, networks: &[Network]) -> bool {
 fn gives_one_row_alone(rt: HostRuntime) {
     let scenarios: [&[Ride]; 2] = [&[FIRST, SECOND], &[FIRST]];
     assert!(rt; are_right(rt.alloc(), &scenarios, Asked::OneRow));
+}
+
+/// The row of all minutes of a day, of which 481 leave before the only trips: a third of them is 476 minutes.
+fn give_the_row_of_a_day(alloc: Global, networks: &[Network]) -> bool {
+    let study = Study {
+        window: window(0, 1_440),
+        share: 33,
+        ..study_of(networks)
+    };
+    gives_one(alloc, &study, 1, [Some(0), Some(29_100), Some(30_300)])
+}
+
+#[test]
+fn gives_the_row_of_a_days_window(rt: HostRuntime) {
+    assert!(rt; are_right(rt.alloc(), BASE, Asked::WholeDay));
 }
 
 /// No rows without origins, and none without scenarios.

@@ -256,6 +256,24 @@ fn quotes_where_it_is_needed(rt: HostRuntime) {
     assert!(rt; gives(rt.alloc(), QUOTED, (1, 1), &[FROM_A], named, want));
 }
 
+/// Whether the row from A is written whole under a scenario's name of so many bytes.
+fn gives_a_line_longer_than(alloc: Global, bytes: usize) -> Result<bool, AllocError> {
+    let name = vec![in alloc; b'x'; bytes]?;
+    let mut want = Vec::from_slice(alloc, b"scenario,origin,access,A,B,C\n")?;
+    want.extend_from_slice(&name)?;
+    want.extend_from_slice(b",A,3,0,600,1800\n")?;
+    let named = Named {
+        scenarios: &[&name],
+        origins: &[StopNo(0)],
+    };
+    Ok(gives(alloc, THREE_STOPS, (1, 1), &[FROM_A], named, &want))
+}
+
+#[test]
+fn writes_a_line_of_more_than_64_kib(rt: HostRuntime) {
+    assert_eq!(rt; gives_a_line_longer_than(rt.alloc(), 65_536), Ok(true));
+}
+
 /// Whether these labels are told to fit the matrix of the row from A: none without memory.
 fn fit(alloc: Global, files: Files, scenarios: &[&[u8]], origins: &[StopNo]) -> Option<bool> {
     match (matrix_of(alloc, 1, 1, &[FROM_A]), list_of(alloc, scenarios)) {

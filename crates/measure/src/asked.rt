@@ -6,9 +6,19 @@ use jiff::civil::Date;
 use rounds::Window;
 use table_records::number;
 
+/// What is measured of a study.
+#[derive(Clone, Copy)]
+pub(crate) enum Part {
+    /// Stage after stage.
+    Stages,
+    /// The least durations of the base network, origin by origin.
+    Durations,
+}
+
 /// The service day of a study, its departures, and how far its journeys go.
 #[derive(Clone, Copy)]
 pub(crate) struct Asked {
+    pub part: Part,
     /// The one service day whose trips run.
     pub date: Date,
     /// The departures.
@@ -21,10 +31,11 @@ pub(crate) struct Asked {
 
 /// What five words ask for: the date, the time of the first departure, how many minutes have one, the most rides, and the
 /// longest walk in seconds. None where one of them isn't a date, a time or a number.
-pub(crate) fn read(words: &[String]) -> Option<Asked>
+pub(crate) fn read(part: Part, words: &[String]) -> Option<Asked>
     requires { length words.now ≡ 5 }
 {
     Some(Asked {
+        part,
         date: read_date(words[0].as_bytes())?,
         window: Window {
             first: read_time(words[1].as_bytes())?,

@@ -11,6 +11,13 @@ pub(crate) fn millis(time: Duration) -> u64 {
         .saturating_add(time.subsec_millis() as u64)
 }
 
+/// A time in whole microseconds.
+pub(crate) fn micros(time: Duration) -> u64 {
+    time.as_secs()
+        .saturating_mul(1_000_000)
+        .saturating_add(time.subsec_micros() as u64)
+}
+
 /// How many hundredths of `whole` are in `part`; a whole of 0 counts as 1.
 pub(crate) fn hundredths(part: u64, whole: u64) -> u64
     ensures { result ≡ min (part * 100) (2 ^ 64 - 1) / max whole 1 }

@@ -1,8 +1,10 @@
 //! How fast the engine is. Over a feed alone: the `csv` crate's own pass over all records of its files, and then
-//! `gtfs_tables::read_feed` over the same bytes, in one run. Over a study of files: each of its stages.
+//! `gtfs_tables::read_feed` over the same bytes, in one run. Over a study of files: each of its stages, or the least
+//! durations alone.
 //!
 //! - `reading`: a feed's reading beside `csv_alone`, which is the yardstick.
 //! - `stages`: a study, stage after stage; `tables` and `networks` make two of them, `sizes` says how much was made.
+//! - `origins`: the least durations, origin by origin.
 //! - `asked`: what the words ask for; `feed_files` and `own_files` hold the files in memory.
 //! - `telling` prints the lines of the report, `figures` does the sums.
 #![tactic(auto)]
@@ -14,6 +16,7 @@ mod csv_alone;
 mod feed_files;
 mod figures;
 mod networks;
+mod origins;
 mod own_files;
 mod reading;
 mod sizes;
@@ -21,10 +24,12 @@ mod stages;
 mod tables;
 mod telling;
 
+use asked::Part;
 use std::{env, io};
 
 const USAGE: &str =
-    "usage: measure FOLDER [YYYYMMDD HH:MM:SS MINUTES TRIPS WALK FOOTPATHS ORIGINS [SCENARIO ..]]";
+    "usage: measure FOLDER [YYYYMMDD HH:MM:SS MINUTES TRIPS WALK FOOTPATHS ORIGINS [SCENARIO ..]]
+       measure durations FOLDER YYYYMMDD HH:MM:SS MINUTES TRIPS WALK FOOTPATHS ORIGINS";
 
 fn main(rt: HostRuntime) -> io::Result<()> {
     let words = env::args(&rt)?.collect::<Vec<String>>(rt.alloc())?;
@@ -35,17 +40,18 @@ fn main(rt: HostRuntime) -> io::Result<()> {
 fn run(rt: &HostRuntime, words: &[String]) -> io::Result<()> {
     match words.len() {
         2 => reading::time_feed(rt, words[1].as_str()),
-        9.. => run_study(rt, words),
+        10 if words[1].as_str() == "durations" => run_study(rt, Part::Durations, &words[2..]),
+        9.. => run_study(rt, Part::Stages, &words[1..]),
         _ => println!(rt; "{USAGE}"),
     }
 }
 
-/// Measures the stages of a study.
-fn run_study(rt: &HostRuntime, words: &[String]) -> io::Result<()>
-    requires { 9 ≤ length words.now }
+/// Measures a part of a study.
+fn run_study(rt: &HostRuntime, part: Part, words: &[String]) -> io::Result<()>
+    requires { 8 ≤ length words.now }
 {
-    match asked::read(&words[2..7]) {
-        Some(asked) => stages::time_study(rt, asked, words[1].as_str(), &words[7..]),
+    match asked::read(part, &words[1..6]) {
+        Some(asked) => stages::time_study(rt, asked, words[0].as_str(), &words[6..]),
         None => println!(rt; "{USAGE}"),
     }
 }

@@ -3,10 +3,11 @@
 ghost use Rattle.std.specs.Prelude.{◌≤◌, All, length};
 ghost use Rattle.service_days.specs.Instances.{IsRun};
 
-use crate::asked::Asked;
+use crate::asked::{Asked, Part};
 use crate::feed_files::read_feed_files;
 use crate::figures::per_second;
 use crate::networks::make_networks;
+use crate::origins::time_origins;
 use crate::own_files::{ScenarioFile, read_all, read_own};
 use crate::sizes::{event_count, pair_count};
 use crate::tables::{Tables, names_of, read_tables};
@@ -170,8 +171,24 @@ fn time_networks(
     }
     let start = Instant::now(rt)?;
     match make_networks(rt.alloc(), feed, &tables.scenarios, runs, feet) {
-        Ok(networks) => time_durations(rt, asked, feed, tables, &networks, start),
+        Ok(networks) => time_part(rt, asked, feed, tables, &networks, start),
         Err(fault) => tell_fault(rt, &fault),
+    }
+}
+
+// The networks are made: the part that is asked for is computed.
+fn time_part(
+    rt: &HostRuntime,
+    asked: Asked,
+    feed: &Feed,
+    tables: &Tables,
+    networks: &[Network],
+    start: Instant,
+) -> io::Result<()> {
+    tell_stage(rt, "networks", start)?;
+    match (asked.part, networks.first()) {
+        (Part::Durations, Some(base)) => time_origins(rt, asked, base, &tables.origins),
+        _ => time_durations(rt, asked, feed, tables, networks),
     }
 }
 
@@ -182,9 +199,7 @@ fn time_durations(
     feed: &Feed,
     tables: &Tables,
     networks: &[Network],
-    start: Instant,
 ) -> io::Result<()> {
-    tell_stage(rt, "networks", start)?;
     let opportunities = vec![in rt.alloc(); 1; feed.stop_count() as usize]?;
     let study = Study {
         number: 0,

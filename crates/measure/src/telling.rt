@@ -17,6 +17,11 @@ pub(crate) fn tell_stage(rt: &HostRuntime, stage: &str, start: Instant) -> io::R
     Ok(time)
 }
 
+/// Prints how many microseconds the durations from an origin took, which is counted from 0.
+pub(crate) fn tell_origin(rt: &HostRuntime, at: usize, micros: u64) -> io::Result<()> {
+    println!(rt; "durations, origin {}, us: {micros}", at.saturating_add(1))
+}
+
 /// Prints that a study isn't one.
 pub(crate) fn refuse(rt: &HostRuntime, why: &str) -> io::Result<()> {
     println!(rt; "refused: {why}")

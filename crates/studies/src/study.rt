@@ -1,5 +1,7 @@
 //! A study of files: from their bytes and the settings to the text of the matrix.
 //! Each stage hands what it made to the next, so that the first stage that refuses is the one that is told.
+//! Each is a function of its own and owns one big value: a function that owned several would make the prover follow the
+//! letting go of each at every way out.
 ghost use Rattle.std.specs.Prelude.{◌≡◌, ◌+◌, IfErr, IfOk, length};
 ghost use Rattle.matrix_text.specs.Text.{matrix_text};
 ghost use Rattle.studies.specs.Inputs.{AreWithinLimit, inputs_of};

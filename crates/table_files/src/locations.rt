@@ -46,6 +46,7 @@ impl Locations {
     pub fn known(&self)
         ensures { spec.AreLocations self.now }
     {
+        // A look at a field brings the invariant into the proof.
         let _ = &self.locations;
     }
 

@@ -1,0 +1,183 @@
+#!/usr/bin/env python3
+"""The built program beside a plain second one (bench/plain.py), over small feeds that are drawn by a seed: every matrix must be the same, byte for byte.
+
+    random_feeds.py PROGRAM [--count N] [--seed N]
+
+The feeds have what GTFS allows and hand-made examples forget: overnight trips, loops, times left out, headways that overlap, exceptions,
+stations, change times, forbidden boarding, identifiers with commas and quotes; and footpaths, origins, opportunities and
+scenarios of the analyst's own. Where the two differ, or the program gives no matrix, the feed is printed. Standard library only.
+"""
+import argparse
+import csv
+import datetime
+import io
+import random
+import subprocess
+import sys
+import tempfile
+from pathlib import Path
+
+sys.path.insert(0, str(Path(__file__).resolve().parent.parent / "bench"))
+import plain
+
+DATE = datetime.date(2026, 5, 6)
+WEEKDAYS = plain.WEEKDAYS
+
+
+def clock(seconds):
+    return "%02d:%02d:%02d" % (seconds // 3600, seconds // 60 % 60, seconds % 60)
+
+
+class Drawn:
+    """A feed, and the analyst's own files, as lists of records."""
+
+    def __init__(self, seed):
+        self.random = random.Random(seed)
+        self.files = {}
+        self.stops = ["S%d" % n for n in range(self.random.randint(1, 7))]
+        if self.random.random() < 0.2:
+            self.stops[0] = 'a "b", c'
+        self.stations = ["G%d" % n for n in range(self.random.randint(0, 2))]
+        self.routes = ["R%d" % n for n in range(self.random.randint(1, 3))]
+        self.services = ["D%d" % n for n in range(self.random.randint(1, 3))]
+        self.trips = ["T%d" % n for n in range(self.random.randint(0, 16))]
+        self.draw_places()
+        self.draw_days()
+        self.draw_trips()
+        self.draw_headways()
+        self.draw_walks()
+        self.draw_own_files()
+
+    def chance(self, share):
+        return self.random.random() < share
+
+    def any_of(self, *choices):
+        return self.random.choice(choices)
+
+    def place(self):
+        return self.random.choice(self.stops + self.stations)
+
+    def write(self, name, header, records):
+        self.files[name] = [header] + records
+
+    def draw_places(self):
+        stops = [[stop, "0" if self.chance(0.5) else "", self.random.choice(self.stations + [""])] for stop in self.stops]
+        stations = [[station, "1", ""] for station in self.stations]
+        self.write("stops.txt", ["stop_id", "location_type", "parent_station"], stations + stops)
+        self.write("routes.txt", ["route_id"], [[route] for route in self.routes])
+
+    def day(self):
+        return (DATE + datetime.timedelta(days=self.random.randint(-3, 3))).strftime("%Y%m%d")
+
+    def draw_days(self):
+        calendar = [[service] + [self.any_of("0", "1", "1", "1", "1") for _ in WEEKDAYS] + sorted([self.day(), self.day()])
+                    for service in self.services if self.chance(0.8)]
+        exceptions = [[self.random.choice(self.services), self.day(), self.any_of("1", "2")] for _ in range(self.random.randint(0, 4))]
+        self.write("calendar.txt", ["service_id"] + WEEKDAYS + ["start_date", "end_date"], calendar)
+        self.write("calendar_dates.txt", ["service_id", "date", "exception_type"], exceptions)
+
+    def draw_trips(self):
+        self.write("trips.txt", ["route_id", "service_id", "trip_id"],
+                   [[self.random.choice(self.routes), self.random.choice(self.services), trip] for trip in self.trips])
+        records = [record for trip in self.trips for record in self.calls(trip)]
+        self.random.shuffle(records)
+        self.write("stop_times.txt", ["trip_id", "arrival_time", "departure_time", "stop_id", "stop_sequence", "pickup_type", "drop_off_type"], records)
+
+    def calls(self, trip):
+        """The records of a trip; some have no time, some only one, and a few trips a record without a stop."""
+        time = self.any_of(7, 8, 8, 8, 8, 8, 9, 23, 25, 31) * 3600 + self.random.randint(0, 59) * 60
+        count = self.random.randint(0, 6)
+        records = []
+        for n in range(count):
+            time += self.any_of(0, 0, 60, 90, 300, 601)
+            arrive, time = time, time + self.any_of(0, 0, 0, 30, 120)
+            kept = self.any_of("both", "both", "both", "arrival", "departure", "none") if 0 < n < count - 1 else "both"
+            stop = "" if self.chance(0.01) else self.random.choice(self.stops)
+            records.append([trip, clock(arrive) if kept in ("both", "arrival") else "", clock(time) if kept in ("both", "departure") else "",
+                            stop, str(7 * n), self.any_of("", "0", "0", "0", "1", "2"), self.any_of("", "0", "0", "0", "1", "3")])
+        return records
+
+    def draw_headways(self):
+        records = []
+        for trip in self.trips:
+            for _ in range(self.random.choice([0, 0, 0, 1, 2])):
+                start = self.random.randint(6 * 60, 9 * 60) * 60
+                records.append([trip, clock(start), clock(start + self.any_of(0, 1, 600, 1800, 3600)), str(self.any_of(60, 300, 433, 900))])
+        self.write("frequencies.txt", ["trip_id", "start_time", "end_time", "headway_secs"], records)
+
+    def draw_walks(self):
+        columns = ["from_stop_id", "to_stop_id", "transfer_type", "min_transfer_time", "from_route_id"]
+        changing = [place for place in self.stops + self.stations if self.chance(0.4)]
+        records = [[place, place, "2", self.any_of("60", "300", "900"), ""] for place in changing]
+        for _ in range(self.random.randint(0, 5)):
+            start = self.place()
+            end = start if self.chance(0.3) else self.place()
+            records.append([start, end, self.any_of("", "0", "1", "2", "2", "2", "3"), self.any_of("", "0", "60", "180", "300", "700"),
+                            self.any_of("", "", "", "", self.routes[0])])
+        self.write("transfers.txt", columns, records)
+
+    def draw_own_files(self):
+        places = [[self.place(), self.place(), str(self.any_of(0, 20, 100, 400))] for _ in range(self.random.randint(0, 8))]
+        self.write("footpaths.csv", ["from_stop_id", "to_stop_id", "seconds"], places)
+        stops = self.random.sample(self.stops, self.random.randint(1, len(self.stops)))
+        self.write("origins.csv", ["stop_id"], [[stop] for stop in stops])
+        self.write("opportunities.csv", ["stop_id", "opportunities"], [[stop, str(self.random.randint(0, 9))] for stop in stops])
+        for name in ("cut", "late"):
+            self.write(name + ".csv", ["action", "id", "seconds"], [self.edit() for _ in range(self.random.randint(0, 3))])
+
+    def edit(self):
+        if self.trips and self.chance(0.7):
+            return [self.any_of("shift_trip", "shift_trip", "remove_trip"), self.random.choice(self.trips), str(self.any_of(-300, 30, 60, 600))]
+        return ["remove_route", self.random.choice(self.routes), ""]
+
+    def words(self, folder):
+        first = self.any_of(0, 7 * 60, 7 * 60 + 50, 8 * 60, 8 * 60, 23 * 60)
+        last = first + self.any_of(0, 0, 1, 15, 16, 30, 59)
+        asked = {"feed": folder, "date": DATE.strftime("%Y%m%d"), "from": clock(60 * first)[:5], "to": clock(60 * last)[:5],
+                 "trips": self.random.randint(1, 5), "walk": self.any_of(0, 60, 200, 900), "share": self.any_of(1, 25, 50, 67, 100),
+                 "within": 60 * self.random.randint(0, 60), "workers": self.random.randint(1, 3), "tries": 2}
+        asked.update({name: self.random.randint(0, 2) for name in ("back", "ahead") if self.chance(0.5)})
+        asked.update({name: folder / (name + ".csv") for name in ("footpaths", "origins", "opportunities") if self.chance(0.6)})
+        scenarios = [folder / (name + ".csv") for name in ("cut", "late") if self.chance(0.4)]
+        return [str(word) for name, value in asked.items() for word in ("--" + name, value)] + [str(it) for it in scenarios]
+
+    def put_into(self, folder):
+        for name, records in self.files.items():
+            with open(folder / name, "w", newline="", encoding="utf-8") as file:
+                csv.writer(file, lineterminator="\n").writerows(records)
+
+
+def differs(program, seed):
+    """What is wrong with the program's answer for the feed of a seed; nothing if it is right."""
+    with tempfile.TemporaryDirectory(prefix="ttm-feed-") as made:
+        drawn, folder = Drawn(seed), Path(made)
+        drawn.put_into(folder)
+        words = drawn.words(folder)
+        ran = subprocess.run([program, *words], stdout=subprocess.PIPE, stderr=subprocess.PIPE, timeout=60)
+        wanted = io.StringIO()
+        plain.write_matrix(words, wanted)
+        if (ran.returncode, ran.stderr, ran.stdout) == (0, b"", wanted.getvalue().encode()):
+            return ""
+        files = "".join("-- %s\n%s" % (name, (folder / name).read_text()) for name in sorted(drawn.files))
+        told = "status %d, told: %s\n-- its matrix\n%s" % (ran.returncode, ran.stderr.decode(), ran.stdout.decode())
+        return "%s-- words: %s\n-- %s-- the plain program's\n%s" % (files, " ".join(words), told, wanted.getvalue())
+
+
+def main():
+    parser = argparse.ArgumentParser(description=__doc__, formatter_class=argparse.RawDescriptionHelpFormatter)
+    parser.add_argument("program")
+    parser.add_argument("--count", type=int, default=200)
+    parser.add_argument("--seed", type=int, default=1)
+    asked = parser.parse_args()
+    failed = 0
+    for seed in range(asked.seed, asked.seed + asked.count):
+        wrong = differs(asked.program, seed)
+        if wrong:
+            failed += 1
+            print("seed %d: the program and bench/plain.py differ\n%s" % (seed, wrong))
+    print("%d passed, %d failed" % (asked.count - failed, failed))
+    return 1 if failed else 0
+
+
+if __name__ == "__main__":
+    sys.exit(main())
