@@ -1,0 +1,77 @@
+#!/usr/bin/env python3
+"""Writes the greatest feed that is allowed: 65,535 stops, 1,000,000 trips of 8 stop times, and footpaths whose chains of at most 600 seconds
+join 4,000,000 pairs of stops.
+
+    greatest.py FOLDER [--past stops|trips|stop_times|walks]      one more of these than may be
+    ttm --feed FOLDER --footpaths FOLDER/footpaths.csv --origins FOLDER/origins.csv --walk 600 --date 20260504 --back 0 --ahead 0 ..
+"""
+import argparse
+import itertools
+import os
+
+STOPS, TRIPS, CALLS, PAIRS = 65_535, 1_000_000, 8, 4_000_000
+TRIPS_OF_A_LINE = 122
+
+
+def write(folder, name, header, rows):
+    with open(os.path.join(folder, name), "w", newline="") as out:
+        out.write(header + "\n")
+        out.writelines(row + "\n" for row in rows)
+
+
+def clock(seconds):
+    return "%02d:%02d:%02d" % (seconds // 3600, seconds // 60 % 60, seconds % 60)
+
+
+def group_sizes(pairs):
+    """How many stops stand in each group, so that those of a group make so many pairs in all, one way each."""
+    sizes = [62] * 1008 + [61] * 48 + [110, 1]
+    short = pairs - sum(size * (size - 1) for size in sizes)
+    at = 0
+    while short > 0:
+        gain = 2 * (sizes[at] - sizes[at + 1] + 1)
+        if gain <= short:
+            sizes[at], sizes[at + 1], short = sizes[at] + 1, sizes[at + 1] - 1, short - gain
+        at += 2
+    return sizes
+
+
+def footpaths(pairs):
+    """A ring of one second between neighbours in each group, both ways."""
+    first = 0
+    for size in group_sizes(pairs):
+        for k in range(size if size > 1 else 0):
+            a, b = first + k, first + (k + 1) % size
+            yield "%d,%d,1" % (a, b)
+            yield "%d,%d,1" % (b, a)
+        first += size
+
+
+def calls(trips):
+    """The stop times of trips in lines of their own stops, some minutes apart."""
+    for trip in range(trips):
+        line, run = divmod(trip, TRIPS_OF_A_LINE)
+        for k in range(CALLS):
+            time = clock(4 * 3600 + run * 590 + k * 120)
+            yield "%d,%s,%s,%d,%d" % (trip, time, time, (line * 37 + k * 331) % STOPS, k)
+
+
+def main():
+    words = argparse.ArgumentParser(description=__doc__, formatter_class=argparse.RawDescriptionHelpFormatter)
+    words.add_argument("folder")
+    words.add_argument("--past", choices=["stops", "trips", "stop_times", "walks"])
+    given = words.parse_args()
+    folder, past = given.folder, given.past
+    os.makedirs(folder, exist_ok=True)
+    trips = TRIPS + (past == "trips")
+    write(folder, "stops.txt", "stop_id", map(str, range(STOPS + (past == "stops"))))
+    write(folder, "routes.txt", "route_id", ["R"])
+    write(folder, "calendar_dates.txt", "service_id,date,exception_type", ["D,20260504,1"])
+    write(folder, "trips.txt", "route_id,service_id,trip_id", ("R,D,%d" % trip for trip in range(trips)))
+    more = ["0,28:00:00,28:00:00,0,9"] if past == "stop_times" else []
+    write(folder, "stop_times.txt", "trip_id,arrival_time,departure_time,stop_id,stop_sequence", itertools.chain(calls(TRIPS), more))
+    write(folder, "footpaths.csv", "from_stop_id,to_stop_id,seconds", footpaths(PAIRS + 2 * (past == "walks")))
+    write(folder, "origins.csv", "stop_id", ["0"])
+
+
+main()

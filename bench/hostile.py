@@ -1,0 +1,139 @@
+#!/usr/bin/env python3
+"""Hostile use of the built program: each growth of memory, start of a thread, open, read and write refused in turn; one byte at a time; each
+file cut short after every byte.
+
+    hostile.py PROGRAM
+
+Over three small studies: the text of the matrix comes whole and right, or a line and the status that belong to what was refused, and
+nothing else. What it tried is counted, and the last line is 'N passed, M failed'. It wants a C compiler (`cc`), which builds bench/refuse.c.
+Standard library only.
+"""
+import io
+import os
+import re
+import subprocess
+import sys
+import tempfile
+from pathlib import Path
+
+sys.path.insert(0, os.path.dirname(os.path.abspath(__file__)))
+import plain
+
+FILES = {
+    "stops.txt": "stop_id,stop_name,location_type,parent_station\nA,Alpha,,\nB,Beta,0,S\nC,Gamma,,\nS,Square,1,\n",
+    "routes.txt": "route_id\nR1\nR2\n",
+    "calendar.txt": "service_id,monday,tuesday,wednesday,thursday,friday,saturday,sunday,start_date,end_date\n"
+    "MON,1,0,0,0,0,0,0,20260504,20260531\n",
+    "calendar_dates.txt": "service_id,date,exception_type\nXTR,20260504,1\n",
+    "trips.txt": "route_id,service_id,trip_id\nR1,MON,T1\nR2,XTR,T2\n",
+    "stop_times.txt": "trip_id,arrival_time,departure_time,stop_id,stop_sequence\n"
+    "T1,08:00:00,08:00:00,A,1\nT1,08:10:00,08:10:00,B,2\nT2,08:15:00,08:15:00,B,1\nT2,08:30:00,08:30:00,C,2\n",
+    "frequencies.txt": "trip_id,start_time,end_time,headway_secs\nT2,08:15:00,08:50:00,1800\n",
+    "transfers.txt": "from_stop_id,to_stop_id,transfer_type,min_transfer_time\nS,S,2,120\nB,C,2,1500\n",
+    "walks.csv": "from_stop_id,to_stop_id,seconds\nC,B,120\n",
+    "chances.csv": "stop_id,opportunities\nB,10\nC,5\n",
+    "origins.csv": "stop_id\nC\nA\n",
+    "cut.csv": "action,id,seconds\nremove_route,R2,\n",
+    "late.csv": "action,id,seconds\nshift_trip,T1,300\n",
+}
+ASKED = "--feed . --date 20260504 --from 08:00 --to 08:00 --trips 2 --walk 300 --share 50 --within 1800 --tries 2"
+OWN = "--footpaths walks.csv --opportunities chances.csv --origins origins.csv"
+# the words of each study
+STUDIES = [f"{ASKED} --workers 1 cut.csv late.csv", f"{ASKED} --workers 2 cut.csv late.csv", f"{ASKED} --workers 2 {OWN} cut.csv late.csv"]
+
+NO_MEMORY = (3, r"ttm: out of memory\n")
+NOT_READ = (5, r"ttm: (\./)?[a-z_]+\.(txt|csv): read fault\n")
+NOT_WRITTEN = (5, r"ttm: write fault\n")
+# what may be told where something is refused
+TOLD = {"growth": NO_MEMORY, "start": (3, r"ttm: (no worker started|out of memory)\n"), "open": NOT_READ, "read": NOT_READ, "write": NOT_WRITTEN}
+
+
+class Trial:
+    """The program in a folder of small files."""
+
+    def __init__(self, program, room):
+        self.program, self.room, self.passed, self.failed = os.path.abspath(program), Path(room), 0, 0
+        self.library = str(self.room / "refuse.so")
+        source = os.path.join(os.path.dirname(os.path.abspath(__file__)), "refuse.c")
+        subprocess.run(["cc", "-O2", "-shared", "-fPIC", "-o", self.library, source], check=True)
+        self.folder = self.room / "feed"
+        self.folder.mkdir()
+        for name, text in FILES.items():
+            (self.folder / name).write_text(text)
+
+    def run(self, words, **more):
+        """The status and both outputs."""
+        ran = subprocess.run([self.program, *words], cwd=self.folder, capture_output=True, timeout=120, **more)
+        return ran.returncode, ran.stdout.decode(), ran.stderr.decode()
+
+    def run_refused(self, words, what, number, **more):
+        """The same where one call is refused, and whether it came to that."""
+        ours, its = os.pipe()
+        refusal = {**os.environ, "LD_PRELOAD": self.library, "REFUSE": f"{what}:{number}", "REFUSE_FD": str(its), **more}
+        answer = self.run(words, env=refusal, pass_fds=[its])
+        os.close(its)
+        with os.fdopen(ours, "rb") as told:
+            return answer, told.read() != b""
+
+    def judge(self, what, right, answer):
+        self.passed += right
+        self.failed += not right
+        if not right:
+            print(f"wrong: {what}: status {answer[0]}, told {answer[2]!r}\n{answer[1]}", flush=True)
+
+    def matrix(self, words):
+        """What the plain second program gives; none where it can't read the files."""
+        text, here = io.StringIO(), os.getcwd()
+        os.chdir(self.folder)
+        try:
+            plain.write_matrix(words, text)
+            return text.getvalue()
+        except Exception:
+            return None
+        finally:
+            os.chdir(here)
+
+    def refuse_each(self, words, what, **more):
+        """Refuses the first call of a kind, the second, and so on, until a run has fewer; gives how many there were."""
+        wanted, (status, line) = self.matrix(words), TOLD[what]
+        for number in range(1, 1_000_000):
+            answer, came = self.run_refused(words, what, number, **more)
+            if not came:
+                self.judge(f"{what} {number}, none refused", answer == (0, wanted, ""), answer)
+                return number - 1
+            short = answer[0] == status and re.fullmatch(line, answer[2]) and wanted.startswith(answer[1])
+            self.judge(f"{what} {number} refused", answer == (0, wanted, "") or bool(short and (what == "write" or not answer[1])), answer)
+
+    def cut_each(self, words):
+        """Cuts each file short after every byte; gives how many prefixes there were, and how many were accepted."""
+        tried = accepted = 0
+        for name, text in FILES.items():
+            for count in range(len(text)):
+                (self.folder / name).write_text(text[:count])
+                answer = self.run(words)
+                refused = answer[0] == 2 and answer[1] == "" and re.fullmatch(r"ttm: .+\n", answer[2])
+                right = answer == (0, self.matrix(words), "") if answer[0] == 0 else bool(refused)
+                self.judge(f"{name} cut after {count} bytes", right, answer)
+                tried, accepted = tried + 1, accepted + (answer[0] == 0)
+            (self.folder / name).write_text(text)
+        return tried, accepted
+
+
+def main():
+    if len(sys.argv) != 2:
+        sys.exit("usage: hostile.py PROGRAM")
+    with tempfile.TemporaryDirectory(prefix="ttm-hostile-") as room:
+        trial = Trial(sys.argv[1], room)
+        for number, study in enumerate(STUDIES, 1):
+            words = study.split()
+            counts = [f"{trial.refuse_each(words, what)} of {what}" for what in TOLD]
+            slow = [f"{trial.refuse_each(words, what, ONE_BYTE='1')} of {what}" for what in ("read", "write")]
+            print(f"study {number}: refused in turn: {', '.join(counts)}; one byte at a time: {', '.join(slow)}", flush=True)
+        tried, accepted = trial.cut_each(STUDIES[2].split())
+        print(f"prefixes: {tried}, of which {accepted} were accepted")
+    print(f"{trial.passed} passed, {trial.failed} failed")
+    return 1 if trial.failed else 0
+
+
+if __name__ == "__main__":
+    sys.exit(main())
