@@ -212,9 +212,32 @@ def edits_alone(root, names, sums, toolchain):
     return refused, max(sum(len(edits_of(root, name)) for name in names) - refused, 1 if status else 0)
 
 
+PACKAGES = {"pandas": "python3-pandas", "matplotlib": "python3-matplotlib"}
+SECONDS_TO_INSTALL = 300
+
+
+def has_packages(python):
+    """Whether a Python has what the tools draw and tabulate with."""
+    try:
+        return subprocess.run([python, "-c", "import " + ", ".join(PACKAGES)], stderr=subprocess.DEVNULL).returncode == 0
+    except OSError:
+        return False
+
+
+def python_for_tools(pythons=(sys.executable, "/usr/bin/python3")):
+    """A Python for the tools' tests: one with their packages, Debian's where they can be installed; else this one, whose tests then say what they skip."""
+    if not any(map(has_packages, pythons)) and os.geteuid() == 0 and shutil.which("apt-get"):
+        environment = {**os.environ, "DEBIAN_FRONTEND": "noninteractive"}
+        for words in (["update", "-q"], ["install", "-q", "-y", "--no-install-recommends", *PACKAGES.values()]):
+            try:
+                subprocess.run(["apt-get", *words], env=environment, stdout=subprocess.DEVNULL, timeout=SECONDS_TO_INSTALL)
+            except subprocess.TimeoutExpired:
+                print(f"apt-get {words[0]}: not done in {SECONDS_TO_INSTALL} seconds", flush=True)
+    return next(filter(has_packages, pythons), sys.executable)
+
+
 def gate(root, chosen, sums, toolchain):
     """Proves, tries and runs all, and returns how many passed and failed."""
-    own = root / ".ci"
     with tempfile.TemporaryDirectory(prefix="ttm-gate-") as made:
         room = Path(made)
         copy_files(root, room, chosen)
@@ -222,9 +245,10 @@ def gate(root, chosen, sums, toolchain):
         results = [counted(status, lines)]
         note(root, lines, chosen, sums, toolchain)
         program = room / "crates/ttm/out/ttm"
-        for script, words in (("program_runs.py", [str(program)]), ("random_feeds.py", [str(program)]), ("gate_tests.py", [])):
-            if (own / script).is_file():
-                results.append(counted(*run([sys.executable, str(own / script), *words], root)))
+        for script, words in ((".ci/program_runs.py", [program]), (".ci/random_feeds.py", [program]), ("tools/tests.py", [program]), (".ci/gate_tests.py", [])):
+            if (root / script).is_file():
+                python = python_for_tools() if script == "tools/tests.py" else sys.executable
+                results.append(counted(*run([python, str(root / script), *map(str, words)], root)))
     return sum(it[0] for it in results), sum(it[1] for it in results)
 
 

@@ -11,8 +11,11 @@ import sys
 import tempfile
 import unittest
 from pathlib import Path
+from unittest import mock
 
 OWN = Path(__file__).resolve().parent
+sys.path.insert(0, str(OWN))
+import gate
 
 STAND_IN = """#!/bin/sh
 if [ "$1" = version ]; then echo "kit of a test"; exit; fi
@@ -135,6 +138,32 @@ class Choice(unittest.TestCase):
         (self.bin / "rt").write_text(STAND_IN.replace("[ -f", '[ "${edit#crates/one}" = "$edit" ] && [ -f'))
         self.tried()
         self.assertEqual(self.tried()[0], ["one"])
+
+
+class Packages(unittest.TestCase):
+    """Which Python runs the tools' tests, over stand-ins that have their packages or don't."""
+
+    def setUp(self):
+        room = tempfile.TemporaryDirectory(prefix="ttm-gate-test-")
+        self.addCleanup(room.cleanup)
+        self.without, self.has = (Path(room.name) / name for name in ("without", "has"))
+        for python, status in ((self.without, 1), (self.has, 0)):
+            python.write_text(f"#!/bin/sh\nexit {status}\n")
+            python.chmod(0o755)
+
+    def test_the_first_that_has_them(self):
+        self.assertEqual(gate.python_for_tools((str(self.without), "/nowhere/python3", str(self.has))), str(self.has))
+
+    def test_where_nothing_can_be_installed_it_is_this_one(self):
+        with mock.patch.object(gate.shutil, "which", return_value=None):
+            self.assertEqual(gate.python_for_tools((str(self.without),)), sys.executable)
+
+    def test_what_was_installed_is_used(self):
+        with mock.patch.object(gate.shutil, "which", return_value="apt-get"), mock.patch.object(gate.os, "geteuid", return_value=0):
+            calls = []
+            with mock.patch.object(gate, "has_packages", lambda python: len(calls) == 2), mock.patch.object(gate.subprocess, "run", lambda words, **_: calls.append(words[1])):
+                self.assertEqual(gate.python_for_tools((str(self.without),)), str(self.without))
+            self.assertEqual(calls, ["update", "install"])
 
 
 class Prover(unittest.TestCase):

@@ -29,6 +29,7 @@ OWN = {
     "walks.csv": "from_stop_id,to_stop_id,seconds\nC,B,120\n",
     "chances.csv": "stop_id,opportunities\nB,10\nC,5\n",
     "origins.csv": "stop_id\nC\nA\n",
+    "a.csv": "stop_id\nA\n",
     "cut.csv": "action,id,seconds\nremove_route,R2,\n",
     "late.csv": "action,id,seconds\nshift_trip,T1,300\n",
 }
@@ -42,12 +43,17 @@ LATE = "late,C,15,,120,0\nlate,A,15,0,900,1800\n"
 HEAD = "scenario,origin,access,A,B,C\n"
 EXAMPLE = HEAD + "base,A,3,0,600,1800\n"
 
+# T1 comes to B in the last second that a time may have.
+TIMES = FEED["stop_times.txt"]
+LATE_AT_B = TIMES.replace("T1,08:10:00,08:10:00", "T1,167:59:59,")
+
 # what is done to the folder, the words, the standard output, the standard error, the status
 RUNS = [
     ("no words", None, "", EXAMPLE, "", 0),
     ("all own files and two scenarios", None, f"--feed feed {ASKED} 300 {OWN_WORDS} cut.csv late.csv", HEAD + BASE + CUT + LATE, "", 0),
     ("the scenarios the other way round", None, f"--feed feed {ASKED} 300 {OWN_WORDS} late.csv cut.csv", HEAD + BASE + LATE + CUT, "", 0),
     ("a walk past the limit", None, f"--feed feed {ASKED} 119 {OWN_WORDS}", HEAD + "base,C,5,,,0\nbase,A,15,0,600,1800\n", "", 0),
+    ("the latest time that there is", ("feed/stop_times.txt", LATE_AT_B), f"--feed feed {ASKED} 0 --origins a.csv", HEAD + "base,A,1,0,575999,\n", "", 0),
     ("a bad setting", None, f"--feed feed {ASKED} 7201 {OWN_WORDS}", "", "ttm: bad walk\n", 2),
     ("a bad record", ("feed/stop_times.txt", "trip_id,stop_id,stop_sequence\nT1,A,1\nT1,B,x\n"), f"--feed feed {ASKED} 0", "", "ttm: stop_times.txt: record 3: bad number\n", 2),
     ("footpaths for opportunities", None, f"--feed feed {ASKED} 0 --opportunities walks.csv", "", "ttm: opportunities: record 1: missing column\n", 2),
@@ -62,6 +68,27 @@ RUNS = [
     ("a folder without permission", ("feed", 0), f"--feed feed {ASKED} 0", "", "ttm: feed/stops.txt: read fault\n", 5),
     ("a folder for a file", None, f"--feed feed {ASKED} 0 --origins feed", "", "ttm: feed: read fault\n", 5),
     ("a file for the folder", None, f"--feed cut.csv {ASKED} 0", "", "ttm: cut.csv/stops.txt: read fault\n", 5),
+]
+
+
+# where the tables contradict themselves: what is done, and the line
+REFUSED = [
+    ([("feed/stops.txt", "")], "stops.txt: record 1: missing column"),
+    ([("feed/stops.txt", "stop_name\nAlpha\n")], "stops.txt: record 1: missing column"),
+    ([("feed/stops.txt", None)], "stops.txt: missing file"),
+    ([("feed/stop_times.txt", TIMES.replace("T1,08:10:00", "T1,08:60:00"))], "stop_times.txt: record 3: bad time"),
+    ([("feed/stop_times.txt", TIMES.replace("T1,08:10:00", "T1,168:00:00"))], "stop_times.txt: record 3: bad time"),
+    ([("feed/calendar.txt", FEED["calendar.txt"].replace("20260531", "20260230"))], "calendar.txt: record 2: bad date"),
+    ([("feed/trips.txt", FEED["trips.txt"].replace("R2", "R3"))], "trips.txt: record 3: unknown route"),
+    ([("feed/trips.txt", FEED["trips.txt"].replace("T2", "T1"))], "trips.txt: record 3: duplicate id"),
+    (
+        [
+            ("feed/stop_times.txt", TIMES.replace("T2,08:15:00,08:15:00,B", "T2,08:15:00,08:15:00,Z")),
+            ("feed/frequencies.txt", "trip_id,start_time,end_time,headway_secs\nT1,08:00:00,09:00:00,0\n"),
+        ],
+        "stop_times.txt: record 4: unknown stop",
+    ),
+    ([("feed/calendar.txt", None)], "calendar.txt: missing file"),
 ]
 
 
@@ -107,13 +134,14 @@ def in_a_room(changes, leaves):
         room = Path(made)
         room.chmod(0o755)
         lay_out(room)
-        if changes:
-            change(room, *changes)
+        changes = [changes] if isinstance(changes, tuple) else changes or []
+        for path, to in changes:
+            change(room, path, to)
         try:
             return leaves(room)
         finally:
-            if changes and changes[1] == 0:
-                (room / changes[0]).chmod(0o755)
+            for path in (path for path, to in changes if to == 0):
+                (room / path).chmod(0o755)
 
 
 def full_disk(program):
@@ -153,6 +181,8 @@ def tried(program):
     """Each run with what it left and what it should have."""
     for name, changes, words, out, err, status in RUNS:
         yield name, in_a_room(changes, lambda room: left(start(program, words.split(), room))), (out, err, status)
+    for changes, line in REFUSED:
+        yield line, in_a_room(changes, lambda room: left(start(program, f"--feed feed {ASKED} 0".split(), room))), ("", f"ttm: {line}\n", 2)
     for special in (full_disk, closed_pipe, help_text, wrong_word, no_text):
         yield special.__doc__.split(":")[0].rstrip("."), *special(program)
 

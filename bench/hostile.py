@@ -41,11 +41,12 @@ OWN = "--footpaths walks.csv --opportunities chances.csv --origins origins.csv"
 # the words of each study
 STUDIES = [f"{ASKED} --workers 1 cut.csv late.csv", f"{ASKED} --workers 2 cut.csv late.csv", f"{ASKED} --workers 2 {OWN} cut.csv late.csv"]
 
-NO_MEMORY = (3, r"ttm: out of memory\n")
+# a thread's start takes memory too
+NO_MEMORY = (3, r"ttm: (out of memory|no worker started)\n")
 NOT_READ = (5, r"ttm: (\./)?[a-z_]+\.(txt|csv): read fault\n")
 NOT_WRITTEN = (5, r"ttm: write fault\n")
 # what may be told where something is refused
-TOLD = {"growth": NO_MEMORY, "start": (3, r"ttm: (no worker started|out of memory)\n"), "open": NOT_READ, "read": NOT_READ, "write": NOT_WRITTEN}
+TOLD = {"growth": NO_MEMORY, "start": NO_MEMORY, "open": NOT_READ, "read": NOT_READ, "write": NOT_WRITTEN}
 
 
 class Trial:

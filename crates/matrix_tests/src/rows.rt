@@ -9,22 +9,22 @@ use work_book::{Lease, Settled};
 use workers::{Gate, Open, Study, Verdict, one_thread, row_of};
 
 /// The stops of the small feed.
-const A: u32 = 0;
+pub(crate) const A: u32 = 0;
 
-const B: u32 = 1;
+pub(crate) const B: u32 = 1;
 
-const C: u32 = 2;
+pub(crate) const C: u32 = 2;
 
 /// A day on the axis, which begins a day before the study's own.
 const DAY: u32 = 86_400;
 
 /// A ride: from a stop at a second of the study's day, to a stop at another.
-type Ride = (u32, u32, u32, u32);
+pub(crate) type Ride = (u32, u32, u32, u32);
 
 /// 08:00 from A to B by 08:10, and 08:15 from B to C by 08:30.
-const FIRST: Ride = (A, 28_800, B, 29_400);
+pub(crate) const FIRST: Ride = (A, 28_800, B, 29_400);
 
-const SECOND: Ride = (B, 29_700, C, 30_600);
+pub(crate) const SECOND: Ride = (B, 29_700, C, 30_600);
 
 /// An event on the study's day where everybody may board and alight.
 fn at_time(stop: u32, time: u32) -> Event {
@@ -42,7 +42,10 @@ fn network_of(alloc: Global, stops: u32, rides: &[Ride]) -> Result<Option<Networ
 }
 
 /// One network of three stops for each scenario's rides.
-fn networks_of(alloc: Global, scenarios: &[&[Ride]]) -> Result<Vec<Network>, AllocError> {
+pub(crate) fn networks_of(
+    alloc: Global,
+    scenarios: &[&[Ride]],
+) -> Result<Vec<Network>, AllocError> {
     let mut networks = Vec::with_capacity(alloc, scenarios.len())?;
     for rides in scenarios {
         if let Some(network) = network_of(alloc, 3, rides)? {
@@ -61,7 +64,7 @@ fn window(minute: u32, minutes: u32) -> Window {
 }
 
 /// Two rides, half of the minutes of 08:00 alone, and half an hour's reach, from A.
-fn study_of(networks: &[Network]) -> Study<'_> {
+pub(crate) fn study_of(networks: &[Network]) -> Study<'_> {
     Study {
         number: 7,
         networks,
@@ -75,7 +78,7 @@ fn study_of(networks: &[Network]) -> Study<'_> {
 }
 
 /// A row of a matrix: scenario, origin, access and cells.
-type Told = (u32, u32, u64, [Option<u32>; 3]);
+pub(crate) type Told = (u32, u32, u64, [Option<u32>; 3]);
 
 /// Whether a row of study 7 has this access, and these cells.
 fn is(row: &Row, access: u64, cells: &[Option<u32>]) -> bool {
@@ -83,7 +86,7 @@ fn is(row: &Row, access: u64, cells: &[Option<u32>]) -> bool {
 }
 
 /// Whether a matrix has these rows, each at its place.
-fn has(matrix: &Matrix, rows: &[Told]) -> bool {
+pub(crate) fn has(matrix: &Matrix, rows: &[Told]) -> bool {
     for (scenario, origin, access, cells) in rows {
         if *scenario >= matrix.scenarios() || *origin >= matrix.origins() {
             return false;
@@ -223,32 +226,39 @@ fn counts_rides(rt: HostRuntime) {
     assert!(rt; are_right(rt.alloc(), BASE, Asked::OneRide));
 }
 
+/// The feed as it is, without its second trip, and with its first trip 300 seconds late.
+pub(crate) const EDITED: &[&[Ride]] = &[
+    &[FIRST, SECOND],
+    &[FIRST],
+    &[(A, 29_100, B, 29_700), SECOND],
+];
+
+/// The rows from each stop: of the feed as it is, without its second trip, and with its first trip 300 seconds late.
+pub(crate) const EVERY_ROW: [Told; 9] = [
+    (0, 0, 3, [Some(0), Some(600), Some(1_800)]),
+    (0, 1, 2, [None, Some(0), Some(1_800)]),
+    (0, 2, 1, [None, None, Some(0)]),
+    (1, 0, 2, [Some(0), Some(600), None]),
+    (1, 1, 1, [None, Some(0), None]),
+    (1, 2, 1, [None, None, Some(0)]),
+    (2, 0, 3, [Some(0), Some(900), Some(1_800)]),
+    (2, 1, 2, [None, Some(0), Some(1_800)]),
+    (2, 2, 1, [None, None, Some(0)]),
+];
+
 /// Every row from each stop.
 fn give_every_row(alloc: Global, networks: &[Network]) -> bool {
     let study = Study {
         origins: &[StopNo(A), StopNo(B), StopNo(C)],
         ..study_of(networks)
     };
-    let rows = [
-        (0, 0, 3, [Some(0), Some(600), Some(1_800)]),
-        (0, 1, 2, [None, Some(0), Some(1_800)]),
-        (0, 2, 1, [None, None, Some(0)]),
-        (1, 0, 2, [Some(0), Some(600), None]),
-        (1, 1, 1, [None, Some(0), None]),
-        (1, 2, 1, [None, None, Some(0)]),
-        (2, 0, 3, [Some(0), Some(900), Some(1_800)]),
-        (2, 1, 2, [None, Some(0), Some(1_800)]),
-        (2, 2, 1, [None, None, Some(0)]),
-    ];
-    gives(alloc, &study, (3, 3, 3), &rows)
+    gives(alloc, &study, (3, 3, 3), &EVERY_ROW)
 }
 
-/// The feed as it is, without its second trip, and with its first trip 300 seconds late; from each stop.
+/// The rows of all three scenarios, from each stop.
 #[test]
 fn has_a_row_per_scenario_and_origin(rt: HostRuntime) {
-    let late = (A, 29_100, B, 29_700);
-    let scenarios: [&[Ride]; 3] = [&[FIRST, SECOND], &[FIRST], &[late, SECOND]];
-    assert!(rt; are_right(rt.alloc(), &scenarios, Asked::EveryRow));
+    assert!(rt; are_right(rt.alloc(), EDITED, Asked::EveryRow));
 }
 
 /// The row of the second scenario and the second origin, by itself.

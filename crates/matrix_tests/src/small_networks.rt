@@ -57,7 +57,7 @@ pub(crate) fn network_with(
 }
 
 /// The network of these trips, footpaths and change times, if it is one.
-fn network_over(
+pub(crate) fn network_over(
     alloc: Global,
     stops: u32,
     footpaths: &[Footpath],

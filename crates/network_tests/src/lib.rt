@@ -1,9 +1,13 @@
-//! Tests of the days and scenarios of a feed: worked rows of `service_days` and `scenarios`, by their public calls, over `small_feeds`.
+//! Tests of the days and scenarios of a feed, and of a network's lines: worked rows of `service_days`, `scenarios` and `timetable`, by their public
+//! calls, over `small_feeds`.
 //!
+//! - `lines`: which trips share a line, how its events lie, and which trips serve a stop.
 //! - `runs`: which trips run on which days.
 //! - `scenario_files`, `scenario_networks`: what a scenario's file says, and the network that it leaves.
 #![tactic(auto)]
 
+#[cfg(test)]
+mod lines;
 #[cfg(test)]
 mod runs;
 #[cfg(test)]

@@ -4,21 +4,34 @@
 //!
 //! - `minutes`: [`one_minute`], which alternates rides with changes and walks.
 //! - `window`: [`Window`], and [`durations`] for each of its minutes.
+//! - `search`: [`Search`], the tables of a search, which serve one origin after another.
+//! - `batches`: the minutes of a window, sixteen at a time, from the last to the first.
+//! - `bounded`: the rounds of sixteen departures, within the labels of a later one.
+//! - `scan`, `due`: a round of rides, line by line: the lines that serve a stop where a label fell, from there on.
 //! - `table`: [`Durations`], as a window gives them.
 //! - `steps`: what trips, changes and walks do to the labels of stops.
-//! - `laws`: [`durations_are_unique`], that a window has one table of durations.
+//! - `laws`: [`durations_are_unique`], that a window has one table of durations, and why a round may leave trips out.
 //!
 //! What a journey and a least duration are stands in `timetable`'s `specs/` (`Journeys`, `Least`), and what trips and
 //! footpaths offer to a stop in a round (`Steps`).
 #![tactic(auto)]
 
+mod batches;
+mod bounded;
+mod due;
 mod laws;
 mod minutes;
+mod scan;
+mod search;
 mod steps;
 mod table;
 mod window;
 
-pub use laws::durations_are_unique;
+pub use laws::{
+    dead_lanes_ride_nothing, durations_are_unique, earlier_trips_serve, fallen_stops_suffice,
+    later_departures_bound_labels,
+};
 pub use minutes::one_minute;
+pub use search::Search;
 pub use table::Durations;
 pub use window::{MOST_MINUTES, Window, durations, limits_are_as_stated};

@@ -1,12 +1,15 @@
 //! A window of departures, one a minute, and the least durations of each of them.
-ghost use Rattle.std.specs.Prelude.{◌≡◌, ◌≢◌, ℕ, ◌+◌, ◌*◌, ◌<◌, ◌≤◌, ◌↔◌, IsTrue, length, slice_index, IfOk};
+ghost use Rattle.std.specs.Prelude.{◌≡◌, ◌≢◌, ℕ, ◌+◌, ◌*◌, ◌<◌, ◌≤◌, ◌↔◌, IsTrue, length, slice_index, All, IfOk};
+ghost use Rattle.timetable.specs.declared.limits.TheConstants.{MOST_TRIPS};
+ghost use Rattle.rounds.specs.Batches.{AreLabels};
 ghost use Rattle.rounds.specs.Window.{Fits, AreDurations};
 ghost use Rattle.rounds.specs.declared.window.TheConstants as limit;
 
 use crate::minutes::one_minute;
+use crate::search::Search;
 use crate::table::Durations;
 use std::alloc::{AllocError, Global};
-use timetable::{END_OF_AXIS, NEVER, Network, StopNo};
+use timetable::{END_OF_AXIS, Lines, NEVER, Network, StopNo};
 
 /// The most minutes of a window: a day.
 pub const MOST_MINUTES: u32 = 1_440;
@@ -40,7 +43,7 @@ impl Window {
 /// The least durations from `origin` to every stop, for each departure of the window and journeys of at most `rides`
 /// rides, in seconds, waiting included.
 ///
-/// Want of memory is the only refusal.
+/// Want of memory is the only refusal. Who asks for several origins keeps a [`Search`].
 pub fn durations(
     alloc: Global,
     network: &Network,
@@ -52,6 +55,37 @@ pub fn durations(
     requires fits { Fits window }
     ensures { IfOk result (λ durations. AreDurations network.now origin.0 window rides durations) }
 {
+    let mut search = Search::new(alloc);
+    search.durations(alloc, network, origin, window, rides)
+}
+
+/// How many trips the line with most of them has.
+pub(crate) fn longest(lines: &Lines) -> usize
+    requires few { length lines.now.lines ≤ MOST_TRIPS }
+    ensures { All (λ row. length row ≤ result) lines.now.lines }
+{
+    let mut most = 0;
+    for line in 0..lines.count() {
+        let trips = lines.trips_of(line as u32).len();
+        if trips > most {
+            most = trips;
+        }
+    }
+    most
+}
+
+/// The labels of a window, one minute at a time.
+pub(crate) fn labels_by_minute(
+    alloc: Global,
+    network: &Network,
+    origin: StopNo,
+    window: Window,
+    rides: u32,
+) -> Result<Vec<u32>, AllocError>
+    requires origin { origin.0 < network.now.stops }
+    requires fits { Fits window }
+    ensures { IfOk result (λ labels. AreLabels network.now origin.0 window rides labels.items) }
+{
     network.known();
     let stops = network.stops() as usize;
     let minutes = window.minutes as usize;
@@ -61,7 +95,7 @@ pub fn durations(
         let of_minute = one_minute(alloc, network, origin, depart, rides)?;
         write_minute(&mut labels, of_minute.as_slice(), minute as usize, minutes);
     }
-    Ok(Durations::new(network.stops(), window.minutes, labels))
+    Ok(labels)
 }
 
 /// Writes the labels of a minute, one per stop, among those of all minutes, where the minutes of a stop stand side by

@@ -9,7 +9,7 @@ use Rattle.rounds.specs.Table.{known_of, IsLeastOrNone}
 use Rattle.std.proofs.lemmas.Bool.Decides.{nat_tests}
 use Rattle.shares.specs.Percentiles.{is_within, minutes_within, Attains, IsCell}
 
-differs : (x : ℕ) → (x ≡ NEVER → ⊥) → (x == NEVER) ≡ false
+pub differs : (x : ℕ) → (x ≡ NEVER → ⊥) → (x == NEVER) ≡ false
 differs x d = grind (arith, d)
 
 -- a label is within a duration just where the duration that it tells is

@@ -1,3 +1,4 @@
 mod Attaining
+mod Ranking
 mod Summing
 pub mod Unique

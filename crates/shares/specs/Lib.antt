@@ -1,3 +1,4 @@
 pub mod Percentiles
+pub mod Ranks
 pub mod Opportunities
 pub mod Laws

@@ -1,6 +1,7 @@
 -- A cell: the least duration that a share of a window's minutes attains (the nearest-rank percentile of their durations,
 -- where a minute without a journey has none, and so lies beyond all).
-use Rattle.std.specs.Prelude.{◌≡◌, ◌<◌, ◌≤◌, ◌+◌, ◌*◌, ℕ, zero, suc, Bool, false, List, Option, Some, None, length, slice_index_or, nat_le, if◌then◌else◌}
+use Rattle.std.specs.Prelude.{◌≡◌, ◌<◌, ◌≤◌, ◌+◌, ◌*◌, ℕ, zero, suc, Bool, false, List, Option, Some, None, Vec, length, slice_get, slice_index_or, nat_le, if◌then◌else◌}
+use Rattle.std.specs.Global.{Global}
 use Rattle.rounds.specs.Table.{Times, at, IsLeastOrNone}
 
 -- a minute without a duration has none that is at most d
@@ -25,3 +26,9 @@ IsCell t share p cell = IsLeastOrNone (Attains (λ m. at t p m) t.minutes share)
 pub record AreCells (t : Times) (share : ℕ) (cells : List (Option ℕ)) : Type 0 where
   pub stops : length cells ≡ t.stops
   pub each : (p : ℕ) → p < t.stops → IsCell t share p (slice_index_or cells p None)
+
+-- one list of cells per share, in the shares' order
+pub record AreCellsOf (t : Times) (shares : List ℕ) (lists : List (Vec (Option ℕ) Global)) : Type 0 where
+  pub count : length lists ≡ length shares
+  pub each : (k share : ℕ) (cells : Vec (Option ℕ) Global) → slice_get shares k ≡ Some share → slice_get lists k ≡ Some cells →
+      AreCells t share cells.items

@@ -3,6 +3,7 @@
 //! at the stops whose cell is within a limit.
 //!
 //! - `percentiles`: [`cell`] and [`cells`].
+//! - `ranks`: [`cells_of`], the cells of several shares at once.
 //! - `opportunities`: [`access`], over the cells of all stops.
 //! - `laws`: [`cells_are_unique`], that a share of durations has one list of cells.
 //!
@@ -12,7 +13,9 @@
 mod laws;
 mod opportunities;
 mod percentiles;
+mod ranks;
 
 pub use laws::cells_are_unique;
 pub use opportunities::access;
 pub use percentiles::{cell, cells};
+pub use ranks::cells_of;

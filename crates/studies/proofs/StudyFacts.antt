@@ -38,8 +38,12 @@ use Rattle.studies.specs.NamedFile.{NamedBytes}
 use Rattle.studies.specs.Names.{names_of}
 use Rattle.studies.specs.Settings.{SettingsFit, window_of}
 use Rattle.studies.specs.Parts.{direct_in, edit_faults, feed_in, labels_in, network_faults, networks_of, opportunities_in, origins_in, own_faults, runs_in, scenarios_in, study_in}
-use Rattle.studies.specs.Stages.{AreTables, IsFeedOf, TellsEdits, TellsNames, TellsNetworks, TellsText}
-use Rattle.studies.specs.Study.{AreDated, AreEdited, AreNamed, AreNetworks, AreRead, AreWalked, IsStudyText, Tells}
+use Rattle.work_book.specs.declared.rule.View.{View}
+use Rattle.workers.specs.Outcomes.{IsFaultOf}
+use Rattle.workers.specs.declared.faults.RunFault.{RunFault}
+use Rattle.workers.specs.declared.faults.RunFault.TheVariants as run
+use Rattle.studies.specs.Stages.{AreTables, IsFeedOf, TellsEdits, TellsNames, TellsNetworks, TellsRun, TellsText}
+use Rattle.studies.specs.Study.{AreDated, AreEdited, AreNamed, AreNetworks, AreRead, AreWalked, IsFaultOfRun, IsStudyText, Tells}
 use Rattle.studies.proofs.Firsts.{first_left, first_right, none_of_both}
 
 module _ (i : InputFiles) (s : Settings) where
@@ -259,3 +263,17 @@ pub name_count : (files : List NamedBytes) → length (names_of files) ≡ lengt
 name_count files =
     let name : NamedBytes → List ℕ = λ f. f.name in
     ap suc (length-map files name) ∙ one_first (length files)
+
+-- what a run of workers tells
+pub run_told : (i : InputFiles) (s : Settings) (networks : List Net) (study : StudyData) (e : RunFault) → AreNetworks i s networks → study ≡ study_in i s networks
+    → TellsRun e study → IsFaultOfRun e i s
+run_told i s networks study run.Memory made is h = tt
+run_told i s networks study run.Spawn made is h = (study, record { networks = networks; made = made; study_is = is }, h)
+run_told i s networks study (run.Unfinished scenario origin) made is h = (study, record { networks = networks; made = made; study_is = is }, h.0, h.1)
+
+-- what the fault of a run over a board tells of its study
+pub run_fault : (r : Result MatrixData RunFault) (s : StudyData) (v : View) → IfErr r (λ e. IsFaultOf s v e) → IfErr r (λ e. TellsRun e s)
+run_fault (Ok m) s v h = h
+run_fault (Err run.Memory) s v h = tt
+run_fault (Err run.Spawn) s v h = h.0
+run_fault (Err (run.Unfinished scenario origin)) s v h = (h.scenario_in, h.origin_in)

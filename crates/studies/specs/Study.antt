@@ -12,7 +12,9 @@ use Rattle.footpaths.specs.declared.faults.FootFault.TheVariants as foot
 use Rattle.footpaths.specs.Closure.{HasTooMany, IsClosure}
 use Rattle.scenarios.specs.declared.faults.ScenarioWhat.TheVariants as edit
 use Rattle.collector.specs.Places.{MatrixData}
+use Rattle.workers.specs.declared.faults.RunFault.{RunFault}
 use Rattle.workers.specs.declared.faults.RunFault.TheVariants as run
+use Rattle.workers.specs.Jobs.{jobs_of}
 use Rattle.workers.specs.Matrices.{IsMatrix}
 use Rattle.workers.specs.Study.{StudyData}
 use Rattle.matrix_text.specs.declared.faults.TextFault.TheVariants as text
@@ -76,22 +78,29 @@ Refuses (fault.Run e) i s = ⊥
 Refuses (fault.Text e) i s = ⊥
 Refuses fault.Memory i s = ⊥
 
--- want of memory, which the files don't decide
-abbrev pub IsWantOfMemory : StudyFault → Type 0
-IsWantOfMemory fault.Scenarios = ⊥
-IsWantOfMemory (fault.Name k) = ⊥
-IsWantOfMemory (fault.Feed e) = e.what ≡ what.Memory
-IsWantOfMemory (fault.Scenario k e) = e.what ≡ edit.Memory
-IsWantOfMemory (fault.Days e) = e ≡ day.Memory
-IsWantOfMemory (fault.Feet e) = e ≡ foot.Memory
-IsWantOfMemory (fault.Net k e) = e ≡ net.Memory
-IsWantOfMemory (fault.Run e) = e ≡ run.Memory
-IsWantOfMemory (fault.Text e) = e ≡ text.Memory
-IsWantOfMemory fault.Memory = ⊤
+-- why workers gave no matrix of the study that the files mean: no worker was started for its places, or one of them has no row
+abbrev pub IsFaultOfRun : RunFault → InputFiles → Settings → Type 0
+IsFaultOfRun run.Memory i s = ⊤
+IsFaultOfRun run.Spawn i s = (study : StudyData) × Means i s study × (0 < jobs_of study)
+IsFaultOfRun (run.Unfinished scenario origin) i s =
+    (study : StudyData) × Means i s study × (scenario < length study.networks) × (origin < length study.origins)
+
+-- what the files don't decide: want of memory, and a run of workers that gives no matrix
+abbrev pub IsNotOfFiles : StudyFault → InputFiles → Settings → Type 0
+IsNotOfFiles fault.Scenarios i s = ⊥
+IsNotOfFiles (fault.Name k) i s = ⊥
+IsNotOfFiles (fault.Feed e) i s = e.what ≡ what.Memory
+IsNotOfFiles (fault.Scenario k e) i s = e.what ≡ edit.Memory
+IsNotOfFiles (fault.Days e) i s = e ≡ day.Memory
+IsNotOfFiles (fault.Feet e) i s = e ≡ foot.Memory
+IsNotOfFiles (fault.Net k e) i s = e ≡ net.Memory
+IsNotOfFiles (fault.Run e) i s = IsFaultOfRun e i s
+IsNotOfFiles (fault.Text e) i s = e ≡ text.Memory
+IsNotOfFiles fault.Memory i s = ⊤
 
 -- what may be told of the files
 abbrev pub Tells : StudyFault → InputFiles → Settings → Type 0
-Tells e i s = IsWantOfMemory e ⊎ Refuses e i s
+Tells e i s = IsNotOfFiles e i s ⊎ Refuses e i s
 
 -- the text of the matrix of the study that the files mean
 pub record IsStudyText (i : InputFiles) (s : Settings) (bytes : List ℕ) : Type 0 where

@@ -2,7 +2,7 @@
 //!
 //! - `study`: [`run_study`], the text of the matrix that the files ([`Inputs`], [`NamedFile`]) and the [`Settings`] mean, or the
 //!   first [`StudyFault`]. Its parts, each handing what it made to the next: `names`, `tables` (with `parts`), `scenario_files`,
-//!   `networks`.
+//!   `networks`, `matrix`.
 //! - `inputs`, `named_file`, `settings`: what a study is made of; `fault`: why there is none.
 //! - `laws`: a study has one text, and no files are both refused and accepted.
 //! - `feed_files`: [`FeedFiles`], the files of a feed as a program holds them.
@@ -16,6 +16,7 @@ mod feed_files;
 mod inputs;
 mod laws;
 mod line;
+mod matrix;
 mod minute;
 mod named_file;
 mod names;

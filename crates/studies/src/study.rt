@@ -12,6 +12,7 @@ ghost use Rattle.studies.specs.Study.{AreNamed, AreNetworks, AreRead, IsStudyTex
 
 use crate::fault::StudyFault;
 use crate::inputs::Inputs;
+use crate::matrix::matrix_of;
 use crate::names::{check_names, names_of};
 use crate::networks::make_networks;
 use crate::parts::Tables;
@@ -21,19 +22,23 @@ use collector::Matrix;
 use gtfs_tables::{Feed, read_feed};
 use matrix_text::{Labels, TextFault, write_matrix};
 use std::alloc::Global;
+use std::sync::Wait;
+use std::thread::Threads;
 use timetable::Network;
-use workers::{Gate, Study, one_thread};
+use workers::{Gate, Study};
 
 /// The text of the matrix of the study that the files mean, or why there is none.
 ///
 /// Of what is refused the first is told, in the order of [`StudyFault`]; want of memory may be told in its place. The
-/// condition is that the files and the settings fit ([`Inputs::fits`], [`Settings::fits`]). One thread computes the rows,
-/// whatever the number of workers, and the gate isn't asked.
-pub fn run_study<G: Gate + Sync>(
+/// condition is that the files and the settings fit ([`Inputs::fits`], [`Settings::fits`]). The rows are computed by as many
+/// worker threads as the settings say, and the gate decides what becomes of each lease. The text is the same for every
+/// number of workers and every gate.
+pub fn run_study<G: Gate + Sync, R: Threads + Wait + Sync>(
+    rt: &R,
     alloc: Global,
     inputs: &Inputs<'_>,
     settings: &Settings,
-    _gate: &G,
+    gate: &G,
 ) -> Result<Vec<u8>, StudyFault>
     requires files { AreWithinLimit (inputs_of inputs.now) }
     requires settings { SettingsFit settings.now }
@@ -41,16 +46,18 @@ pub fn run_study<G: Gate + Sync>(
     ensures fault { IfErr result (λ e. Tells e (inputs_of inputs.now) settings.now) }
 {
     match check_names(inputs.scenarios) {
-        Ok(()) => text_of_files(alloc, inputs, settings),
+        Ok(()) => text_of_files(rt, alloc, inputs, settings, gate),
         Err(fault) => Err(fault),
     }
 }
 
 /// The text, once the names are accepted: the feed is read.
-fn text_of_files(
+fn text_of_files<G: Gate + Sync, R: Threads + Wait + Sync>(
+    rt: &R,
     alloc: Global,
     inputs: &Inputs<'_>,
     settings: &Settings,
+    gate: &G,
 ) -> Result<Vec<u8>, StudyFault>
     requires files { AreWithinLimit (inputs_of inputs.now) }
     requires settings { SettingsFit settings.now }
@@ -62,17 +69,19 @@ fn text_of_files(
         Ok(feed) => feed,
         Err(fault) => return Err(StudyFault::Feed(fault)),
     };
-    let text = text_of_feed(alloc, inputs, settings, &feed);
+    let text = text_of_feed(rt, alloc, inputs, settings, &feed, gate);
     drop(feed);
     text
 }
 
 /// The text, once the feed is read: the analyst's own tables are.
-fn text_of_feed(
+fn text_of_feed<G: Gate + Sync, R: Threads + Wait + Sync>(
+    rt: &R,
     alloc: Global,
     inputs: &Inputs<'_>,
     settings: &Settings,
     feed: &Feed,
+    gate: &G,
 ) -> Result<Vec<u8>, StudyFault>
     requires files { AreWithinLimit (inputs_of inputs.now) }
     requires settings { SettingsFit settings.now }
@@ -85,16 +94,18 @@ fn text_of_feed(
         Ok(tables) => tables,
         Err(fault) => return Err(StudyFault::Feed(fault)),
     };
-    text_of_tables(alloc, inputs, settings, feed, &tables)
+    text_of_tables(rt, alloc, inputs, settings, feed, &tables, gate)
 }
 
 /// The text, once all tables are read: the networks are made.
-fn text_of_tables(
+fn text_of_tables<G: Gate + Sync, R: Threads + Wait + Sync>(
+    rt: &R,
     alloc: Global,
     inputs: &Inputs<'_>,
     settings: &Settings,
     feed: &Feed,
     tables: &Tables,
+    gate: &G,
 ) -> Result<Vec<u8>, StudyFault>
     requires files { AreWithinLimit (inputs_of inputs.now) }
     requires settings { SettingsFit settings.now }
@@ -108,17 +119,19 @@ fn text_of_tables(
         Ok(networks) => networks,
         Err(fault) => return Err(fault),
     };
-    text_of_networks(alloc, inputs, settings, feed, tables, &networks)
+    text_of_networks(rt, alloc, inputs, settings, feed, tables, &networks, gate)
 }
 
 /// The text, once the networks are made: the matrix is computed.
-fn text_of_networks(
+fn text_of_networks<G: Gate + Sync, R: Threads + Wait + Sync>(
+    rt: &R,
     alloc: Global,
     inputs: &Inputs<'_>,
     settings: &Settings,
     feed: &Feed,
     tables: &Tables,
     networks: &[Network],
+    gate: &G,
 ) -> Result<Vec<u8>, StudyFault>
     requires settings { SettingsFit settings.now }
     requires feed { feed.now ≡ feed_in (inputs_of inputs.now) }
@@ -138,7 +151,7 @@ fn text_of_networks(
         share: settings.share,
         within: settings.within,
     };
-    let matrix = match one_thread(alloc, &study) {
+    let matrix = match matrix_of(rt, alloc, &study, settings, gate) {
         Ok(matrix) => matrix,
         Err(fault) => return Err(StudyFault::Run(fault)),
     };

@@ -1,5 +1,11 @@
 pub mod Known
 pub mod Lowering
+pub mod Adding
+pub mod Ascending
+pub mod Boarding
+pub mod Following
+pub mod Parts
 pub mod Rows
 pub mod Searching
 pub mod Unique
+pub mod Viewing

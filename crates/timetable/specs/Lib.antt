@@ -1,6 +1,11 @@
 pub mod Trips
 pub mod Footpaths
 pub mod Networks
+pub mod FlatLists
+pub mod LineViews
+pub mod Lines
+pub mod Serving
+pub mod Indexes
 pub mod Faults
 pub mod Least
 pub mod Journeys

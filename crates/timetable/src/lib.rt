@@ -13,18 +13,25 @@
 #![tactic(auto)]
 
 mod faults;
+mod flat_lists;
 mod footpaths;
 mod least;
 mod limits;
+mod lines;
 mod networks;
+mod serving;
 mod trips;
+mod views;
 
 pub use faults::NetFault;
+pub use flat_lists::FlatLists;
 pub use footpaths::Feet;
 pub use least::{NEVER, least_durations_are_unique};
 pub use limits::{
     END_OF_AXIS, MOST_CHANGE_SECONDS, MOST_EVENTS, MOST_FOOT_SECONDS, MOST_FOOTPATHS, MOST_STOPS,
     MOST_TRIPS, limits_are_as_stated,
 };
+pub use lines::Lines;
 pub use networks::Network;
 pub use trips::{Event, Events, StopNo, Trip};
+pub use views::Call;

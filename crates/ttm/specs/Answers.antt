@@ -36,7 +36,8 @@ pub record IsCutShort (i : InputFiles) (s : Settings) (out printed : Option (Lis
   pub text_is : IsStudyText i s text
   pub part : PutsPart out printed text
 
--- why the matrix isn't out whole: the first fault of the inputs, or want of memory, and nothing is out; or the output took no more
+-- why the matrix isn't out whole: the first fault of the inputs, or want of memory, or a run of workers that left a place
+-- without a row, and nothing is out; or the output took no more
 abbrev pub IsWhy : StudyFault → InputFiles → Settings → Option (List ℕ) → Option (List ℕ) → Type 0
 IsWhy e i s out printed = ((printed ≡ out) × Tells e i s) ⊎ ((e ≡ fault.Text text.Write) × IsCutShort i s out printed)
 

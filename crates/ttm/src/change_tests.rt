@@ -6,6 +6,8 @@ use crate::row_tests::{Asked, EIGHT, expect, inputs_of};
 use gtfs_tables::FeedBytes;
 use std::alloc::Global;
 use std::process::Abort;
+use std::sync::Wait;
+use std::thread::Threads;
 use studies::Inputs;
 
 const FROM_B: &[u8] = b"stop_id\nB\n";
@@ -15,7 +17,12 @@ const ALL: &[u8] = b"scenario,origin,access,A,B,C\nbase,A,3,0,600,1800\n";
 const NO_CHANGE: &[u8] = b"scenario,origin,access,A,B,C\nbase,A,2,0,600,\n";
 
 // The study of the small feed with these transfers has this text.
-fn expect_with(rt: &impl Abort, alloc: Global, transfers: &'static [u8], text: &[u8]) {
+fn expect_with<R: Threads + Wait + Sync + Abort>(
+    rt: &R,
+    alloc: Global,
+    transfers: &'static [u8],
+    text: &[u8],
+) {
     let inputs = inputs_of(FeedBytes {
         transfers: Some(transfers),
         ..example_feed()

@@ -27,11 +27,13 @@ use std::env;
 use std::io::{ErrorKind, Write};
 use std::process::ExitCode;
 use std::rt::Env;
+use std::sync::Wait;
+use std::thread::Threads;
 use studies::{Inputs, Settings, StudyFault, run_study};
 use workers::Open;
 
-/// What the program does: it has its words, its files and memory of the runtime, and the two outputs.
-pub(crate) fn run<R: Env + Disk + AllocGlobal, O: Write, E: Write>(
+/// What the program does: it has its words, its files, its threads and memory of the runtime, and the two outputs.
+pub(crate) fn run<R: Env + Disk + AllocGlobal + Threads + Wait + Sync, O: Write, E: Write>(
     rt: &R,
     out: &mut O,
     err: &mut E,
@@ -45,13 +47,14 @@ pub(crate) fn run<R: Env + Disk + AllocGlobal, O: Write, E: Write>(
         Err(_) => return tell(b"ttm: words that are not UTF-8\n", REFUSED, err),
     };
     match words.collect::<Vec<String>>(rt.alloc()) {
-        Ok(words) => run_words(rt.alloc(), rt, &words, out, err),
+        Ok(words) => run_words(rt, rt.alloc(), rt, &words, out, err),
         Err(_) => tell_short(err),
     }
 }
 
 /// What the program does with its words: its name, and those after it.
-pub(crate) fn run_words<D: Disk, O: Write, E: Write>(
+pub(crate) fn run_words<T: Threads + Wait + Sync, D: Disk, O: Write, E: Write>(
+    rt: &T,
     alloc: Global,
     disk: &D,
     words: &[String],
@@ -62,14 +65,19 @@ pub(crate) fn run_words<D: Disk, O: Write, E: Write>(
     ensures quiet { exit_status result ≡ DONE → err.new ≡ err.old }
 {
     if words.len() <= 1 {
-        example(alloc, out, err)
+        example(rt, alloc, out, err)
     } else {
-        asked(alloc, disk, words, out, err)
+        asked(rt, alloc, disk, words, out, err)
     }
 }
 
 /// The study that the program carries: one minute from stop A of the small feed, by at most two rides.
-fn example<O: Write, E: Write>(alloc: Global, out: &mut O, err: &mut E) -> ExitCode
+fn example<T: Threads + Wait + Sync, O: Write, E: Write>(
+    rt: &T,
+    alloc: Global,
+    out: &mut O,
+    err: &mut E,
+) -> ExitCode
     ensures success { exit_status result ≡ DONE → spec.IsExample (O.contents out.old) (O.contents out.new) }
     ensures quiet { exit_status result ≡ DONE → err.new ≡ err.old }
 {
@@ -93,11 +101,12 @@ fn example<O: Write, E: Write>(alloc: Global, out: &mut O, err: &mut E) -> ExitC
         opportunities: None,
         scenarios: &[],
     };
-    answer(alloc, &inputs, &settings, out, err)
+    answer(rt, alloc, &inputs, &settings, out, err)
 }
 
 /// The study that the words ask for.
-fn asked<D: Disk, O: Write, E: Write>(
+fn asked<T: Threads + Wait + Sync, D: Disk, O: Write, E: Write>(
+    rt: &T,
     alloc: Global,
     disk: &D,
     words: &[String],
@@ -109,7 +118,7 @@ fn asked<D: Disk, O: Write, E: Write>(
 {
     match task_of(alloc, words) {
         Ok(task) => {
-            let code = study(alloc, disk, &task, out, err);
+            let code = study(rt, alloc, disk, &task, out, err);
             // Let go of here and not on the way out, where the prover would follow each of its strings.
             drop(task);
             code
@@ -156,7 +165,8 @@ fn put_help<O: Write, E: Write>(text: &[u8], out: &mut O, err: &mut E) -> ExitCo
 
 /// The study of a task. It holds the files, and lets go of them at the end: the prover would follow them on each way
 /// out of a function that had more to do.
-fn study<D: Disk, O: Write, E: Write>(
+fn study<T: Threads + Wait + Sync, D: Disk, O: Write, E: Write>(
+    rt: &T,
     alloc: Global,
     disk: &D,
     task: &Task,
@@ -168,13 +178,14 @@ fn study<D: Disk, O: Write, E: Write>(
     ensures quiet { exit_status result ≡ DONE → err.new ≡ err.old }
 {
     let mut files = StudyFiles::none(alloc);
-    let code = read_and_answer(alloc, disk, task, &mut files, out, err);
+    let code = read_and_answer(rt, alloc, disk, task, &mut files, out, err);
     drop(files);
     code
 }
 
 /// Reads the files of a task, and answers its study.
-fn read_and_answer<D: Disk, O: Write, E: Write>(
+fn read_and_answer<T: Threads + Wait + Sync, D: Disk, O: Write, E: Write>(
+    rt: &T,
     alloc: Global,
     disk: &D,
     task: &Task,
@@ -188,13 +199,14 @@ fn read_and_answer<D: Disk, O: Write, E: Write>(
     ensures quiet { exit_status result ≡ DONE → err.new ≡ err.old }
 {
     match read_files(alloc, disk, task, files, err) {
-        Ok(()) => answer(alloc, &files.inputs(), &task.settings, out, err),
+        Ok(()) => answer(rt, alloc, &files.inputs(), &task.settings, out, err),
         Err(code) => code,
     }
 }
 
 /// Puts out the matrix of a study, or tells why there is none.
-fn answer<O: Write, E: Write>(
+fn answer<T: Threads + Wait + Sync, O: Write, E: Write>(
+    rt: &T,
     alloc: Global,
     inputs: &Inputs<'_>,
     settings: &Settings,
@@ -207,7 +219,7 @@ fn answer<O: Write, E: Write>(
     ensures success { exit_status result ≡ DONE → spec.IsPrinted (inputs_of inputs.now) settings.now (O.contents out.old) (O.contents out.new) }
     ensures quiet { exit_status result ≡ DONE → err.new ≡ err.old }
 {
-    match run_study(alloc, inputs, settings, &Open) {
+    match run_study(rt, alloc, inputs, settings, &Open) {
         Ok(text) => match put_all(&text, out) {
             Ok(()) => ExitCode::from(DONE),
             Err(fault) => tell_why(alloc, &StudyFault::Text(fault), inputs, err),

@@ -1,10 +1,14 @@
 //! Whole runs of the program, from its words and the files on a disk: what its two outputs hold, and its exit status.
 
+use crate::disk::Disk;
 use crate::example::example_feed;
 use crate::program::run_words;
 use std::alloc::{AllocError, Global};
 use std::process::ExitCode;
+use std::rt::Files;
+use std::sync::Wait;
 use std::test::Fail;
+use std::thread::Threads;
 use std::{fs, io};
 
 /// A folder that is there for the length of a test.
@@ -50,7 +54,7 @@ For more information, try '--help'.
 ";
 
 /// Writes a file of the folder, if there is one.
-fn write(rt: &HostRuntime, name: &str, bytes: Option<&[u8]>) -> io::Result<()> {
+fn write<R: Files + AllocGlobal>(rt: &R, name: &str, bytes: Option<&[u8]>) -> io::Result<()> {
     let path = format!(in rt.alloc(); "{FOLDER}/{name}")?;
     match bytes {
         Some(bytes) => fs::write(rt, path.as_str(), bytes),
@@ -59,7 +63,7 @@ fn write(rt: &HostRuntime, name: &str, bytes: Option<&[u8]>) -> io::Result<()> {
 }
 
 /// Writes the small feed, an origin and two scenarios.
-fn write_files(rt: &HostRuntime) -> io::Result<()> {
+fn write_files<R: Files + AllocGlobal>(rt: &R) -> io::Result<()> {
     let feed = example_feed();
     fs::create_dir_all(rt, FOLDER)?;
     write(rt, "stops.txt", feed.stops)?;
@@ -88,8 +92,8 @@ fn words_of(alloc: Global, line: &str) -> Result<Vec<String>, AllocError> {
 }
 
 /// Whether a run with these words prints and tells this, and ends with this status.
-fn leaves(
-    rt: &HostRuntime,
+fn leaves<R: Files + Disk + Threads + Wait + Sync + AllocGlobal>(
+    rt: &R,
     line: &str,
     printed: &[u8],
     fault: &[u8],
@@ -98,13 +102,13 @@ fn leaves(
     let mut out = Vec::new(rt.alloc());
     let mut err = Vec::new(rt.alloc());
     let words = words_of(rt.alloc(), line)?;
-    let code = run_words(rt.alloc(), rt, &words, &mut out, &mut err);
+    let code = run_words(rt, rt.alloc(), rt, &words, &mut out, &mut err);
     Ok(code == ExitCode::from(status) && out.as_slice() == printed && err.as_slice() == fault)
 }
 
 /// Whether a study of a folder, with further words, prints and tells this, and ends with this status.
-fn study_leaves(
-    rt: &HostRuntime,
+fn study_leaves<R: Files + Disk + Threads + Wait + Sync + AllocGlobal>(
+    rt: &R,
     folder: &str,
     rest: &str,
     printed: &[u8],
@@ -116,7 +120,7 @@ fn study_leaves(
 }
 
 /// Whether each of these runs leaves what it should.
-fn are_right(rt: &HostRuntime) -> io::Result<bool> {
+fn are_right<R: Files + Disk + Threads + Wait + Sync + AllocGlobal>(rt: &R) -> io::Result<bool> {
     let cases: [(&str, &str, &[u8], &[u8], u8); 8] = [
         (FOLDER, "", FROM_ALL, b"", 0),
         (FOLDER, OWN_FILES, SCENARIOS, b"", 0),
@@ -182,11 +186,14 @@ fn a_word_that_is_no_option_is_told(rt: HostRuntime) -> Result<(), Fail> {
 }
 
 /// Whether a run that asks for help prints a text that begins so, tells nothing and ends with status 0.
-fn helps(rt: &HostRuntime, beginning: &[u8]) -> io::Result<bool> {
+fn helps<R: Files + Disk + Threads + Wait + Sync + AllocGlobal>(
+    rt: &R,
+    beginning: &[u8],
+) -> io::Result<bool> {
     let mut out = Vec::new(rt.alloc());
     let mut err = Vec::new(rt.alloc());
     let words = words_of(rt.alloc(), "ttm --help")?;
-    let code = run_words(rt.alloc(), rt, &words, &mut out, &mut err);
+    let code = run_words(rt, rt.alloc(), rt, &words, &mut out, &mut err);
     Ok(code == ExitCode::SUCCESS && out.starts_with(beginning) && err.is_empty())
 }
 

@@ -5,12 +5,19 @@ use crate::row_feeds::{CUT_OFF, NO_HEADWAY};
 use command_line::fault_line;
 use gtfs_tables::{FeedBytes, read_date};
 use std::alloc::{AllocError, Global};
+use std::sync::Wait;
 use std::test::Fail;
+use std::thread::Threads;
 use studies::{Inputs, NamedFile, Settings, run_study};
 use workers::Open;
 
 // Whether the study of these inputs on a date, with walks of at most 120 seconds, is refused by this line.
-fn tells(alloc: Global, inputs: &Inputs<'_>, date: &[u8], line: &[u8]) -> bool {
+fn tells<R: Threads + Wait + Sync + AllocGlobal>(
+    rt: &R,
+    inputs: &Inputs<'_>,
+    date: &[u8],
+    line: &[u8],
+) -> bool {
     let Some(date) = read_date(date) else {
         return false;
     };
@@ -30,9 +37,9 @@ fn tells(alloc: Global, inputs: &Inputs<'_>, date: &[u8], line: &[u8]) -> bool {
     if !inputs.fits() || !settings.fits() {
         return false;
     }
-    match run_study(alloc, inputs, &settings, &Open) {
+    match run_study(rt, rt.alloc(), inputs, &settings, &Open) {
         Ok(_) => false,
-        Err(fault) => match fault_line(alloc, &fault, inputs) {
+        Err(fault) => match fault_line(rt.alloc(), &fault, inputs) {
             Ok(told) => told.as_slice() == line,
             Err(_) => false,
         },
@@ -51,58 +58,69 @@ fn inputs_of<'a>(feed: FeedBytes<'a>) -> Inputs<'a> {
 }
 
 // Whether the small feed with these bytes as a file is refused by this line on a Monday.
-fn stops_tell(alloc: Global, stops: Option<&'static [u8]>, line: &[u8]) -> bool {
+fn stops_tell<R: Threads + Wait + Sync + AllocGlobal>(
+    rt: &R,
+    stops: Option<&'static [u8]>,
+    line: &[u8],
+) -> bool {
     let inputs = inputs_of(FeedBytes {
         stops,
         ..example_feed()
     });
-    tells(alloc, &inputs, b"20260504", line)
+    tells(rt, &inputs, b"20260504", line)
 }
 
-fn trips_tell(alloc: Global, trips: &'static [u8], line: &[u8]) -> bool {
+fn trips_tell<R: Threads + Wait + Sync + AllocGlobal>(
+    rt: &R,
+    trips: &'static [u8],
+    line: &[u8],
+) -> bool {
     let inputs = inputs_of(FeedBytes {
         trips: Some(trips),
         ..example_feed()
     });
-    tells(alloc, &inputs, b"20260504", line)
+    tells(rt, &inputs, b"20260504", line)
 }
 
-fn times_tell(alloc: Global, times: &'static [u8], line: &[u8]) -> bool {
+fn times_tell<R: Threads + Wait + Sync + AllocGlobal>(
+    rt: &R,
+    times: &'static [u8],
+    line: &[u8],
+) -> bool {
     let inputs = inputs_of(FeedBytes {
         stop_times: Some(times),
         ..example_feed()
     });
-    tells(alloc, &inputs, b"20260504", line)
+    tells(rt, &inputs, b"20260504", line)
 }
 
 #[test]
 fn faults_of_stops_and_trips(rt: HostRuntime) {
-    let alloc = rt.alloc();
-    assert!(rt; stops_tell(alloc, None, b"ttm: stops.txt: missing file\n"));
+    assert!(rt; stops_tell(&rt, None, b"ttm: stops.txt: missing file\n"));
     assert!(rt;
         stops_tell(
-            alloc,
+            &rt,
             Some(b"stop\nA\n"),
             b"ttm: stops.txt: record 1: missing column\n"
         )
     );
     assert!(rt;
         stops_tell(
-            alloc,
+            &rt,
             Some(b"stop_id,x\nA,\n,y\n"),
             b"ttm: stops.txt: record 3: empty id\n"
         )
     );
     assert!(rt;
         stops_tell(
-            alloc,
+            &rt,
             Some(b"stop_id\nA\nA\n"),
             b"ttm: stops.txt: record 3: duplicate id\n"
         )
     );
     assert!(rt;
         trips_tell(
-            alloc,
+            &rt,
             b"route_id,service_id,trip_id\nR9,MON,T1\n",
             b"ttm: trips.txt: record 2: unknown route\n"
         )
@@ -111,17 +129,16 @@ fn faults_of_stops_and_trips(rt: HostRuntime) {
 
 #[test]
 fn identifiers_of_stop_times(rt: HostRuntime) {
-    let alloc = rt.alloc();
     assert!(rt;
         times_tell(
-            alloc,
+            &rt,
             b"trip_id,stop_id,stop_sequence\nT1,Z,1\n",
             b"ttm: stop_times.txt: record 2: unknown stop\n"
         )
     );
     assert!(rt;
         times_tell(
-            alloc,
+            &rt,
             b"trip_id,stop_id,stop_sequence\nT9,A,1\n",
             b"ttm: stop_times.txt: record 2: unknown trip\n"
         )
@@ -130,31 +147,24 @@ fn identifiers_of_stop_times(rt: HostRuntime) {
 
 #[test]
 fn numbers_and_times_of_stop_times(rt: HostRuntime) {
-    let alloc = rt.alloc();
+    assert!(rt; times_tell(&rt, CUT_OFF, b"ttm: stop_times.txt: record 5: bad number\n"));
     assert!(rt;
         times_tell(
-            alloc,
-            CUT_OFF,
-            b"ttm: stop_times.txt: record 5: bad number\n"
-        )
-    );
-    assert!(rt;
-        times_tell(
-            alloc,
+            &rt,
             b"trip_id,stop_id,stop_sequence\nT1,A,1\n",
             b"ttm: stop_times.txt: record 2: no time\n"
         )
     );
     assert!(rt;
         times_tell(
-            alloc,
+            &rt,
             b"trip_id,stop_id,stop_sequence,arrival_time\nT1,A,1,8:0\n",
             b"ttm: stop_times.txt: record 2: bad time\n"
         )
     );
     assert!(rt;
         times_tell(
-            alloc,
+            &rt,
             b"trip_id,stop_id,stop_sequence,arrival_time\nT1,A,1,8:00:00\nT1,B,2,7:00:00\n",
             b"ttm: stop_times.txt: record 3: times go back\n"
         )
@@ -163,14 +173,13 @@ fn numbers_and_times_of_stop_times(rt: HostRuntime) {
 
 #[test]
 fn faults_of_calendars_and_headways(rt: HostRuntime) {
-    let alloc = rt.alloc();
     let headway = inputs_of(FeedBytes {
         frequencies: Some(NO_HEADWAY),
         ..example_feed()
     });
     assert!(rt;
         tells(
-            alloc,
+            &rt,
             &headway,
             b"20260504",
             b"ttm: frequencies.txt: record 2: bad number\n"
@@ -182,7 +191,7 @@ fn faults_of_calendars_and_headways(rt: HostRuntime) {
     });
     assert!(rt;
         tells(
-            alloc,
+            &rt,
             &dates,
             b"20260504",
             b"ttm: calendar_dates.txt: record 2: bad date\n"
@@ -192,10 +201,9 @@ fn faults_of_calendars_and_headways(rt: HostRuntime) {
 
 #[test]
 fn faults_of_days(rt: HostRuntime) {
-    let alloc = rt.alloc();
     assert!(rt;
         tells(
-            alloc,
+            &rt,
             &inputs_of(example_feed()),
             b"99991231",
             b"ttm: date out of range\n"
@@ -207,19 +215,18 @@ fn faults_of_days(rt: HostRuntime) {
         ),
         ..example_feed()
     });
-    assert!(rt; tells(alloc, &runs, b"20260504", b"ttm: too many runs\n"));
+    assert!(rt; tells(&rt, &runs, b"20260504", b"ttm: too many runs\n"));
 }
 
 #[test]
 fn faults_of_the_files_of_an_analysis(rt: HostRuntime) {
-    let alloc = rt.alloc();
     let walks = Inputs {
         footpaths: Some(b"from_stop_id,to_stop_id,seconds\nA,B,60\nA,Z,60\n"),
         ..inputs_of(example_feed())
     };
     assert!(rt;
         tells(
-            alloc,
+            &rt,
             &walks,
             b"20260504",
             b"ttm: footpaths.csv: record 3: unknown stop\n"
@@ -231,7 +238,7 @@ fn faults_of_the_files_of_an_analysis(rt: HostRuntime) {
     };
     assert!(rt;
         tells(
-            alloc,
+            &rt,
             &origins,
             b"20260504",
             b"ttm: origins: record 3: duplicate id\n"
@@ -243,7 +250,7 @@ fn faults_of_the_files_of_an_analysis(rt: HostRuntime) {
     };
     assert!(rt;
         tells(
-            alloc,
+            &rt,
             &opportunities,
             b"20260504",
             b"ttm: opportunities: record 2: bad number\n"
@@ -267,26 +274,25 @@ fn named(alloc: Global, names: &[&[u8]], bytes: &[u8]) -> Result<Vec<NamedFile>,
 }
 
 // Whether the small feed with scenario files of these names is refused by this line.
-fn scenarios_tell(
-    alloc: Global,
+fn scenarios_tell<R: Threads + Wait + Sync + AllocGlobal>(
+    rt: &R,
     names: &[&[u8]],
     bytes: &[u8],
     line: &[u8],
 ) -> Result<bool, AllocError> {
-    let files = named(alloc, names, bytes)?;
+    let files = named(rt.alloc(), names, bytes)?;
     let inputs = Inputs {
         scenarios: &files,
         ..inputs_of(example_feed())
     };
-    Ok(tells(alloc, &inputs, b"20260504", line))
+    Ok(tells(rt, &inputs, b"20260504", line))
 }
 
 #[test]
 fn faults_of_scenarios(rt: HostRuntime) -> Result<(), Fail> {
-    let alloc = rt.alloc();
     assert!(rt;
         scenarios_tell(
-            alloc,
+            &rt,
             &[
                 b"a", b"b", b"c", b"d", b"e", b"f", b"g", b"h", b"i", b"j", b"k", b"l", b"m", b"n",
                 b"o", b"p"
@@ -295,10 +301,10 @@ fn faults_of_scenarios(rt: HostRuntime) -> Result<(), Fail> {
             b"ttm: too many scenarios\n"
         )?
     );
-    assert!(rt; scenarios_tell(alloc, &[b"cut", b"cut"], b"", b"ttm: scenario name: cut\n")?);
+    assert!(rt; scenarios_tell(&rt, &[b"cut", b"cut"], b"", b"ttm: scenario name: cut\n")?);
     assert!(rt;
         scenarios_tell(
-            alloc,
+            &rt,
             &[b"cut"],
             b"action,id\nstop_trip,T1\n",
             b"ttm: scenario cut: record 2: unknown action\n"
@@ -306,7 +312,7 @@ fn faults_of_scenarios(rt: HostRuntime) -> Result<(), Fail> {
     );
     assert!(rt;
         scenarios_tell(
-            alloc,
+            &rt,
             &[b"late"],
             b"action,id,seconds\nshift_trip,T1,-30000\n",
             b"ttm: scenario late: record 2: shift out of range\n"
@@ -355,19 +361,24 @@ const NO_TIMES: &[u8] = b"trip_id,stop_id,stop_sequence\n";
 const NO_ROWS: &[u8] = b"trip_id,start_time,end_time,headway_secs\n";
 
 // Whether the small feed with these stops and walks, and no times, is refused by this line.
-fn walks_tell<'a>(alloc: Global, stops: &'a [u8], walks: &'a [u8], line: &[u8]) -> bool {
+fn walks_tell<'a, R: Threads + Wait + Sync + AllocGlobal>(
+    rt: &R,
+    stops: &'a [u8],
+    walks: &'a [u8],
+    line: &[u8],
+) -> bool {
     let inputs = Inputs {
         footpaths: Some(walks),
         ..inputs_of(feed_of(stops, NO_TIMES, NO_ROWS))
     };
-    tells(alloc, &inputs, b"20260504", line)
+    tells(rt, &inputs, b"20260504", line)
 }
 
 #[test]
 fn closed_footpaths_that_are_too_many(rt: HostRuntime) -> Result<(), Fail> {
     let stops = hub_stops(rt.alloc(), 2000)?;
     let walks = hub_walks(rt.alloc(), 2000)?;
-    assert!(rt; walks_tell(rt.alloc(), &stops, &walks, b"ttm: too many footpaths\n"));
+    assert!(rt; walks_tell(&rt, &stops, &walks, b"ttm: too many footpaths\n"));
     Ok(())
 }
 
@@ -388,7 +399,7 @@ fn a_network_of_nine_million_events(rt: HostRuntime) -> Result<(), Fail> {
     let inputs = inputs_of(feed_of(b"stop_id\nA\n", &times, row));
     assert!(rt;
         tells(
-            rt.alloc(),
+            &rt,
             &inputs,
             b"20260504",
             b"ttm: scenario base: network too large\n"

@@ -5,6 +5,8 @@ use crate::row_feeds::*;
 use gtfs_tables::{FeedBytes, read_date};
 use std::alloc::Global;
 use std::process::Abort;
+use std::sync::Wait;
+use std::thread::Threads;
 use studies::{Inputs, Settings, run_study};
 use workers::Open;
 
@@ -34,7 +36,13 @@ pub(crate) const EIGHT: Asked = Asked {
 const FROM_A: &[u8] = b"stop_id\nA\n";
 
 // Whether the study of these inputs on 4 May 2026 has this text.
-fn gives(alloc: Global, inputs: &Inputs<'_>, asked: Asked, text: &[u8]) -> bool {
+fn gives<R: Threads + Wait + Sync>(
+    rt: &R,
+    alloc: Global,
+    inputs: &Inputs<'_>,
+    asked: Asked,
+    text: &[u8],
+) -> bool {
     let Some(date) = read_date(b"20260504") else {
         return false;
     };
@@ -54,20 +62,20 @@ fn gives(alloc: Global, inputs: &Inputs<'_>, asked: Asked, text: &[u8]) -> bool 
     if !inputs.fits() || !settings.fits() {
         return false;
     }
-    match run_study(alloc, inputs, &settings, &Open) {
+    match run_study(rt, alloc, inputs, &settings, &Open) {
         Ok(matrix) => matrix.as_slice() == text,
         Err(_) => false,
     }
 }
 
-pub(crate) fn expect(
-    rt: &impl Abort,
+pub(crate) fn expect<R: Threads + Wait + Sync + Abort>(
+    rt: &R,
     alloc: Global,
     inputs: &Inputs<'_>,
     asked: Asked,
     text: &[u8],
 ) {
-    assert!(rt; gives(alloc, inputs, asked, text));
+    assert!(rt; gives(rt, alloc, inputs, asked, text));
 }
 
 // The small feed with these files in place of its own.

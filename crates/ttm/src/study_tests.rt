@@ -7,6 +7,8 @@ use scenarios::{ScenarioFault, ScenarioWhat};
 use service_days::DayFault;
 use std::alloc::Global;
 use std::process::Abort;
+use std::sync::Wait;
+use std::thread::Threads;
 use studies::{Inputs, NamedFile, Settings, StudyFault, run_study};
 use workers::Open;
 
@@ -54,21 +56,25 @@ const FIRST: Case = Case {
     scenarios: &[],
 };
 
-fn date_of(rt: &impl Abort, text: &[u8]) -> Date {
+fn date_of<R: Threads + Wait + Sync + Abort>(rt: &R, text: &[u8]) -> Date {
     match read_date(text) {
         Some(date) => date,
         None => panic!(rt; "no date"),
     }
 }
 
-fn bytes_of(rt: &impl Abort, alloc: Global, bytes: &[u8]) -> Vec<u8> {
+fn bytes_of<R: Threads + Wait + Sync + Abort>(rt: &R, alloc: Global, bytes: &[u8]) -> Vec<u8> {
     match Vec::from_slice(alloc, bytes) {
         Ok(bytes) => bytes,
         Err(_) => panic!(rt; "out of memory"),
     }
 }
 
-fn files_of(rt: &impl Abort, alloc: Global, scenarios: &[Named]) -> Vec<NamedFile> {
+fn files_of<R: Threads + Wait + Sync + Abort>(
+    rt: &R,
+    alloc: Global,
+    scenarios: &[Named],
+) -> Vec<NamedFile> {
     let mut files = Vec::new(alloc);
     for (name, bytes) in scenarios {
         let name = bytes_of(rt, alloc, name);
@@ -80,7 +86,7 @@ fn files_of(rt: &impl Abort, alloc: Global, scenarios: &[Named]) -> Vec<NamedFil
     files
 }
 
-fn settings_of(rt: &impl Abort, case: &Case) -> Settings {
+fn settings_of<R: Threads + Wait + Sync + Abort>(rt: &R, case: &Case) -> Settings {
     Settings {
         date: date_of(rt, case.date),
         back: 1,
@@ -96,7 +102,11 @@ fn settings_of(rt: &impl Abort, case: &Case) -> Settings {
     }
 }
 
-fn study_of(rt: &impl Abort, alloc: Global, case: &Case) -> Result<Vec<u8>, StudyFault> {
+fn study_of<R: Threads + Wait + Sync + Abort>(
+    rt: &R,
+    alloc: Global,
+    case: &Case,
+) -> Result<Vec<u8>, StudyFault> {
     let files = files_of(rt, alloc, case.scenarios);
     let inputs = Inputs {
         feed: FeedBytes {
@@ -111,17 +121,22 @@ fn study_of(rt: &impl Abort, alloc: Global, case: &Case) -> Result<Vec<u8>, Stud
     let settings = settings_of(rt, case);
     assert!(rt; inputs.fits());
     assert!(rt; settings.fits());
-    run_study(alloc, &inputs, &settings, &Open)
+    run_study(rt, alloc, &inputs, &settings, &Open)
 }
 
-fn expect_text(rt: &impl Abort, alloc: Global, case: &Case, want: &[u8]) {
+fn expect_text<R: Threads + Wait + Sync + Abort>(rt: &R, alloc: Global, case: &Case, want: &[u8]) {
     match study_of(rt, alloc, case) {
         Ok(text) => assert_eq!(rt; text.as_slice(), want),
         Err(fault) => panic!(rt; "{fault:?}"),
     }
 }
 
-fn expect_fault(rt: &impl Abort, alloc: Global, case: &Case, want: StudyFault) {
+fn expect_fault<R: Threads + Wait + Sync + Abort>(
+    rt: &R,
+    alloc: Global,
+    case: &Case,
+    want: StudyFault,
+) {
     match study_of(rt, alloc, case) {
         Ok(_) => panic!(rt; "accepted"),
         Err(fault) => assert!(rt; fault == want, "{fault:?}"),

@@ -193,6 +193,7 @@ impl Book {
         ensures marks { length self.now.marks ≡ self.now.jobs }
         ensures few { self.now.jobs ≤ 1048560 }
     {
+        // A look at a field brings the invariant into the proof.
         let _ = &self.jobs;
         if !self.acts(seat) {
             return false;

@@ -3,3 +3,8 @@ pub mod Seat
 pub mod NextJob
 pub mod Filled
 pub mod Unique
+pub mod Times
+pub mod Holds
+pub mod Joined
+pub mod Fills
+pub mod Ended

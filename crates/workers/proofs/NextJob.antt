@@ -126,7 +126,7 @@ all_done s book new places after_it way none =
     one : (n : ℕ) → n * 1 ≡ n
     one n = omega arith
 
-none_at : (n k : ℕ) → get_or (replicate {A = Option RowData} n None) k None ≡ None
+pub none_at : (n k : ℕ) → get_or (replicate {A = Option RowData} n None) k None ≡ None
 none_at zero k = refl
 none_at (suc n) zero = refl
 none_at (suc n) (suc k) = none_at n k

@@ -6,7 +6,7 @@ use Rattle.work_book.specs.declared.lease.Lease.{Lease}
 use Rattle.work_book.specs.declared.steps.Step.TheVariants.{Draw, Settle}
 use Rattle.work_book.specs.declared.steps.Answer.TheVariants as answer
 use Rattle.collector.specs.Row.{RowData}
-use Rattle.collector.specs.Places.{PlacesData, row_at}
+use Rattle.collector.specs.Places.{PlacesData, empty_places, row_at}
 use Rattle.collector.specs.Offers.{after_offer}
 use Rattle.workers.specs.Study.{StudyData}
 use Rattle.workers.specs.Rows.{IsRowOf}
@@ -34,6 +34,10 @@ pub record HasNoJob (old new : BookState) (places offered : PlacesData) : Type 0
   pub drawn : (lease : Lease) → answer_of old (Draw 0) ≢ answer.Lease lease
   pub book : new ≡ old
   pub places_are : offered ≡ places
+
+-- the places of a study before its first row
+abbrev pub places_without_rows : StudyData → PlacesData
+places_without_rows s = empty_places s.number (length s.networks) (length s.origins) (width_of s.networks)
 
 -- the places are those of a study, one per job
 pub record ArePlaces (s : StudyData) (places : PlacesData) : Type 0 where

@@ -2,5 +2,10 @@ pub mod Study
 pub mod Rows
 pub mod Matrices
 pub mod Jobs
+pub mod Held
+pub mod Parts
+pub mod Threads
+pub mod Filling
+pub mod Outcomes
 pub mod Laws
 pub mod FaultWords

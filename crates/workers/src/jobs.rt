@@ -2,12 +2,13 @@
 ghost use Rattle.std.specs.Prelude.{◌≡◌, ◌+◌, ◌<◌, ◌≤◌, ◌*◌, true, false, length, IfOk, IfErr, OnOk, OnErr};
 ghost use Rattle.workers.specs.Study.{study_of, StudyFits};
 ghost use Rattle.workers.specs.Matrices.{IsMatrix, HasShape, width_of};
-ghost use Rattle.workers.specs.Jobs.{jobs_of, IsRowOfJob, DoesJob, HasNoJob, IsUnderWay, AreFilled};
+ghost use Rattle.workers.specs.Jobs.{jobs_of, IsRowOfJob, DoesJob, HasNoJob, IsUnderWay, AreFilled, places_without_rows};
 
 use crate::faults::RunFault;
-use crate::rows::row_of;
+use crate::rows::row_with;
 use crate::study::Study;
 use collector::{Collector, Matrix, Row};
+use rounds::Search;
 use std::alloc::{AllocError, Global};
 use timetable::Network;
 use work_book::{Answer, Book};
@@ -45,13 +46,22 @@ fn filled(alloc: Global, study: &Study) -> Result<Collector, AllocError>
     requires { StudyFits (study_of study.now) }
     ensures { IfOk result (λ collector. AreFilled (study_of study.now) collector) }
 {
+    let mut collector = empty_places(alloc, study)?;
+    let jobs = study.networks.len() as u32 * study.origins.len() as u32;
+    let mut book = Book::new(alloc, jobs, 1, 1)?;
+    do_all_jobs(alloc, study, &mut book, &mut collector)?;
+    Ok(collector)
+}
+
+/// The places of a study, without a row yet.
+pub(crate) fn empty_places(alloc: Global, study: &Study) -> Result<Collector, AllocError>
+    requires { StudyFits (study_of study.now) }
+    ensures { IfOk result (λ collector. collector ≡ places_without_rows (study_of study.now)) }
+{
     let scenarios = study.networks.len() as u32;
     let origins = study.origins.len() as u32;
     let width = width_of(study.networks);
-    let mut book = Book::new(alloc, scenarios * origins, 1, 1)?;
-    let mut collector = Collector::new(alloc, study.number, scenarios, origins, width)?;
-    do_all_jobs(alloc, study, &mut book, &mut collector)?;
-    Ok(collector)
+    Collector::new(alloc, study.number, scenarios, origins, width)
 }
 
 /// How many stops the networks have.
@@ -64,7 +74,7 @@ fn width_of(networks: &[Network]) -> u32
     }
 }
 
-/// Does the jobs that are left.
+/// Does the jobs that are left, all of them with one search.
 fn do_all_jobs(
     alloc: Global,
     study: &Study,
@@ -75,7 +85,8 @@ fn do_all_jobs(
     requires way { IsUnderWay (study_of study.now) book.old collector.old }
     ensures { OnOk result (AreFilled (study_of study.now) collector.new) }
 {
-    while do_next_job(alloc, study, book, collector)? {}
+    let mut search = Search::new(alloc);
+    while do_next_job(alloc, &mut search, study, book, collector)? {}
     Ok(())
 }
 
@@ -83,6 +94,7 @@ fn do_all_jobs(
 /// is left.
 fn do_next_job(
     alloc: Global,
+    search: &mut Search,
     study: &Study,
     book: &mut Book,
     collector: &mut Collector,
@@ -97,7 +109,7 @@ fn do_next_job(
     let Answer::Lease(lease) = book.draw(0)? else {
         return Ok(false);
     };
-    let row = row_of_job(alloc, study, lease.job)?;
+    let row = row_of_job(alloc, search, study, lease.job)?;
     if let Answer::Kept = book.settle(0, lease.number)? {
         collector.offer(row);
     }
@@ -105,11 +117,16 @@ fn do_next_job(
 }
 
 /// The row of a job.
-fn row_of_job(alloc: Global, study: &Study, job: u32) -> Result<Row, AllocError>
+pub(crate) fn row_of_job(
+    alloc: Global,
+    search: &mut Search,
+    study: &Study,
+    job: u32,
+) -> Result<Row, AllocError>
     requires fits { StudyFits (study_of study.now) }
     requires job { job < jobs_of (study_of study.now) }
     ensures { IfOk result (λ row. IsRowOfJob (study_of study.now) job row) }
 {
     let origins = study.origins.len() as u32;
-    row_of(alloc, study, job / origins, job % origins)
+    row_with(alloc, search, study, job / origins, job % origins)
 }

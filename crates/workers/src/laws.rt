@@ -1,5 +1,20 @@
 //! What follows for rows and matrices.
+ghost use Rattle.std.specs.Prelude.{◌≡◌, ◌<◌, [], IfOk};
+ghost use Rattle.work_book.specs.Board.{seen_by, IsOf};
+ghost use Rattle.workers.specs.Study.{study_of, StudyFits};
+ghost use Rattle.workers.specs.Jobs.{jobs_of};
 ghost use Rattle.workers.specs.Laws.{RowsAreUnique, RowsDependOnTheirNetwork, MatricesAreUnique};
+
+use crate::faults::RunFault;
+use crate::gates::Gate;
+use crate::jobs::one_thread;
+use crate::run::run_workers;
+use crate::study::Study;
+use collector::Matrix;
+use std::alloc::Global;
+use std::sync::Wait;
+use std::thread::Threads;
+use work_book::{Board, WorkSeat};
 
 /// A law: a network, an origin, opportunities and a query have one row, whatever computes it.
 pub fn rows_are_unique()
@@ -18,3 +33,27 @@ pub fn rows_depend_on_their_network()
 pub fn matrices_are_unique()
     ensures { MatricesAreUnique }
 {}
+
+/// A law: the matrix of workers is that of one thread, where both give one.
+///
+/// So it is for every number of workers and every gate, and whatever order the threads' steps come in.
+pub fn workers_give_the_matrix_of_one_thread<G: Gate + Sync, R: Threads + Wait + Sync>(
+    rt: &R,
+    alloc: Global,
+    study: &Study,
+    board: &Board,
+    seat: &mut WorkSeat,
+    workers: u32,
+    gate: &G,
+) -> (Result<Matrix, RunFault>, Result<Matrix, RunFault>)
+    requires fits { StudyFits (study_of study.now) }
+    requires jobs { board.now.jobs ≡ jobs_of (study_of study.now) }
+    requires board { IsOf board.now seat.old }
+    requires empty { ((seen_by seat.old).drawn ≡ []) × ((seen_by seat.old).kept ≡ []) }
+    requires share { workers < (seen_by seat.old).share }
+    ensures { IfOk result.0 (λ one. IfOk result.1 (λ many. one ≡ many)) }
+{
+    let one = one_thread(alloc, study);
+    let many = run_workers(rt, alloc, study, board, seat, workers, gate);
+    (one, many)
+}

@@ -4,23 +4,34 @@
 //! - `study`: [`Study`], what is asked for.
 //! - `rows`: [`row_of`], the row of one scenario and origin.
 //! - `jobs`: [`one_thread`], the matrix, row after row.
+//! - `run`: [`run_workers`], the same matrix, by workers in threads of their own that share a board of jobs.
+//! - `worker`, `promise`, `threads`: what one worker does, what it promises of its rows, and how workers start and end.
 //! - `gates`: [`Gate`], which decides what becomes of a worker's lease, and [`Open`], which lets each be worked at.
 //! - `faults`: [`RunFault`], why a run gave no matrix.
 //! - `laws`: what follows for rows and matrices, as that a study has one matrix.
 //!
-//! What a row and a matrix are stands in `specs/` (`Rows`, `Matrices`).
+//! What a row and a matrix are stands in `specs/` (`Rows`, `Matrices`); what a worker promises, in `Held`; and what a run
+//! of workers ends with, in `Outcomes`.
 #![tactic(auto)]
 
 mod faults;
 mod gates;
 mod jobs;
 mod laws;
+mod promise;
 mod rows;
+mod run;
 mod study;
+mod threads;
+mod worker;
 
 pub use faults::RunFault;
 pub use gates::{Gate, Open, Verdict};
 pub use jobs::one_thread;
-pub use laws::{matrices_are_unique, rows_are_unique, rows_depend_on_their_network};
+pub use laws::{
+    matrices_are_unique, rows_are_unique, rows_depend_on_their_network,
+    workers_give_the_matrix_of_one_thread,
+};
 pub use rows::row_of;
+pub use run::run_workers;
 pub use study::{MOST_RIDES, MOST_SCENARIOS, Study, limits_are_as_stated};

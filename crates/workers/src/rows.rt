@@ -5,7 +5,7 @@ ghost use Rattle.workers.specs.Rows.{IsRowOf};
 
 use crate::study::Study;
 use collector::Row;
-use rounds::durations;
+use rounds::Search;
 use shares::{access, cells};
 use std::alloc::{AllocError, Global};
 
@@ -19,9 +19,26 @@ pub fn row_of(alloc: Global, study: &Study, scenario: u32, origin: u32) -> Resul
     requires origin { origin < length study.now.origins.now }
     ensures { IfOk result (λ row. IsRowOf (study_of study.now) scenario origin row) }
 {
+    let mut search = Search::new(alloc);
+    row_with(alloc, &mut search, study, scenario, origin)
+}
+
+/// The same row, found with the tables of a search, which may have served other rows before.
+pub(crate) fn row_with(
+    alloc: Global,
+    search: &mut Search,
+    study: &Study,
+    scenario: u32,
+    origin: u32,
+) -> Result<Row, AllocError>
+    requires fits { StudyFits (study_of study.now) }
+    requires scenario { scenario < length study.now.networks.now }
+    requires origin { origin < length study.now.origins.now }
+    ensures { IfOk result (λ row. IsRowOf (study_of study.now) scenario origin row) }
+{
     let network = &study.networks[scenario as usize];
     let stop = study.origins[origin as usize];
-    let durations = durations(alloc, network, stop, study.window, study.rides)?;
+    let durations = search.durations(alloc, network, stop, study.window, study.rides)?;
     let cells = cells(alloc, &durations, study.share)?;
     let access = access(&cells, study.opportunities, study.within);
     Ok(Row {

@@ -2,14 +2,8 @@ use Rattle.studies.specs.Inputs.{inputs_of}
 use Rattle.studies.proofs.StudyFacts.{names_told}
 use Rattle.studies.proofs.study.run_study.Goals as goal
 
-pub text_of_files-requires-clause-files : goal.text_of_files-requires-clause-files
-text_of_files-requires-clause-files g c = c.requires.files
-
-pub text_of_files-requires-clause-settings : goal.text_of_files-requires-clause-settings
-text_of_files-requires-clause-settings g c = c.requires.settings
-
 pub text_of_files-requires-clause-named : goal.text_of_files-requires-clause-named
-text_of_files-requires-clause-named g c = record { few = c.in-Ok.ensures.good.0; names = c.in-Ok.ensures.good.1 }
+text_of_files-requires-clause-named g c = λ _ _. record { few = c.in-Ok.ensures.good.0; names = c.in-Ok.ensures.good.1 }
 
 pub returns-in-Ok-clause-text : goal.returns-in-Ok-clause-text
 returns-in-Ok-clause-text g c = c.text_of_files.ensures.text

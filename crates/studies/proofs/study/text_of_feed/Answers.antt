@@ -3,29 +3,23 @@ use Rattle.studies.proofs.StudyFacts.{own_told, are_read}
 use Rattle.studies.proofs.study.text_of_feed.Goals as goal
 
 pub read_tables-requires : goal.read_tables-requires
-read_tables-requires c = c.requires.files
+read_tables-requires g c = c.requires.files
 
 pub returns-in-Err-clause-fault : goal.returns-in-Err-clause-fault
-returns-in-Err-clause-fault c =
+returns-in-Err-clause-fault g c =
     own_told (inputs_of c.args.inputs.now) c.args.settings.now c.in-Err.fault c.args.feed.now c.requires.named c.requires.feed c.in-Err.ensures.fault
 
-pub text_of_tables-requires-clause-files : goal.text_of_tables-requires-clause-files
-text_of_tables-requires-clause-files c = c.requires.files
-
-pub text_of_tables-requires-clause-settings : goal.text_of_tables-requires-clause-settings
-text_of_tables-requires-clause-settings c = c.requires.settings
-
 pub text_of_tables-requires-clause-read : goal.text_of_tables-requires-clause-read
-text_of_tables-requires-clause-read c = are_read (inputs_of c.args.inputs.now) c.args.settings.now c.args.feed.now c.requires.named c.requires.feed c.in-Ok.ensures.good
+text_of_tables-requires-clause-read g c = λ _ _. are_read (inputs_of c.args.inputs.now) c.args.settings.now c.args.feed.now c.requires.named c.requires.feed c.in-Ok.ensures.good
 
 pub text_of_tables-requires-clause-feed : goal.text_of_tables-requires-clause-feed
-text_of_tables-requires-clause-feed c = c.requires.feed.feed_is
+text_of_tables-requires-clause-feed g c = λ _ _. c.requires.feed.feed_is
 
 pub text_of_tables-requires-clause-tables : goal.text_of_tables-requires-clause-tables
-text_of_tables-requires-clause-tables c = c.in-Ok.ensures.tables
+text_of_tables-requires-clause-tables g c = λ _ _. c.in-Ok.ensures.tables
 
 pub returns-clause-text : goal.returns-clause-text
-returns-clause-text c = c.text_of_tables.ensures.text
+returns-clause-text g c = c.text_of_tables.ensures.text
 
 pub returns-clause-fault : goal.returns-clause-fault
-returns-clause-fault c = c.text_of_tables.ensures.fault
+returns-clause-fault g c = c.text_of_tables.ensures.fault

@@ -4,41 +4,47 @@ use Rattle.gtfs_tables.specs.Opportunities.{opportunities_of}
 use Rattle.gtfs_tables.specs.Origins.{origins_of}
 use Rattle.timetable.specs.declared.trips.StopNo.{StopNo}
 use Rattle.studies.specs.Inputs.{inputs_of}
-use Rattle.studies.proofs.StudyFacts.{network_count, study_fits, study_is, text_made, text_told}
+use Rattle.studies.proofs.StudyFacts.{network_count, run_told, study_fits, study_is, text_made, text_told}
 use Rattle.studies.proofs.study.text_of_networks.Goals as goal
 
 pub window-requires : goal.window-requires
-window-requires c = c.requires.settings
+window-requires g c = c.requires.settings
 
-pub one_thread-requires : goal.one_thread-requires
-one_thread-requires c =
+pub matrix_of-requires-clause-study : goal.matrix_of-requires-clause-study
+matrix_of-requires-clause-study g c = λ _ _.
     study_fits (inputs_of c.args.inputs.now) c.args.settings.now c.args.feed.now c.args.tables.now c.args.networks.now c.as_slice.result.now c.as_slice-2.result.now c.window.result
     c.requires.settings c.known.ensures c.requires.feed c.requires.tables c.requires.networks c.as_slice.ensures.value c.as_slice-2.ensures.value c.window.ensures
 
 pub returns-in-Err-clause-fault : goal.returns-in-Err-clause-fault
-returns-in-Err-clause-fault c = inl c.in-Err.ensures.memory
+returns-in-Err-clause-fault g c =
+    let i = inputs_of c.args.inputs.now in
+    let origins = c.as_slice.ensures.value ∙ c.requires.tables.origins_are ∙ ap (λ (d : FeedData). origins_of i.origins d) c.requires.feed in
+    let opportunities = c.as_slice-2.ensures.value ∙ c.requires.tables.opportunities_are ∙ ap (λ (d : FeedData). opportunities_of i.opportunities d) c.requires.feed in
+    inl (run_told i c.args.settings.now c.args.networks.now _ c.in-Err.fault c.requires.networks
+    (study_is i c.args.settings.now c.args.networks.now c.as_slice.result.now c.as_slice-2.result.now c.window.result origins opportunities c.window.ensures)
+    c.in-Err.ensures.fault)
 
 pub text_of_matrix-requires-clause-feed : goal.text_of_matrix-requires-clause-feed
-text_of_matrix-requires-clause-feed c = c.requires.feed
+text_of_matrix-requires-clause-feed g c = c.requires.feed
 
 pub text_of_matrix-requires-clause-tables : goal.text_of_matrix-requires-clause-tables
-text_of_matrix-requires-clause-tables c = c.requires.tables
+text_of_matrix-requires-clause-tables g c = c.requires.tables
 
 pub text_of_matrix-requires-clause-scenarios : goal.text_of_matrix-requires-clause-scenarios
-text_of_matrix-requires-clause-scenarios c =
+text_of_matrix-requires-clause-scenarios g c =
     c.in-Ok.ensures.shape.scenarios ∙ network_count (inputs_of c.args.inputs.now) c.args.settings.now c.args.networks.now c.requires.networks
 
 pub text_of_matrix-requires-clause-origins : goal.text_of_matrix-requires-clause-origins
-text_of_matrix-requires-clause-origins c = c.in-Ok.ensures.shape.origins ∙ ap (λ (l : List StopNo). length l) c.as_slice.ensures.value
+text_of_matrix-requires-clause-origins g c = c.in-Ok.ensures.shape.origins ∙ ap (λ (l : List StopNo). length l) c.as_slice.ensures.value
 
 pub text_of_matrix-requires-clause-width : goal.text_of_matrix-requires-clause-width
-text_of_matrix-requires-clause-width c =
+text_of_matrix-requires-clause-width g c =
     let count = network_count (inputs_of c.args.inputs.now) c.args.settings.now c.args.networks.now c.requires.networks in
     let some : 0 < length c.args.networks.now = omega (arith, count) in
     c.in-Ok.ensures.shape.width some ∙ ap length c.as_slice-2.ensures.value ∙ c.requires.tables.count
 
 pub returns-clause-text : goal.returns-clause-text
-returns-clause-text c =
+returns-clause-text g c =
     let i = inputs_of c.args.inputs.now in
     let origins = c.as_slice.ensures.value ∙ c.requires.tables.origins_are ∙ ap (λ (d : FeedData). origins_of i.origins d) c.requires.feed in
     let opportunities = c.as_slice-2.ensures.value ∙ c.requires.tables.opportunities_are ∙ ap (λ (d : FeedData). opportunities_of i.opportunities d) c.requires.feed in
@@ -47,4 +53,4 @@ returns-clause-text c =
     c.in-Ok.ensures.matrix c.text_of_matrix.ensures.text
 
 pub returns-clause-fault : goal.returns-clause-fault
-returns-clause-fault c = text_told (inputs_of c.args.inputs.now) c.args.settings.now c.text_of_matrix.result c.text_of_matrix.ensures.fault
+returns-clause-fault g c = text_told (inputs_of c.args.inputs.now) c.args.settings.now c.text_of_matrix.result c.text_of_matrix.ensures.fault

@@ -8,39 +8,30 @@ use Rattle.studies.specs.Study.{AreNetworks}
 use Rattle.studies.proofs.study.text_of_tables.Goals as goal
 
 pub make_networks-requires-clause-files : goal.make_networks-requires-clause-files
-make_networks-requires-clause-files c = c.requires.files
+make_networks-requires-clause-files g c = c.requires.files
 
 pub make_networks-requires-clause-settings : goal.make_networks-requires-clause-settings
-make_networks-requires-clause-settings c = c.requires.settings
+make_networks-requires-clause-settings g c = c.requires.settings
 
 pub make_networks-requires-clause-read : goal.make_networks-requires-clause-read
-make_networks-requires-clause-read c = c.requires.read
+make_networks-requires-clause-read g c = c.requires.read
 
 pub make_networks-requires-clause-feed : goal.make_networks-requires-clause-feed
-make_networks-requires-clause-feed c = c.requires.feed
+make_networks-requires-clause-feed g c = c.requires.feed
 
 pub make_networks-requires-clause-direct : goal.make_networks-requires-clause-direct
-make_networks-requires-clause-direct c =
+make_networks-requires-clause-direct g c =
     c.requires.tables.direct_is ∙ ap (λ (d : FeedData). direct_of d (inputs_of c.args.inputs.now).footpaths) c.requires.feed
 
 pub returns-in-Err-clause-fault : goal.returns-in-Err-clause-fault
-returns-in-Err-clause-fault c = c.in-Err.ensures.fault
-
-pub text_of_networks-requires-clause-settings : goal.text_of_networks-requires-clause-settings
-text_of_networks-requires-clause-settings c = c.requires.settings
-
-pub text_of_networks-requires-clause-feed : goal.text_of_networks-requires-clause-feed
-text_of_networks-requires-clause-feed c = c.requires.feed
-
-pub text_of_networks-requires-clause-tables : goal.text_of_networks-requires-clause-tables
-text_of_networks-requires-clause-tables c = c.requires.tables
+returns-in-Err-clause-fault g c = c.in-Err.ensures.fault
 
 pub text_of_networks-requires-clause-networks : goal.text_of_networks-requires-clause-networks
-text_of_networks-requires-clause-networks c =
+text_of_networks-requires-clause-networks g c = λ _ _.
     subst (λ (l : List Net). AreNetworks (inputs_of c.args.inputs.now) c.args.settings.now l) (sym c.deref.ensures.value) c.in-Ok.ensures.networks
 
 pub returns-clause-text : goal.returns-clause-text
-returns-clause-text c = c.text_of_networks.ensures.text
+returns-clause-text g c = c.text_of_networks.ensures.text
 
 pub returns-clause-fault : goal.returns-clause-fault
-returns-clause-fault c = c.text_of_networks.ensures.fault
+returns-clause-fault g c = c.text_of_networks.ensures.fault

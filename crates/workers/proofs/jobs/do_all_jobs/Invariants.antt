@@ -3,8 +3,8 @@ use Rattle.workers.specs.Study.{study_of}
 use Rattle.workers.specs.Jobs.{jobs_of, IsUnderWay}
 use Rattle.workers.proofs.jobs.do_all_jobs.Given as goal
 
-abbrev pub invariant-loop : goal.invariant-loop
-invariant-loop l = IsUnderWay (study_of l.study) l.book l.collector
+abbrev pub invariant-loop-search : goal.invariant-loop-search
+invariant-loop-search l = IsUnderWay (study_of l.study) l.book l.collector
 
-abbrev pub decreases-loop : goal.decreases-loop
-decreases-loop l = jobs_of (study_of l.study) - l.book.next
+abbrev pub decreases-loop-search : goal.decreases-loop-search
+decreases-loop-search l = jobs_of (study_of l.study) - l.book.next

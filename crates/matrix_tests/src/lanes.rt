@@ -1,0 +1,139 @@
+//! Worked examples of lanes: sixteen departures side by side, over two stops.
+ghost use Rattle.std.specs.Prelude.{◌≡◌, ℕ, ◌<◌, ◌⊎◌, slice_index};
+
+use std::alloc::{AllocError, Global};
+use std::test::Fail;
+use timetable::{Call, Event, Events, Feet, NEVER, StopNo, Trip};
+use trip_lanes::{
+    Labels, Lanes, LineView, UNFALLEN, carry_trip, falls_of, scan_line, transfer, walk,
+};
+
+/// No lane reaches the stop.
+const UNREACHED: Lanes = [NEVER; 16];
+
+/// The first two lanes at these seconds, the others not at all.
+fn two(first: u32, second: u32) -> Lanes
+    ensures { (l : ℕ) → l < 16 → (slice_index result l ≡ NEVER) ⊎ ((slice_index result l ≡ first) ⊎ (slice_index result l ≡ second)) }
+{
+    let mut lanes = UNREACHED;
+    lanes[0] = first;
+    lanes[1] = second;
+    lanes
+}
+
+/// A vehicle at a stop, where all may board and alight.
+fn at(stop: u32, arrive: u32, depart: u32) -> Event
+    ensures { result.stop.0 ≡ stop }
+{
+    Event {
+        stop: StopNo(stop),
+        arrive,
+        depart,
+        board: true,
+        alight: true,
+    }
+}
+
+/// Feet with these footpaths of the first of two stops, and these change times.
+fn feet_of(
+    alloc: Global,
+    leaving: &[(StopNo, u32)],
+    changes: &[u32],
+) -> Result<Option<Feet>, AllocError> {
+    let mut lists = Vec::with_capacity(alloc, 2)?;
+    lists.push(Vec::from_slice(alloc, leaving)?)?;
+    lists.push(Vec::new(alloc))?;
+    match Feet::new(alloc, 2, lists, Vec::from_slice(alloc, changes)?) {
+        Ok(feet) => Ok(Some(feet)),
+        Err(_) => Ok(None),
+    }
+}
+
+#[test]
+fn who_is_ready_rides(rt: HostRuntime) -> Result<(), Fail> {
+    let alloc = rt.alloc();
+    let events = vec![in alloc; at(0, 28_800, 28_800), at(1, 29_400, 29_400)]?;
+    let trip = Trip {
+        route: 0,
+        name: 0,
+        events: Events::new(events),
+    };
+    let ready = [two(28_800, 28_801), UNREACHED];
+    let mut ride = [UNREACHED, UNREACHED];
+    let mut marked = [false, false];
+    carry_trip(&trip, &ready, &mut ride, &mut marked);
+    assert!(rt; ride[0] == UNREACHED && ride[1] == two(29_400, NEVER));
+    assert!(rt; !marked[0] && marked[1]);
+    Ok(())
+}
+
+#[test]
+fn a_walk_takes_its_seconds(rt: HostRuntime) -> Result<(), Fail> {
+    let alloc = rt.alloc();
+    let feet = feet_of(alloc, &[(StopNo(1), 60)], &[0, 0])?;
+    let Some(feet) = feet else {
+        return Err(Fail::new("feet"));
+    };
+    let ride = [two(100, NEVER), UNREACHED];
+    let mut ready = [UNREACHED, UNREACHED];
+    if feet.stops() == 2 {
+        walk(&feet, &ride, &mut ready);
+    }
+    assert!(rt; ready[0] == two(100, NEVER) && ready[1] == two(160, NEVER));
+    Ok(())
+}
+
+#[test]
+fn a_change_takes_its_time_and_a_walk_none(rt: HostRuntime) -> Result<(), Fail> {
+    let alloc = rt.alloc();
+    let feet = feet_of(alloc, &[(StopNo(1), 60)], &[300, 7])?;
+    let Some(feet) = feet else {
+        return Err(Fail::new("feet"));
+    };
+    let ride = [two(100, NEVER), UNREACHED];
+    let mut ready = [UNREACHED, UNREACHED];
+    if feet.stops() == 2 {
+        transfer(&feet, &ride, &mut ready);
+    }
+    assert!(rt; ready[0] == two(400, NEVER) && ready[1] == two(160, NEVER));
+    Ok(())
+}
+
+/// A place of a line where all may board and alight.
+fn call(stop: u32) -> Call
+    ensures { result.stop.0 ≡ stop }
+{
+    Call {
+        stop: StopNo(stop),
+        board: true,
+        alight: true,
+    }
+}
+
+#[test]
+fn each_lane_takes_the_first_trip_of_a_line(rt: HostRuntime) -> Result<(), Fail> {
+    let calls = [call(0), call(1), call(2)];
+    let departures = [100, 200, 300, 110, 210, 310, 120, 220, 320];
+    let arrivals = [100, 110, 120, 200, 210, 220, 300, 310, 320];
+    let line = LineView {
+        calls: &calls,
+        departures: &departures,
+        arrivals: &arrivals,
+    };
+    let before = [UNREACHED, UNREACHED, UNREACHED];
+    let ready = [two(100, 201), UNREACHED, two(NEVER, 215)];
+    let mut falls = [UNFALLEN; 3];
+    falls_of(&before, &ready, &[true, false, true], &mut falls);
+    let labels = Labels {
+        falls: &falls,
+        before: &before,
+        ready: &ready,
+    };
+    let mut aboard = [UNREACHED; 3];
+    let mut ride = [UNREACHED; 3];
+    let mut marked = [false; 3];
+    scan_line(line, 3, 0, labels, &mut aboard, &mut ride, &mut marked);
+    assert!(rt; ride[0] == UNREACHED && ride[1] == two(110, 310) && ride[2] == two(120, 320));
+    assert!(rt; !marked[0] && marked[1] && marked[2]);
+    Ok(())
+}

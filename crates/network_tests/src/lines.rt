@@ -1,0 +1,238 @@
+//! Which trips share a line, where lines are boarded, how the events of a line lie, and which trips serve a stop.
+
+ghost use Rattle.std.specs.Prelude.{◌≡◌, IfOk};
+
+use std::alloc::{AllocError, Global};
+use timetable::{Call, Event, Events, Feet, Lines, Network, StopNo, Trip};
+
+// An event where one may board and alight, at a stop, that arrives and departs at these seconds.
+fn at(stop: u32, arrive: u32, depart: u32) -> Event {
+    Event {
+        stop: StopNo(stop),
+        arrive,
+        depart,
+        board: true,
+        alight: true,
+    }
+}
+
+// The same, where one may not board.
+fn only_out(stop: u32, arrive: u32) -> Event {
+    Event {
+        board: false,
+        ..at(stop, arrive, arrive)
+    }
+}
+
+// The same, where one may not alight.
+fn only_in(stop: u32, depart: u32) -> Event {
+    Event {
+        alight: false,
+        ..at(stop, depart, depart)
+    }
+}
+
+fn trip(alloc: Global, events: &[Event]) -> Result<Trip, AllocError> {
+    Ok(Trip {
+        route: 0,
+        name: 0,
+        events: Events::new(Vec::from_slice(alloc, events)?),
+    })
+}
+
+// Trips 0 and 3 run in one line, 1 overtakes 0 on its way, and 2 runs to another stop.
+fn overtaking(alloc: Global) -> Result<Vec<Trip>, AllocError> {
+    let mut trips = Vec::new(alloc);
+    trips.push(trip(alloc, &[at(0, 100, 100), at(1, 200, 210), only_out(2, 300)])?)?;
+    trips.push(trip(alloc, &[at(0, 110, 110), at(1, 190, 190), only_out(2, 280)])?)?;
+    trips.push(trip(alloc, &[at(0, 120, 120), at(2, 220, 220)])?)?;
+    trips.push(trip(alloc, &[at(0, 130, 130), at(1, 230, 240), only_out(2, 330)])?)?;
+    Ok(trips)
+}
+
+// Trips 0 and 1 have equal times and run in one line; of 2 nobody may alight at the first stop; 3 has no events; 4 loops.
+fn alike(alloc: Global) -> Result<Vec<Trip>, AllocError> {
+    let mut trips = Vec::new(alloc);
+    trips.push(trip(alloc, &[at(0, 100, 100), at(1, 200, 200)])?)?;
+    trips.push(trip(alloc, &[at(0, 100, 100), at(1, 200, 200)])?)?;
+    trips.push(trip(alloc, &[only_in(0, 100), at(1, 200, 200)])?)?;
+    trips.push(trip(alloc, &[])?)?;
+    trips.push(trip(alloc, &[at(0, 100, 100), at(1, 200, 200), at(0, 300, 300)])?)?;
+    Ok(trips)
+}
+
+// Each trip overtakes the one before, so ten lines are open.
+fn ten_that_overtake(alloc: Global) -> Result<Vec<Trip>, AllocError> {
+    let mut trips = Vec::new(alloc);
+    for i in 0..10 {
+        trips.push(trip(alloc, &[at(0, 100 + i, 100 + i), at(1, 300 - i, 300 - i)])?)?;
+    }
+    Ok(trips)
+}
+
+fn no_walks(alloc: Global) -> Result<Feet, AllocError> {
+    let mut lists = Vec::new(alloc);
+    let mut changes = Vec::new(alloc);
+    for _ in 0..3 {
+        lists.push(Vec::new(alloc))?;
+        changes.push(0)?;
+    }
+    match Feet::new(alloc, 3, lists, changes) {
+        Ok(feet) => Ok(feet),
+        Err(_) => Err(AllocError),
+    }
+}
+
+fn network(alloc: Global, trips: Vec<Trip>) -> Result<Network, AllocError>
+    ensures { IfOk result (λ n. n.stops ≡ 3) }
+{
+    let feet = no_walks(alloc)?;
+    match Network::new(alloc, 3, trips, &feet) {
+        Ok(network) => Ok(network),
+        Err(_) => Err(AllocError),
+    }
+}
+
+fn network_of_overtaking(alloc: Global) -> Result<Network, AllocError>
+    ensures { IfOk result (λ n. n.stops ≡ 3) }
+{
+    let trips = overtaking(alloc)?;
+    network(alloc, trips)
+}
+
+fn network_of_alike(alloc: Global) -> Result<Network, AllocError>
+    ensures { IfOk result (λ n. n.stops ≡ 3) }
+{
+    let trips = alike(alloc)?;
+    network(alloc, trips)
+}
+
+fn network_of_ten(alloc: Global) -> Result<Network, AllocError>
+    ensures { IfOk result (λ n. n.stops ≡ 3) }
+{
+    let trips = ten_that_overtake(alloc)?;
+    network(alloc, trips)
+}
+
+// Whether some line has just these trips.
+fn has_line(lines: &Lines, trips: &[u32]) -> bool {
+    for line in 0..lines.count() {
+        if line < 20 && lines.trips_of(line as u32) == trips {
+            return true;
+        }
+    }
+    false
+}
+
+// Whether some line has just these departures, place by place, and these arrivals, trip by trip.
+fn has_times(network: &Network, departures: &[u32], arrivals: &[u32]) -> bool {
+    let lines = network.lines();
+    for line in 0..lines.count() {
+        if line < 20
+            && lines.departures_of(line as u32) == departures
+            && lines.arrivals_of(line as u32) == arrivals
+        {
+            return true;
+        }
+    }
+    false
+}
+
+// Whether some line has just these places.
+fn has_calls(network: &Network, calls: &[Call]) -> bool {
+    let lines = network.lines();
+    for line in 0..lines.count() {
+        if line < 20 && lines.calls_of(line as u32) == calls {
+            return true;
+        }
+    }
+    false
+}
+
+#[test]
+fn trips_that_overtake_or_stop_elsewhere_have_lines_of_their_own(rt: HostRuntime) {
+    let network = network_of_overtaking(rt.alloc()).expect(&rt, "a network");
+    let lines = network.lines();
+    assert_eq!(rt; lines.count(), 3);
+    assert!(rt; has_line(lines, &[0, 3]));
+    assert!(rt; has_line(lines, &[1]));
+    assert!(rt; has_line(lines, &[2]));
+}
+
+#[test]
+fn equal_times_share_a_line_and_other_flags_and_loops_do_not(rt: HostRuntime) {
+    let network = network_of_alike(rt.alloc()).expect(&rt, "a network");
+    let lines = network.lines();
+    assert_eq!(rt; lines.count(), 4);
+    assert!(rt; has_line(lines, &[0, 1]));
+    assert!(rt; has_line(lines, &[2]));
+    assert!(rt; has_line(lines, &[3]));
+    assert!(rt; has_line(lines, &[4]));
+}
+
+#[test]
+fn each_of_ten_trips_that_overtake_has_a_line(rt: HostRuntime) {
+    let network = network_of_ten(rt.alloc()).expect(&rt, "a network");
+    let lines = network.lines();
+    assert_eq!(rt; lines.count(), 10);
+    assert!(rt; has_line(lines, &[0]));
+    assert!(rt; has_line(lines, &[9]));
+}
+
+#[test]
+fn lines_are_listed_where_they_can_be_boarded(rt: HostRuntime) {
+    let network = network_of_overtaking(rt.alloc()).expect(&rt, "a network");
+    let lines = network.lines();
+    assert_eq!(rt; lines.boarded_at(StopNo(0)).len(), 3);
+    assert_eq!(rt; lines.boarded_at(StopNo(1)).len(), 2);
+    assert_eq!(rt; lines.boarded_at(StopNo(2)).len(), 1);
+}
+
+#[test]
+fn the_trips_that_serve_a_stop_ascend(rt: HostRuntime) {
+    let network = network_of_overtaking(rt.alloc()).expect(&rt, "a network");
+    assert!(rt; network.serving(StopNo(0)) == [0, 1, 2, 3].as_slice());
+    assert!(rt; network.serving(StopNo(1)) == [0, 1, 3].as_slice());
+    assert!(rt; network.serving(StopNo(2)) == [0, 1, 2, 3].as_slice());
+}
+
+#[test]
+fn a_trip_that_loops_serves_its_stop_once(rt: HostRuntime) {
+    let network = network_of_alike(rt.alloc()).expect(&rt, "a network");
+    assert!(rt; network.serving(StopNo(0)) == [0, 1, 2, 4].as_slice());
+    assert!(rt; network.serving(StopNo(2)) == [].as_slice());
+}
+
+#[test]
+fn departures_lie_place_by_place_and_arrivals_trip_by_trip(rt: HostRuntime) {
+    let network = network_of_overtaking(rt.alloc()).expect(&rt, "a network");
+    assert!(rt;
+        has_times(
+            &network,
+            &[100, 130, 210, 240, 300, 330],
+            &[100, 200, 300, 130, 230, 330]
+        )
+    );
+}
+
+#[test]
+fn calls_tell_where_one_may_board_and_alight(rt: HostRuntime) {
+    let network = network_of_alike(rt.alloc()).expect(&rt, "a network");
+    assert!(rt;
+        has_calls(
+            &network,
+            &[
+                Call {
+                    stop: StopNo(0),
+                    board: true,
+                    alight: false
+                },
+                Call {
+                    stop: StopNo(1),
+                    board: true,
+                    alight: true
+                },
+            ]
+        )
+    );
+}

@@ -1,0 +1,5 @@
+use Rattle.rounds.proofs.Leaving.{earlier_serve}
+use Rattle.rounds.proofs.laws.earlier_trips_serve.Goals as goal
+
+pub returns : goal.returns
+returns c = earlier_serve

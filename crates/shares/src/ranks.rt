@@ -1,0 +1,92 @@
+//! The cells of several shares: the minutes of a stop are put in order once, and each share looks up its rank.
+ghost use Rattle.std.specs.Prelude.{◌≡◌, ◌<◌, ◌≤◌, ◌+◌, ℕ, All, length, slice_index, IfOk, OnOk};
+ghost use Rattle.rounds.specs.Table.{known_of, at, IsLeastOrNone};
+ghost use Rattle.rounds.specs.declared.window.TheConstants.{MOST_MINUTES};
+ghost use Rattle.shares.specs.Percentiles.{minutes_within, Attains, AreCellsOf};
+ghost use Rattle.shares.specs.Ranks.{AreInOrder, AreEmpty, AreLonger};
+
+use rounds::Durations;
+use std::alloc::{AllocError, Global};
+use timetable::{NEVER, StopNo};
+
+/// The cells of all stops for each of some shares, in the shares' order: one list per share, with one cell per stop.
+///
+/// Each stop's durations are read once, whatever the number of shares. Want of memory is the only refusal.
+pub fn cells_of(
+    alloc: Global,
+    durations: &Durations,
+    shares: &[u32],
+) -> Result<Vec<Vec<Option<u32>>>, AllocError>
+    requires { All (λ share. share ≤ 100) shares.now }
+    ensures { IfOk result (λ lists. AreCellsOf durations.now shares.now lists.items) }
+{
+    durations.known();
+    let mut lists = empty_lists(alloc, shares.len(), durations.stops() as usize)?;
+    let mut minutes = vec![in alloc; NEVER; durations.minutes() as usize]?;
+    for stop in 0..durations.stops() {
+        read_minutes(durations, StopNo(stop), &mut minutes);
+        push_cells(&mut lists, &minutes, shares)?;
+    }
+    Ok(lists)
+}
+
+/// So many lists without cells, with room for one cell per stop.
+fn empty_lists(
+    alloc: Global,
+    count: usize,
+    stops: usize,
+) -> Result<Vec<Vec<Option<u32>>>, AllocError>
+    ensures { IfOk result (λ lists. AreEmpty count lists.items) }
+{
+    let mut lists = Vec::with_capacity(alloc, count)?;
+    for _ in 0..count {
+        lists.push(Vec::with_capacity(alloc, stops)?)?;
+    }
+    Ok(lists)
+}
+
+/// The minutes of a stop, least duration first and `NEVER` for none last.
+fn read_minutes(durations: &Durations, stop: StopNo, minutes: &mut [u32])
+    requires stop { stop.0 < durations.now.stops }
+    requires room { length minutes.old ≡ durations.now.minutes }
+    ensures same { length minutes.new ≡ length minutes.old }
+    ensures order { AreInOrder minutes.new }
+    ensures counts { (d : ℕ) → minutes_within (λ m. known_of (slice_index minutes.new m)) d durations.now.minutes
+        ≡ minutes_within (λ m. at durations.now stop.0 m) d durations.now.minutes }
+{
+    minutes.copy_from_slice(durations.labels_of(stop));
+    minutes.sort_unstable();
+}
+
+/// Puts a stop's cell last in the list of each share.
+fn push_cells(
+    lists: &mut [Vec<Option<u32>>],
+    minutes: &[u32],
+    shares: &[u32],
+) -> Result<(), AllocError>
+    requires count { length lists.old ≡ length shares.now }
+    requires shares { All (λ share. share ≤ 100) shares.now }
+    requires few { length minutes.now ≤ MOST_MINUTES }
+    requires order { AreInOrder minutes.now }
+    ensures { OnOk result (AreLonger minutes.now shares.now lists.old lists.new) }
+{
+    for k in 0..shares.len() {
+        lists[k].push(at_rank(minutes, shares[k]))?;
+    }
+    Ok(())
+}
+
+/// The least duration that the share of these minutes attains: that of the minute whose rank is the share's.
+fn at_rank(minutes: &[u32], share: u32) -> Option<u32>
+    requires few { length minutes.now ≤ MOST_MINUTES }
+    requires share { share ≤ 100 }
+    requires order { AreInOrder minutes.now }
+    ensures { IsLeastOrNone (Attains (λ m. known_of (slice_index minutes.now m)) (length minutes.now) share) result }
+{
+    let rank = (share as usize * minutes.len() + 99) / 100;
+    if rank == 0 {
+        return Some(0);
+    }
+    let label = minutes[rank - 1];
+    if label < NEVER { Some(label) } else { None }
+}

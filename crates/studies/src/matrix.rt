@@ -1,0 +1,35 @@
+//! The matrix of a study, by workers over a new board.
+ghost use Rattle.std.specs.Prelude.{IfErr, IfOk};
+ghost use Rattle.workers.specs.Matrices.{HasShape, IsMatrix};
+ghost use Rattle.workers.specs.Study.{StudyFits, study_of};
+ghost use Rattle.studies.specs.Settings.{SettingsFit};
+ghost use Rattle.studies.specs.Stages.{TellsRun};
+
+use crate::settings::Settings;
+use collector::Matrix;
+use std::alloc::Global;
+use std::sync::Wait;
+use std::thread::Threads;
+use work_book::Board;
+use workers::{Gate, RunFault, Study, run_workers};
+
+/// The matrix of a study, by as many workers as the settings say, who begin each row as often as they say at most.
+pub(crate) fn matrix_of<G: Gate + Sync, R: Threads + Wait + Sync>(
+    rt: &R,
+    alloc: Global,
+    study: &Study<'_>,
+    settings: &Settings,
+    gate: &G,
+) -> Result<Matrix, RunFault>
+    requires study { StudyFits (study_of study.now) }
+    requires settings { SettingsFit settings.now }
+    ensures matrix { IfOk result (λ matrix. IsMatrix (study_of study.now) matrix) }
+    ensures shape { IfOk result (λ matrix. HasShape (study_of study.now) matrix) }
+    ensures fault { IfErr result (λ fault. TellsRun fault (study_of study.now)) }
+{
+    let jobs = study.networks.len() as u32 * study.origins.len() as u32;
+    let Ok((board, mut seat)) = Board::new(alloc, jobs, settings.tries) else {
+        return Err(RunFault::Memory);
+    };
+    run_workers(rt, alloc, study, &board, &mut seat, settings.workers, gate)
+}

@@ -1,0 +1,12 @@
+pub mod Carrying
+pub mod Walking
+pub mod Select
+pub mod Lower
+pub mod Carry
+pub mod Again
+pub mod LaneWalk
+pub mod Marked
+pub mod Falling
+pub mod Choosing
+pub mod Riding
+pub mod Lining

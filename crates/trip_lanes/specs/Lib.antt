@@ -1,0 +1,6 @@
+pub mod Lane
+pub mod Scan
+pub mod Rows
+pub mod Riders
+pub mod Walks
+pub mod Falls

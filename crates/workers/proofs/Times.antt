@@ -1,0 +1,69 @@
+-- How often a job stands in a list.
+use Rattle.std.proofs.Common.{◌≡◌, ◌==◌, ℕ, ◌+◌, ◌<◌, ◌≤◌, List, [], ◌∷◌, ◌++◌, ◌⊎◌, inl, inr, true, refl, ap, arith, if◌then◌else◌}
+use Rattle.std.specs.List.{All}
+use Rattle.std.proofs.lemmas.List.Elements.{All-head, All-tail}
+use Rattle.std.proofs.lemmas.List.Sums.{sum_by-cons, sum_by-append}
+use Rattle.std.proofs.Math.Decide.{dec_lt}
+use Rattle.std.proofs.lemmas.Bool.Decides.{nat_tests}
+use Rattle.workers.specs.Held.{times}
+
+-- 1 where two jobs are the same
+abbrev pub same : ℕ → ℕ → ℕ
+same x job = if x == job then 1 else 0
+
+pub times_append : (job : ℕ) (xs ys : List ℕ) → times job (xs ++ ys) ≡ times job xs + times job ys
+times_append job xs ys = sum_by-append (λ y. if y == job then 1 else 0) xs ys
+
+pub times_cons : (job x : ℕ) (xs : List ℕ) → times job (x ∷ xs) ≡ same x job + times job xs
+times_cons job x xs = sum_by-cons (λ y. if y == job then 1 else 0) x xs
+
+pub same_self : (job : ℕ) → same job job ≡ 1
+same_self job = grind (arith, nat_tests)
+
+pub same_true : (x job : ℕ) → (x == job) ≡ true → x ≡ job
+same_true x job h = grind (arith, nat_tests)
+
+pub is_same : (x job : ℕ) → x ≡ job → (x == job) ≡ true
+is_same x job h = grind (arith, nat_tests)
+
+pub times_self : (job : ℕ) → times job (job ∷ []) ≡ 1
+times_self job = let a = times_cons job job [] in let b = same_self job in omega arith
+
+same_some : (x job : ℕ) → 0 < same x job → x ≡ job
+same_some x job h = grind (arith, nat_tests)
+
+-- the only job of a list
+pub times_one : (job x : ℕ) → 0 < times job (x ∷ []) → x ≡ job
+times_one job x h = let a = times_cons job x [] in same_some x job (omega arith)
+
+pub some_in : (job : ℕ) (xs ys : List ℕ) → 0 < times job (xs ++ ys) → (0 < times job xs) ⊎ (0 < times job ys)
+some_in job xs ys h = let e = times_append job xs ys in go (dec_lt 0 (times job xs)) e
+  where
+    go : Dec (0 < times job xs) → times job (xs ++ ys) ≡ times job xs + times job ys → (0 < times job xs) ⊎ (0 < times job ys)
+    go (yes p) e = inl p
+    go (no p) e = inr (omega arith)
+
+pub times_more : (job : ℕ) (xs ys : List ℕ) → 0 < times job xs → 0 < times job (xs ++ ys)
+times_more job xs ys h = let a = times_append job xs ys in omega arith
+
+pub times_last : (job : ℕ) (xs ys : List ℕ) → 0 < times job ys → 0 < times job (xs ++ ys)
+times_last job xs ys h = let a = times_append job xs ys in omega arith
+
+pub last_in : (job : ℕ) (xs now : List ℕ) → now ≡ xs ++ job ∷ [] → 0 < times job now
+last_in job xs now e = let a = ap (times job) e in let b = times_append job xs (job ∷ []) in let c = times_self job in omega arith
+
+-- one more than the last number of a list, and 0 where there is none
+abbrev pub past_last : List ℕ → ℕ
+past_last [] = 0
+past_last (x ∷ []) = x + 1
+past_last (x ∷ y ∷ ys) = past_last (y ∷ ys)
+
+pub past_last_push : (xs : List ℕ) (n : ℕ) → past_last (xs ++ n ∷ []) ≡ n + 1
+past_last_push [] n = refl
+past_last_push (x ∷ []) n = refl
+past_last_push (x ∷ y ∷ ys) n = past_last_push (y ∷ ys) n
+
+pub past_last_le : (xs : List ℕ) (n : ℕ) → All (λ x. x < n) xs → past_last xs ≤ n
+past_last_le [] n h = omega arith
+past_last_le (x ∷ []) n h = let a : x < n = All-head (λ x. x < n) x [] h in omega arith
+past_last_le (x ∷ y ∷ ys) n h = past_last_le (y ∷ ys) n (All-tail (λ x. x < n) x (y ∷ ys) h)

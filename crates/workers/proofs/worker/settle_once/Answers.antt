@@ -1,0 +1,12 @@
+use Rattle.std.proofs.Common.{ap, rules}
+use Rattle.work_book.specs.Board.{seen_by}
+use Rattle.work_book.specs.declared.rule.View.{View}
+use Rattle.workers.specs.Study.{study_of}
+use Rattle.workers.proofs.Holds.{holds_new}
+use Rattle.workers.proofs.worker.settle_once.Goals as goal
+
+pub returns-in-Kept-clause-rows : goal.returns-in-Kept-clause-rows
+returns-in-Kept-clause-rows g c =
+    holds_new (study_of c.args.study.now) c.args.rows.now.items c.push_reserved.new.self.items (seen_by c.args.seat.now).kept (seen_by c.settle-settled.new.seat).kept c.args.lease.job c.in_ok-row.row c.requires.rows c.in_ok-row.ensures
+    (search rules)
+    (ap (λ (v : View). v.kept) c.in-Kept.ensures.settled.0)

@@ -1,0 +1,31 @@
+use Rattle.std.proofs.Common.{◌≡◌, ap, rules, ◌∙◌, ◌∷◌, [], ◌++◌}
+use Rattle.work_book.specs.Board.{seen_by}
+use Rattle.work_book.specs.declared.rule.View.{View}
+use Rattle.work_book.specs.declared.lease.Settled.TheVariants.{Kept, Double}
+use Rattle.workers.specs.Study.{study_of}
+use Rattle.workers.proofs.Times.{last_in}
+use Rattle.workers.proofs.Holds.{holds_new, holds_again, holds_same, settles_known, known_after}
+use Rattle.workers.proofs.worker.settle_twice.Goals as goal
+
+pub returns-in-Kept-clause-rows : goal.returns-in-Kept-clause-rows
+returns-in-Kept-clause-rows g c =
+    let v = seen_by c.args.seat.now in
+    let w = seen_by c.settle-first.new.seat in
+    let x = seen_by c.settle-second.new.seat in
+    let job = c.args.lease.job in
+    let s = study_of c.args.study.now in
+    let once : w.kept ≡ v.kept ++ job ∷ [] = ap (λ (z : View). z.kept) c.in-Kept.ensures.settled.0 in
+    let twice : x.kept ≡ w.kept = settles_known w x job c.settle-second.result c.settle-second.ensures.settled (known_after v w job Kept c.in-Kept.ensures.settled) in
+    let now : x.kept ≡ v.kept ++ job ∷ [] = twice ∙ once in
+    let one = holds_new s c.args.rows.now.items c.push_reserved.new.self.items v.kept x.kept job c.in_ok-row.row c.requires.rows c.in_ok-row.ensures (search rules) now in
+    holds_again s c.push_reserved.new.self.items c.push_reserved-in-Kept.new.self.items x.kept job c.in_ok-again.again one c.in_ok-again.ensures (last_in job v.kept x.kept now) (search rules)
+
+pub returns-in-Double-clause-rows : goal.returns-in-Double-clause-rows
+returns-in-Double-clause-rows g c =
+    let v = seen_by c.args.seat.now in
+    let w = seen_by c.settle-first.new.seat in
+    let x = seen_by c.settle-second.new.seat in
+    let job = c.args.lease.job in
+    let once : w.kept ≡ v.kept = ap (λ (z : View). z.kept) c.in-Double.ensures.settled in
+    let twice : x.kept ≡ w.kept = settles_known w x job c.settle-second.result c.settle-second.ensures.settled (known_after v w job Double c.in-Double.ensures.settled) in
+    holds_same (study_of c.args.study.now) c.args.rows.now.items c.reserve.new.self.items v.kept x.kept c.requires.rows (search rules) (twice ∙ once)

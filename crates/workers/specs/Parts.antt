@@ -1,0 +1,15 @@
+-- A study in parts, as its threads have it.
+use Rattle.std.specs.Prelude.{ℕ, List}
+use Rattle.timetable.specs.declared.trips.StopNo.{StopNo}
+use Rattle.timetable.specs.Networks.{Net}
+use Rattle.workers.specs.Study.{StudyData}
+use Rattle.workers.specs.declared.promise.Terms.{Terms}
+
+abbrev pub study_by : Terms → List Net → List StopNo → List ℕ → StudyData
+study_by t networks origins opportunities = record {
+  number = t.number;
+  networks = networks;
+  origins = origins;
+  opportunities = opportunities;
+  query = record { window = t.window; rides = t.rides; share = t.share; within = t.within };
+}

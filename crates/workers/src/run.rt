@@ -1,0 +1,143 @@
+//! A run of workers over a board, from the first seat to the matrix.
+ghost use Rattle.std.specs.Prelude.{◌≡◌, ◌<◌, [], true, All, IfOk, IfErr, vec_len};
+ghost use Rattle.work_book.specs.Board.{seen_by, IsOf};
+ghost use Rattle.work_book.specs.Moves.{IsOnce};
+ghost use Rattle.collector.specs.Offers.{IsFinished};
+ghost use Rattle.collector.specs.Run.{offered};
+ghost use Rattle.workers.specs.Study.{StudyData, study_of, StudyFits};
+ghost use Rattle.workers.specs.Matrices.{IsMatrix, HasShape};
+ghost use Rattle.workers.specs.Jobs.{jobs_of};
+ghost use Rattle.workers.specs.Threads.{AreReady, AreWorked};
+ghost use Rattle.workers.specs.Filling.{AreFilledAs};
+ghost use Rattle.workers.specs.Outcomes.{KeptEachJob, IsFaultOf, IsFaultOfPlaces};
+
+use crate::faults::RunFault;
+use crate::gates::Gate;
+use crate::jobs::empty_places;
+use crate::study::Study;
+use crate::threads::run_all;
+use crate::worker::Worked;
+use collector::{Collector, Matrix, Row};
+use std::alloc::{AllocError, Global};
+use std::sync::Wait;
+use std::thread::Threads;
+use work_book::{Board, WorkSeat};
+
+/// The matrix of a study that fits, computed by workers in threads of their own that share a board.
+///
+/// The board has one job for each scenario and origin, and the seat is its first, or one that drew and kept nothing and
+/// has a share above the number of workers. The gate decides what becomes of each lease. The matrix is the study's,
+/// whatever the gate decides and whatever the threads' order is; then the seat has kept each job, once.
+///
+/// `Spawn` is told where no worker could be started, and a place is empty; `Memory`, where memory is wanted before the
+/// start, or by a worker, and a place is empty; else `Unfinished` names the first empty place. A worker whose start is
+/// refused is left out, and the others go on.
+pub fn run_workers<G: Gate + Sync, R: Threads + Wait + Sync>(
+    rt: &R,
+    alloc: Global,
+    study: &Study,
+    board: &Board,
+    seat: &mut WorkSeat,
+    workers: u32,
+    gate: &G,
+) -> Result<Matrix, RunFault>
+    requires fits { StudyFits (study_of study.now) }
+    requires jobs { board.now.jobs ≡ jobs_of (study_of study.now) }
+    requires board { IsOf board.now seat.old }
+    requires empty { ((seen_by seat.old).drawn ≡ []) × ((seen_by seat.old).kept ≡ []) }
+    requires share { workers < (seen_by seat.old).share }
+    ensures board { IsOf board.now seat.new }
+    ensures matrix { IfOk result (λ matrix. IsMatrix (study_of study.now) matrix) }
+    ensures shape { IfOk result (λ matrix. HasShape (study_of study.now) matrix) }
+    ensures kept { IfOk result (λ _. KeptEachJob (study_of study.now) (seen_by seat.new)) }
+    ensures fault { IfErr result (λ fault. IsFaultOf (study_of study.now) (seen_by seat.new) fault) }
+{
+    let Ok(mut collector) = empty_places(alloc, study) else {
+        return Err(RunFault::Memory);
+    };
+    let Ok(seats) = split_all(alloc, board, seat, workers as usize) else {
+        return Err(RunFault::Memory);
+    };
+    let Ok(worked) = run_all(rt, alloc, study, board, seats, gate) else {
+        return Err(RunFault::Memory);
+    };
+    let started = !worked.is_empty();
+    let short = gather(board, seat, &mut collector, worked);
+    matrix_of(collector, short, started)
+}
+
+/// A seat for each worker.
+fn split_all(
+    alloc: Global,
+    board: &Board,
+    seat: &mut WorkSeat,
+    workers: usize,
+) -> Result<Vec<WorkSeat>, AllocError>
+    requires board { IsOf board.now seat.old }
+    requires share { workers < (seen_by seat.old).share }
+    ensures board { IsOf board.now seat.new }
+    ensures lists { ((seen_by seat.new).drawn ≡ (seen_by seat.old).drawn) × ((seen_by seat.new).kept ≡ (seen_by seat.old).kept) }
+    ensures ready { IfOk result (λ seats. AreReady board.now seats.items) }
+    ensures count { IfOk result (λ seats. vec_len seats ≡ workers) }
+{
+    let mut seats = Vec::with_capacity(alloc, workers)?;
+    for _ in 0..workers {
+        seats.push_reserved(board.split(seat));
+    }
+    Ok(seats)
+}
+
+/// Takes in the workers' seats, and offers each of their rows once. True where a worker found no memory.
+fn gather(
+    board: &Board,
+    seat: &mut WorkSeat,
+    collector: &mut Collector,
+    worked: Vec<Worked>,
+) -> bool
+    requires board { IsOf board.now seat.old }
+    requires worked { All (λ w. IsOf board.now w.seat) worked.items }
+    requires once { IsOnce (seen_by seat.old) }
+    ensures board { IsOf board.now seat.new }
+    ensures once { IsOnce (seen_by seat.new) }
+    ensures none { worked.items ≡ [] → seen_by seat.new ≡ seen_by seat.old }
+    ensures filled { (s : StudyData) → StudyFits s → AreWorked board.now s worked.items →
+        AreFilledAs s (seen_by seat.old).kept collector.old → AreFilledAs s (seen_by seat.new).kept collector.new }
+{
+    let mut short = false;
+    for done in worked {
+        let Worked {
+            seat: theirs,
+            rows,
+            short: found_none,
+        } = done;
+        board.join(seat, theirs);
+        offer_all(collector, rows);
+        short |= found_none;
+    }
+    short
+}
+
+/// Offers each row once.
+fn offer_all(collector: &mut Collector, rows: Vec<Row>)
+    ensures { collector.new ≡ offered collector.old rows.items }
+{
+    for row in rows {
+        collector.offer(row);
+    }
+}
+
+/// The matrix of places that all have their rows, or why there is none.
+fn matrix_of(collector: Collector, short: bool, started: bool) -> Result<Matrix, RunFault>
+    ensures full { IfOk result (λ matrix. IsFinished collector matrix) }
+    ensures fault { IfErr result (λ fault. IsFaultOfPlaces collector short started fault) }
+{
+    match collector.finish() {
+        Ok(matrix) => Ok(matrix),
+        Err(_) if short => Err(RunFault::Memory),
+        Err(_) if !started => Err(RunFault::Spawn),
+        Err(unfinished) => Err(RunFault::Unfinished {
+            scenario: unfinished.scenario,
+            origin: unfinished.origin,
+        }),
+    }
+}

@@ -1,0 +1,141 @@
+//! Workers in threads: started together, and joined.
+ghost use Rattle.std.specs.Prelude.{◌≡◌, ◌+◌, ◌≤◌, [], IfOk, vec_len, vec_capacity};
+ghost use Rattle.workers.specs.Study.{study_of};
+ghost use Rattle.workers.specs.Held.{WorkedFor};
+ghost use Rattle.workers.specs.Parts.{study_by};
+ghost use Rattle.workers.specs.Threads.{AreOfOneStudy, IsReady, AreReady, AreWorked, ArePromised};
+
+use crate::gates::Gate;
+use crate::promise::{Promised, Terms};
+use crate::study::Study;
+use crate::worker::{Worked, work};
+use std::alloc::{AllocError, Global};
+use std::sync::Wait;
+use std::thread;
+use std::thread::{PromisedHandle, Threads};
+use timetable::{Network, StopNo};
+use work_book::{Board, WorkSeat};
+
+/// Runs a worker with each seat, all of them at once. One whose start is refused is left out, and its seat let go.
+pub(crate) fn run_all<G: Gate + Sync, R: Threads + Wait + Sync>(
+    rt: &R,
+    alloc: Global,
+    study: &Study,
+    board: &Board,
+    seats: Vec<WorkSeat>,
+    gate: &G,
+) -> Result<Vec<Worked>, AllocError>
+    requires study { AreOfOneStudy board.now (study_of study.now) }
+    requires seats { AreReady board.now seats.items }
+    ensures { IfOk result (λ all. AreWorked board.now (study_of study.now) all.items) }
+{
+    let Study {
+        number,
+        networks,
+        origins,
+        opportunities,
+        window,
+        rides,
+        share,
+        within,
+    } = *study;
+    let terms = Terms {
+        number,
+        window,
+        rides,
+        share,
+        within,
+    };
+    thread::scope(
+        thread::scope_env(),
+        rt,
+        move |scope| -> Result<Vec<Worked>, AllocError>
+            requires { AreOfOneStudy board.now (study_by terms networks.now origins.now opportunities.now) × AreReady board.now seats.items }
+            ensures { IfOk result (λ all.
+                AreWorked board.entry.now (study_by terms networks.entry.now origins.entry.now opportunities.entry.now) all.items) }
+        {
+            let done = Vec::with_capacity(alloc, seats.len())?;
+            let mut handles = Vec::with_capacity(alloc, seats.len())?;
+            let promised = Promised {
+                terms,
+                networks,
+                origins,
+                opportunities,
+                board,
+            };
+            for seat in seats {
+                match scope.spawn_with(
+                    promised,
+                    move || -> Worked
+                        requires { AreOfOneStudy board.now (study_by terms networks.now origins.now opportunities.now)
+                            × IsReady board.now seat }
+                        ensures { WorkedFor board.entry.now (study_by terms networks.entry.now origins.entry.now opportunities.entry.now) result }
+                    {
+                        work_in_parts(
+                            alloc,
+                            terms,
+                            networks,
+                            origins,
+                            opportunities,
+                            board,
+                            seat,
+                            gate,
+                        )
+                    },
+                ) {
+                    Ok(handle) => handles.push_reserved(handle),
+                    Err(refused) => drop(refused),
+                }
+            }
+            Ok(join_all(rt, promised, handles, done))
+        },
+    )
+}
+
+/// What a worker does, by the parts of its study.
+fn work_in_parts<G: Gate>(
+    alloc: Global,
+    terms: Terms,
+    networks: &[Network],
+    origins: &[StopNo],
+    opportunities: &[u32],
+    board: &Board,
+    seat: WorkSeat,
+    gate: &G,
+) -> Worked
+    requires study { AreOfOneStudy board.now (study_by terms networks.now origins.now opportunities.now) }
+    requires seat { IsReady board.now seat }
+    ensures { WorkedFor board.now (study_by terms networks.now origins.now opportunities.now) result }
+{
+    let study = Study {
+        number: terms.number,
+        networks,
+        origins,
+        opportunities,
+        window: terms.window,
+        rides: terms.rides,
+        share: terms.share,
+        within: terms.within,
+    };
+    work(alloc, &study, board, seat, gate)
+}
+
+/// Joins each worker.
+fn join_all<'a, 'b, R: Threads>(
+    rt: &R,
+    promised: Promised<'a, 'b>,
+    handles: Vec<PromisedHandle<Worked, Promised<'a, 'b>>>,
+    mut done: Vec<Worked>,
+) -> Vec<Worked>
+    requires room { vec_len done + vec_len handles ≤ vec_capacity done }
+    requires none { done.items ≡ [] }
+    requires promised { ArePromised promised.board.now (study_by promised.terms promised.networks.now promised.origins.now promised.opportunities.now) handles.items }
+    ensures worked { AreWorked promised.entry.board.now
+        (study_by promised.entry.terms promised.entry.networks.now promised.entry.origins.now promised.entry.opportunities.now) result.items }
+    ensures len { vec_len result ≡ vec_len handles.entry }
+{
+    for handle in handles {
+        done.push_reserved(handle.join(rt));
+    }
+    done
+}
