@@ -114,6 +114,16 @@ fn network_of_ten(alloc: Global) -> Result<Network, AllocError>
     network(alloc, trips)
 }
 
+// A trip from stop 0 to stop 1, and one from there to stop 2.
+fn network_with_a_change(alloc: Global) -> Result<Network, AllocError>
+    ensures { IfOk result (λ n. n.stops ≡ 3) }
+{
+    let mut trips = Vec::new(alloc);
+    trips.push(trip(alloc, &[at(0, 28800, 28800), at(1, 29400, 29400)])?)?;
+    trips.push(trip(alloc, &[at(1, 29700, 29700), at(2, 30600, 30600)])?)?;
+    network(alloc, trips)
+}
+
 // Whether some line has just these trips.
 fn has_line(lines: &Lines, trips: &[u32]) -> bool {
     for line in 0..lines.count() {
@@ -194,6 +204,14 @@ fn the_trips_that_serve_a_stop_ascend(rt: HostRuntime) {
     assert!(rt; network.serving(StopNo(0)) == [0, 1, 2, 3].as_slice());
     assert!(rt; network.serving(StopNo(1)) == [0, 1, 3].as_slice());
     assert!(rt; network.serving(StopNo(2)) == [0, 1, 2, 3].as_slice());
+}
+
+#[test]
+fn both_trips_serve_the_stop_of_the_change(rt: HostRuntime) {
+    let network = network_with_a_change(rt.alloc()).expect(&rt, "a network");
+    assert!(rt; network.serving(StopNo(0)) == [0].as_slice());
+    assert!(rt; network.serving(StopNo(1)) == [0, 1].as_slice());
+    assert!(rt; network.serving(StopNo(2)) == [1].as_slice());
 }
 
 #[test]

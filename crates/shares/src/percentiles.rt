@@ -1,5 +1,5 @@
 //! Cells: the least duration that a share of a window's minutes attains.
-ghost use Rattle.std.specs.Prelude.{◌≡◌, ◌<◌, ◌≤◌, ◌*◌, ℕ, length, slice_index, IfOk, IsTrue, ◌↔◌};
+ghost use Rattle.std.specs.Prelude.{◌≡◌, ◌<◌, ◌≤◌, ◌*◌, ℕ, Some, length, slice_index, IfOk, IsTrue, ◌↔◌};
 ghost use Rattle.rounds.specs.Table.{known_of, IsLeastOrNone};
 ghost use Rattle.rounds.specs.declared.window.TheConstants.{MOST_MINUTES};
 ghost use Rattle.shares.specs.Percentiles.{minutes_within, Attains, IsCell, AreCells};
@@ -35,15 +35,18 @@ pub fn cells(
     Ok(cells)
 }
 
-/// The least duration that the share of these minutes attains, by halving the range in which it lies.
+/// The least duration that the share of these minutes attains, by halving the range in which it lies, which ends with the
+/// greatest of them.
 fn least_attained(labels: &[u32], share: u32) -> Option<u32>
     requires few { length labels.now ≤ MOST_MINUTES }
     requires share { share ≤ 100 }
     ensures { IsLeastOrNone (Attains (λ m. known_of (slice_index labels.now m)) (length labels.now) share) result }
 {
-    in_range(labels);
     let mut low = 0;
-    let mut high = NEVER;
+    let mut high = greatest(labels);
+    if !attains(labels, share, high) {
+        return None;
+    }
     while low < high {
         let middle = low + (high - low) / 2;
         if attains(labels, share, middle) {
@@ -52,7 +55,21 @@ fn least_attained(labels: &[u32], share: u32) -> Option<u32>
             low = middle + 1;
         }
     }
-    if low < NEVER { Some(low) } else { None }
+    Some(low)
+}
+
+/// The greatest duration of these minutes; 0 where none has one.
+fn greatest(labels: &[u32]) -> u32
+    ensures below { result < NEVER }
+    ensures greatest { (m d : ℕ) → m < length labels.now → known_of (slice_index labels.now m) ≡ Some d → d ≤ result }
+{
+    let mut greatest = 0;
+    for label in labels {
+        if *label != NEVER && greatest < *label {
+            greatest = *label;
+        }
+    }
+    greatest
 }
 
 /// Whether the share of these minutes attains a duration.
@@ -79,11 +96,4 @@ fn count_within(labels: &[u32], duration: u32) -> u32
         }
     }
     minutes
-}
-
-/// What is true of all labels, for the proofs.
-fn in_range(labels: &[u32])
-    ensures { (m : ℕ) → slice_index labels.now m ≤ 4294967295 }
-{
-    let _ = labels.len();
 }

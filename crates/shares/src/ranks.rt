@@ -1,10 +1,12 @@
-//! The cells of several shares: the minutes of a stop are put in order once, and each share looks up its rank.
-ghost use Rattle.std.specs.Prelude.{◌≡◌, ◌<◌, ◌≤◌, ◌+◌, ℕ, All, length, slice_index, IfOk, OnOk};
+//! The cells of several shares: the minutes of a stop are put in order once, and each share looks up its rank. A single share
+//! is quicker by halving.
+ghost use Rattle.std.specs.Prelude.{◌≡◌, ◌<◌, ◌≤◌, ◌+◌, ◌∷◌, [], ℕ, All, length, slice_index, IfOk, OnOk};
 ghost use Rattle.rounds.specs.Table.{known_of, at, IsLeastOrNone};
 ghost use Rattle.rounds.specs.declared.window.TheConstants.{MOST_MINUTES};
 ghost use Rattle.shares.specs.Percentiles.{minutes_within, Attains, AreCellsOf};
 ghost use Rattle.shares.specs.Ranks.{AreInOrder, AreEmpty, AreLonger};
 
+use crate::percentiles::cells;
 use rounds::Durations;
 use std::alloc::{AllocError, Global};
 use timetable::{NEVER, StopNo};
@@ -13,6 +15,35 @@ use timetable::{NEVER, StopNo};
 ///
 /// Each stop's durations are read once, whatever the number of shares. Want of memory is the only refusal.
 pub fn cells_of(
+    alloc: Global,
+    durations: &Durations,
+    shares: &[u32],
+) -> Result<Vec<Vec<Option<u32>>>, AllocError>
+    requires { All (λ share. share ≤ 100) shares.now }
+    ensures { IfOk result (λ lists. AreCellsOf durations.now shares.now lists.items) }
+{
+    match shares {
+        [share] => cells_of_one(alloc, durations, *share),
+        _ => cells_of_many(alloc, durations, shares),
+    }
+}
+
+/// The cells of a single share, for which the minutes needn't be put in order.
+fn cells_of_one(
+    alloc: Global,
+    durations: &Durations,
+    share: u32,
+) -> Result<Vec<Vec<Option<u32>>>, AllocError>
+    requires { share ≤ 100 }
+    ensures { IfOk result (λ lists. AreCellsOf durations.now (share ∷ []) lists.items) }
+{
+    let mut lists = Vec::with_capacity(alloc, 1)?;
+    lists.push(cells(alloc, durations, share)?)?;
+    Ok(lists)
+}
+
+/// The cells of several shares: the minutes of a stop are put in order once, for all of them.
+fn cells_of_many(
     alloc: Global,
     durations: &Durations,
     shares: &[u32],

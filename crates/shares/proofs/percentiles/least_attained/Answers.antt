@@ -2,7 +2,7 @@ use Rattle.std.proofs.Common.{◌≡◌, ◌≤◌, ◌+◌, ◌-◌, ◌/◌, �
 use Rattle.std.proofs.lemmas.Bool.{cases_lt}
 use Rattle.shares.specs.Percentiles.{Attains}
 use Rattle.rounds.specs.Table.{known_of}
-use Rattle.shares.proofs.Attaining.{attains_more, attains_top, known_below}
+use Rattle.shares.proofs.Attaining.{attains_more, attains_top}
 use Rattle.shares.proofs.percentiles.least_attained.Goals as goal
 
 pub loop-low-preserved : goal.loop-low-preserved
@@ -19,21 +19,21 @@ loop-low-preserved c = record {
   above = c.loop-low.invariant.above;
 }
 
-pub returns-then-low-lt-NEVER : goal.returns-then-low-lt-NEVER
-returns-then-low-lt-NEVER c =
+pub returns : goal.returns
+returns c =
     let same : c.loop-low.high ≡ c.loop-low.low = omega (arith, c.loop-low-test.false, c.loop-low.invariant.order) in
     record {
-      holds = subst (λ (k : ℕ). Attains (λ m. known_of (slice_index c.args.labels.now m)) (length c.args.labels.now) c.args.share k) same (c.loop-low.invariant.above (omega (arith, same, c.if-low-lt-NEVER.true)));
+      holds = subst (λ (k : ℕ). Attains (λ m. known_of (slice_index c.args.labels.now m)) (length c.args.labels.now) c.args.share k) same c.loop-low.invariant.above;
       least = λ e a. elim (cases_lt e c.loop-low.low) [
         | inl l ↦ absurd (c.loop-low.invariant.below e l a)
         | inr g ↦ g
       ];
     }
 
-pub returns-else-low-lt-NEVER : goal.returns-else-low-lt-NEVER
-returns-else-low-lt-NEVER c = λ e a. elim (cases_lt e c.loop-low.low) [
-  | inl l ↦ c.loop-low.invariant.below e l a
-  | inr g ↦
-      let top = attains_top (λ m. known_of (slice_index c.args.labels.now m)) (length c.args.labels.now) c.args.share 4294967294 e (λ m s l is. known_below _ s (c.in_range.ensures m) is) a in
-      c.loop-low.invariant.below 4294967294 (omega (arith, c.if-low-lt-NEVER.false)) top
-]
+pub returns-then-not-attains : goal.returns-then-not-attains
+returns-then-not-attains c = λ d a.
+    let high = c.greatest-high.result in
+    let top = attains_top (λ m. known_of (slice_index c.args.labels.now m)) (length c.args.labels.now) c.args.share high d (λ m s l is. c.greatest-high.ensures.greatest m s l is) a in
+    let is : IsTrue false ↔ Attains (λ m. known_of (slice_index c.args.labels.now m)) (length c.args.labels.now) c.args.share high = c.if-not-attains.ensures in
+    let wrong : IsTrue false = is.1 top in
+    absurd (grind (arith, wrong))

@@ -7,9 +7,9 @@ abbrev pub invariant-loop-low : goal.invariant-loop-low
 invariant-loop-low l =
     record {
       order : l.low ≤ l.high;
-      top : l.high ≤ 4294967295;
+      top : l.high < 4294967295;
       below : (d : ℕ) → d < l.low → Attains (λ m. known_of (slice_index l.labels m)) (length l.labels) l.share d → ⊥;
-      above : l.high < 4294967295 → Attains (λ m. known_of (slice_index l.labels m)) (length l.labels) l.share l.high;
+      above : Attains (λ m. known_of (slice_index l.labels m)) (length l.labels) l.share l.high;
     }
 
 abbrev pub decreases-loop-low : goal.decreases-loop-low

@@ -1,6 +1,6 @@
 use Rattle.std.proofs.Common.{◌≡◌, length}
 use Rattle.shares.proofs.Ranking.{AreBegun}
-use Rattle.shares.proofs.ranks.cells_of.Given as goal
+use Rattle.shares.proofs.ranks.cells_of_many.Given as goal
 
 abbrev pub invariant-loop-stop : goal.invariant-loop-stop
 invariant-loop-stop l = record {

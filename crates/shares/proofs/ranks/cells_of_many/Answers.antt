@@ -1,7 +1,7 @@
 use Rattle.std.proofs.Common.{◌≡◌, ◌∙◌, ◌+◌, sym, ap, List, ℕ, Option, Vec, Global, length, subst}
 use Rattle.shares.specs.Ranks.{AreLonger}
 use Rattle.shares.proofs.Ranking.{AreBegun, begun_next, written_back}
-use Rattle.shares.proofs.ranks.cells_of.Goals as goal
+use Rattle.shares.proofs.ranks.cells_of_many.Goals as goal
 
 pub loop-stop-preserved : goal.loop-stop-preserved
 loop-stop-preserved c =
