@@ -34,14 +34,19 @@ OWN = {
     "late.csv": "action,id,seconds\nshift_trip,T1,300\n",
 }
 ASKED = "--date 20260504 --from 08:00 --to 08:00 --trips 2 --share 50 --within 1800 --workers 1 --tries 1 --walk"
+FOUR = "--feed feed --date 20260504 --from 07:58 --to 08:01 --trips 2 --walk 0 --workers 2 --tries 1 --origins a.csv"
 OWN_WORDS = "--footpaths walks.csv --opportunities chances.csv --origins origins.csv"
 
 # From C one walks to B in 120 seconds and rides nowhere; from A one rides to B and on to C.
-BASE = "base,C,15,,120,0\nbase,A,15,0,600,1800\n"
-CUT = "cut,C,15,,120,0\ncut,A,10,0,600,\n"
-LATE = "late,C,15,,120,0\nlate,A,15,0,900,1800\n"
-HEAD = "scenario,origin,access,A,B,C\n"
-EXAMPLE = HEAD + "base,A,3,0,600,1800\n"
+BASE = "base,C,50,15,,120,0\nbase,A,50,15,0,600,1800\n"
+CUT = "cut,C,50,15,,120,0\ncut,A,50,10,0,600,\n"
+LATE = "late,C,50,15,,120,0\nlate,A,50,15,0,900,1800\n"
+HEAD = "scenario,origin,share,access_1800,A,B,C\n"
+EXAMPLE = HEAD + "base,A,50,3,0,600,1800\n"
+
+# From A, leaving at 07:58, 07:59 and 08:00, one is at B after 720, 660 and 600 seconds, and at C after 1920, 1860 and 1800; at 08:01 T1 has left.
+SHARES = "base,A,1,2,3,0,600,1800\nbase,A,25,2,3,0,600,1800\nbase,A,50,2,2,0,660,1860\nbase,A,75,1,2,0,720,1920\nbase,A,100,1,1,0,,\n"
+TWO_LIMITS = HEAD.replace("access_1800", "access_700,access_1800")
 
 # T1 comes to B in the last second that a time may have.
 TIMES = FEED["stop_times.txt"]
@@ -52,9 +57,16 @@ RUNS = [
     ("no words", None, "", EXAMPLE, "", 0),
     ("all own files and two scenarios", None, f"--feed feed {ASKED} 300 {OWN_WORDS} cut.csv late.csv", HEAD + BASE + CUT + LATE, "", 0),
     ("the scenarios the other way round", None, f"--feed feed {ASKED} 300 {OWN_WORDS} late.csv cut.csv", HEAD + BASE + LATE + CUT, "", 0),
-    ("a walk past the limit", None, f"--feed feed {ASKED} 119 {OWN_WORDS}", HEAD + "base,C,5,,,0\nbase,A,15,0,600,1800\n", "", 0),
-    ("the latest time that there is", ("feed/stop_times.txt", LATE_AT_B), f"--feed feed {ASKED} 0 --origins a.csv", HEAD + "base,A,1,0,575999,\n", "", 0),
+    ("a walk past the limit", None, f"--feed feed {ASKED} 119 {OWN_WORDS}", HEAD + "base,C,50,5,,,0\nbase,A,50,15,0,600,1800\n", "", 0),
+    ("the latest time that there is", ("feed/stop_times.txt", LATE_AT_B), f"--feed feed {ASKED} 0 --origins a.csv", HEAD + "base,A,50,1,0,575999,\n", "", 0),
+    ("five shares and two limits", None, f"{FOUR} --share 1,25,50,75,100 --within 700,1800", TWO_LIMITS + SHARES, "", 0),
+    ("zeros before the numbers", None, f"{FOUR} --share 050 --within 00700,1800", TWO_LIMITS + "base,A,50,2,2,0,660,1860\n", "", 0),
     ("a bad setting", None, f"--feed feed {ASKED} 7201 {OWN_WORDS}", "", "ttm: bad walk\n", 2),
+    ("shares that don't ascend", None, f"{FOUR} --share 50,25 --within 1800,1800", "", "ttm: bad share\n", 2),
+    ("a share of nothing", None, f"{FOUR} --share 0 --within 1800", "", "ttm: bad share\n", 2),
+    ("nine shares", None, f"{FOUR} --share 1,2,3,4,5,6,7,8,9 --within 1800", "", "ttm: bad share\n", 2),
+    ("a limit twice", None, f"{FOUR} --share 50 --within 1800,1800", "", "ttm: bad within\n", 2),
+    ("a limit that is empty", None, f"{FOUR} --share 50 --within 900,,1800", "", "ttm: bad within\n", 2),
     ("a bad record", ("feed/stop_times.txt", "trip_id,stop_id,stop_sequence\nT1,A,1\nT1,B,x\n"), f"--feed feed {ASKED} 0", "", "ttm: stop_times.txt: record 3: bad number\n", 2),
     ("footpaths for opportunities", None, f"--feed feed {ASKED} 0 --opportunities walks.csv", "", "ttm: opportunities: record 1: missing column\n", 2),
     ("a bad scenario", ("cut.csv", "action,id,seconds\nremove_trip,T9,\n"), f"--feed feed {ASKED} 0 cut.csv", "", "ttm: scenario cut: record 2: unknown trip\n", 2),

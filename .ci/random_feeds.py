@@ -5,7 +5,8 @@
 
 The feeds have what GTFS allows and hand-made examples forget: overnight trips, loops, times left out, headways that overlap, exceptions,
 stations, change times, forbidden boarding, identifiers with commas and quotes; and footpaths, origins, opportunities and
-scenarios of the analyst's own. Where the two differ, or the program gives no matrix, the feed is printed. Standard library only.
+scenarios of the analyst's own. One to three shares and one to three limits of access are asked for. Where the two differ, or the program
+gives no matrix, the feed is printed. Standard library only.
 """
 import argparse
 import csv
@@ -53,6 +54,10 @@ class Drawn:
 
     def any_of(self, *choices):
         return self.random.choice(choices)
+
+    def some_of(self, numbers):
+        """One to three of the numbers, ascending, as a list of the command line."""
+        return ",".join(map(str, sorted(self.random.sample(numbers, self.random.randint(1, 3)))))
 
     def place(self):
         return self.random.choice(self.stops + self.stations)
@@ -134,8 +139,8 @@ class Drawn:
         first = self.any_of(0, 7 * 60, 7 * 60 + 50, 8 * 60, 8 * 60, 23 * 60)
         last = first + self.any_of(0, 0, 1, 15, 16, 30, 59)
         asked = {"feed": folder, "date": DATE.strftime("%Y%m%d"), "from": clock(60 * first)[:5], "to": clock(60 * last)[:5],
-                 "trips": self.random.randint(1, 5), "walk": self.any_of(0, 60, 200, 900), "share": self.any_of(1, 25, 50, 67, 100),
-                 "within": 60 * self.random.randint(0, 60), "workers": self.random.randint(1, 3), "tries": 2}
+                 "trips": self.random.randint(1, 5), "walk": self.any_of(0, 60, 200, 900), "share": self.some_of([1, 25, 50, 67, 100]),
+                 "within": self.some_of(range(0, 3601, 60)), "workers": self.random.randint(1, 3), "tries": 2}
         asked.update({name: self.random.randint(0, 2) for name in ("back", "ahead") if self.chance(0.5)})
         asked.update({name: folder / (name + ".csv") for name in ("footpaths", "origins", "opportunities") if self.chance(0.6)})
         scenarios = [folder / (name + ".csv") for name in ("cut", "late") if self.chance(0.4)]

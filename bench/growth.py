@@ -4,9 +4,9 @@
     growth.py [--origins 12] [--runs 3] FOLDER ..        after `rt run` in crates/ttm, which builds the program
 
 Each folder holds an unpacked feed; `footpaths.csv` is taken where it has it. Varied are the minutes of the window, the trips of a journey,
-the longest walk, and the service days that count; beside them stand 120 minutes from 07:00, 4 trips, 600 seconds, and the day alone. An
-origin's time is the least of the runs, less that of a study of the same files without origins, over the origins, in milliseconds: it has
-durations, cells and text. Standard library only; Linux.
+the longest walk, the service days that count, and how many shares and as many limits of access are asked for; beside them stand 120 minutes
+from 07:00, 4 trips, 600 seconds, the day alone, and one of each. An origin's time is the least of the runs, less that of a study of the same
+files without origins, over the origins, in milliseconds: it has durations, cells and text. Standard library only; Linux.
 """
 import argparse
 import os
@@ -20,8 +20,11 @@ VARIED = {
     "trips": [1, 2, 3, 4, 5, 6, 7, 8],
     "walk": [0, 300, 600, 900],
     "days around": [0, 1],
+    "shares and limits": [1, 8],
 }
-PLAIN = {"minutes": 120, "trips": 4, "walk": 600, "days around": 0}
+PLAIN = {"minutes": 120, "trips": 4, "walk": 600, "days around": 0, "shares and limits": 1}
+SHARES = [50, 60, 70, 75, 80, 85, 90, 95]
+LIMITS = [3600, 4200, 4800, 5400, 6000, 6600, 7200, 7800]
 
 
 def words_of(folder, asked, setting):
@@ -29,7 +32,8 @@ def words_of(folder, asked, setting):
     last = 7 * 60 + setting["minutes"] - 1
     around = str(setting["days around"])
     words = ["--feed", folder, "--date", asked.date, "--from", "07:00", "--to", "%02d:%02d" % divmod(last, 60), "--trips", str(setting["trips"])]
-    words += ["--walk", str(setting["walk"]), "--share", "50", "--within", "3600", "--back", around, "--ahead", around]
+    shares, limits = (",".join(map(str, numbers[: setting["shares and limits"]])) for numbers in (SHARES, LIMITS))
+    words += ["--walk", str(setting["walk"]), "--share", shares, "--within", limits, "--back", around, "--ahead", around]
     words += ["--workers", "1", "--tries", "1"]
     walks = os.path.join(folder, "footpaths.csv")
     return words + (["--footpaths", walks] if os.path.exists(walks) else [])

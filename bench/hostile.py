@@ -2,11 +2,12 @@
 """Hostile use of the built program: each growth of memory, start of a thread, open, read and write refused in turn; one byte at a time; each
 file cut short after every byte.
 
-    hostile.py PROGRAM
+    hostile.py PROGRAM [GROWTH_TRIALS]
 
-Over three small studies: the text of the matrix comes whole and right, or a line and the status that belong to what was refused, and
-nothing else. What it tried is counted, and the last line is 'N passed, M failed'. It wants a C compiler (`cc`), which builds bench/refuse.c.
-Standard library only.
+Over four small studies, the last of several shares and limits: the text of the matrix comes whole and right, or a line and the status that
+belong to what was refused, and nothing else. With the built program of crates/growth_trials each public call that takes memory is refused
+each growth in turn, too: it gives the right value, or tells want of memory and gives it when made again. What it tried is counted, and the
+last line is 'N passed, M failed'. It wants a C compiler (`cc`), which builds bench/refuse.c. Standard library only.
 """
 import io
 import os
@@ -38,8 +39,14 @@ FILES = {
 }
 ASKED = "--feed . --date 20260504 --from 08:00 --to 08:00 --trips 2 --walk 300 --share 50 --within 1800 --tries 2"
 OWN = "--footpaths walks.csv --opportunities chances.csv --origins origins.csv"
+SEVERAL = ASKED.replace("--share 50 --within 1800", "--share 1,25,50,75,100 --within 700,1800").replace("--from 08:00 --to 08:00", "--from 07:58 --to 08:01")
 # the words of each study
-STUDIES = [f"{ASKED} --workers 1 cut.csv late.csv", f"{ASKED} --workers 2 cut.csv late.csv", f"{ASKED} --workers 2 {OWN} cut.csv late.csv"]
+STUDIES = [
+    f"{ASKED} --workers 1 cut.csv late.csv",
+    f"{ASKED} --workers 2 cut.csv late.csv",
+    f"{ASKED} --workers 2 {OWN} cut.csv late.csv",
+    f"{SEVERAL} --workers 2 {OWN} cut.csv",
+]
 
 # a thread's start takes memory too
 NO_MEMORY = (3, r"ttm: (out of memory|no worker started)\n")
@@ -62,16 +69,16 @@ class Trial:
         for name, text in FILES.items():
             (self.folder / name).write_text(text)
 
-    def run(self, words, **more):
-        """The status and both outputs."""
-        ran = subprocess.run([self.program, *words], cwd=self.folder, capture_output=True, timeout=120, **more)
+    def run(self, words, program=None, **more):
+        """The status and both outputs, of the program or of another one."""
+        ran = subprocess.run([program or self.program, *words], cwd=self.folder, capture_output=True, timeout=120, **more)
         return ran.returncode, ran.stdout.decode(), ran.stderr.decode()
 
-    def run_refused(self, words, what, number, **more):
+    def run_refused(self, words, what, number, program=None, **more):
         """The same where one call is refused, and whether it came to that."""
         ours, its = os.pipe()
         refusal = {**os.environ, "LD_PRELOAD": self.library, "REFUSE": f"{what}:{number}", "REFUSE_FD": str(its), **more}
-        answer = self.run(words, env=refusal, pass_fds=[its])
+        answer = self.run(words, program, env=refusal, pass_fds=[its])
         os.close(its)
         with os.fdopen(ours, "rb") as told:
             return answer, told.read() != b""
@@ -105,6 +112,29 @@ class Trial:
             short = answer[0] == status and re.fullmatch(line, answer[2]) and wanted.startswith(answer[1])
             self.judge(f"{what} {number} refused", answer == (0, wanted, "") or bool(short and (what == "write" or not answer[1])), answer)
 
+    def refuse_call(self, program, name):
+        """Refuses a trial of growth_trials its first growth, its second, and so on, until a run has fewer; gives how many there were once its
+        inputs were made, and of how many of them the call told."""
+        right, again = (0, f"{name}: right\n", ""), (0, f"{name}: refused, and right when asked again\n", "")
+        growths = told = 0
+        for number in range(1, 1_000_000):
+            answer, came = self.run_refused([name], "growth", number, program)
+            if not came:
+                self.judge(f"{name}: growth {number}, none refused", answer == right, answer)
+                return growths, told
+            if answer not in ((0, "inputs\n", ""), (0, f"{name}: inputs\n", "")):
+                self.judge(f"{name}: growth {number} refused", answer in (right, again), answer)
+                growths, told = growths + 1, told + (answer == again)
+
+    def refuse_calls(self, program):
+        """The same for each trial, one after another."""
+        answer = self.run([], program)
+        names = [line.rpartition(": ")[0] for line in answer[1].splitlines()]
+        self.judge("all calls, none refused", bool(names) and answer == (0, "".join(f"{name}: right\n" for name in names), ""), answer)
+        for name in names:
+            growths, told = self.refuse_call(program, name)
+            print(f"call {name}: {growths} growths refused in turn, of which it told {told}", flush=True)
+
     def cut_each(self, words):
         """Cuts each file short after every byte; gives how many prefixes there were, and how many were accepted."""
         tried = accepted = 0
@@ -121,8 +151,8 @@ class Trial:
 
 
 def main():
-    if len(sys.argv) != 2:
-        sys.exit("usage: hostile.py PROGRAM")
+    if len(sys.argv) not in (2, 3):
+        sys.exit("usage: hostile.py PROGRAM [GROWTH_TRIALS]")
     with tempfile.TemporaryDirectory(prefix="ttm-hostile-") as room:
         trial = Trial(sys.argv[1], room)
         for number, study in enumerate(STUDIES, 1):
@@ -131,7 +161,9 @@ def main():
             slow = [f"{trial.refuse_each(words, what, ONE_BYTE='1')} of {what}" for what in ("read", "write")]
             print(f"study {number}: refused in turn: {', '.join(counts)}; one byte at a time: {', '.join(slow)}", flush=True)
         tried, accepted = trial.cut_each(STUDIES[2].split())
-        print(f"prefixes: {tried}, of which {accepted} were accepted")
+        print(f"prefixes: {tried}, of which {accepted} were accepted", flush=True)
+        if len(sys.argv) == 3:
+            trial.refuse_calls(os.path.abspath(sys.argv[2]))
     print(f"{trial.passed} passed, {trial.failed} failed")
     return 1 if trial.failed else 0
 

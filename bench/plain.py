@@ -4,7 +4,7 @@
 It takes the options of `ttm` (workers and tries are ignored) and prints the matrix, so that both can be compared byte by byte
 on a feed of a town's size:
 
-    plain.py --feed DIR --date 20260504 --from 08:00 --to 08:04 --trips 3 --walk 300 --share 50 --within 1800 \\
+    plain.py --feed DIR --date 20260504 --from 08:00 --to 08:04 --trips 3 --walk 300 --share 50,90 --within 900,1800 \\
         --origins origins.csv --footpaths walks.csv cut.csv late.csv | cmp - matrix.csv
 
 It checks nothing and refuses nothing: feeds are taken to be right. Standard library only.
@@ -209,6 +209,12 @@ def cell(times, share):
     return reached[rank - 1] if rank <= len(reached) else None
 
 
+def access_of(cells, stops, counts, limit):
+    """The opportunities at the stops whose cell is within the limit, one at each where there are no counts."""
+    near = [s for s, c in zip(stops, cells) if c is not None and c <= limit]
+    return len(near) if counts is None else sum(counts.get(s, 0) for s in near)
+
+
 def options(words):
     parser = argparse.ArgumentParser(usage=__doc__)
     for name in ["feed", "date", "from", "to", "trips", "walk", "share", "within", "workers", "tries", "back", "ahead",
@@ -216,8 +222,10 @@ def options(words):
         parser.add_argument("--" + name, default="1" if name in ("back", "ahead") else None)
     parser.add_argument("scenario", nargs="*")
     chosen = parser.parse_args(words)
-    for name in ["trips", "walk", "share", "within", "back", "ahead"]:
+    for name in ["trips", "walk", "back", "ahead"]:
         setattr(chosen, name, int(getattr(chosen, name)))
+    for name in ["share", "within"]:
+        setattr(chosen, name, [int(text) for text in getattr(chosen, name).split(",")])
     chosen.date = datetime.datetime.strptime(chosen.date, "%Y%m%d").date()
     first, last = (int(t[:2]) * 60 + int(t[3:]) for t in (getattr(chosen, "from"), chosen.to))
     chosen.departures = [DAY * chosen.back + 60 * minute for minute in range(first, last + 1)]
@@ -233,17 +241,16 @@ def write_matrix(words, file):
     origins = [r["stop_id"] for r in rows(asked.origins)] if asked.origins else feed.stops
     counts = {r["stop_id"]: int(r["opportunities"]) for r in rows(asked.opportunities)} if asked.opportunities else None
     out = csv.writer(file, lineterminator="\n")
-    out.writerow(["scenario", "origin", "access"] + feed.stops)
+    out.writerow(["scenario", "origin", "share"] + ["access_%d" % limit for limit in asked.within] + feed.stops)
     for scenario in [None] + asked.scenario:
         name = os.path.basename(scenario).removesuffix(".csv") if scenario else "base"
         runs = network(feed, asked, scenario)
         for origin in origins:
             table = [durations(runs, feet, changes, feed.stop_no[origin], d, asked.trips) for d in asked.departures]
-            cells = [cell([times[stop] for times in table], asked.share) for stop in range(len(feed.stops))]
-            near = [s for s, c in zip(feed.stops, cells) if c is not None and c <= asked.within]
-            access = len(near) if counts is None else sum(counts.get(s, 0) for s in near)
-            out.writerow([name, origin, access] + ["" if c is None else c for c in cells])
-
+            for share in asked.share:
+                cells = [cell([times[stop] for times in table], share) for stop in range(len(feed.stops))]
+                access = [access_of(cells, feed.stops, counts, limit) for limit in asked.within]
+                out.writerow([name, origin, share] + access + ["" if c is None else c for c in cells])
 
 
 if __name__ == "__main__":

@@ -4,8 +4,9 @@
     join.py --origins FILE [--out FILE] MATRIX ..
 
 FILE names the origins of the whole study in their order (the column stop_id), as `split.py` writes it. The matrices may be named in any order. All have one
-header; each origin stands in exactly one of them, with the same scenarios, one after another. Where that isn't so nothing is written, and the status is
-1: a line says which part differs, and which origins are in no part or in two. The whole goes to standard output or to --out. Standard library only.
+header; each origin stands in exactly one of them, with the same scenarios, one after another, and in each with a line for every share. Where that isn't so
+nothing is written, and the status is 1: a line says which part differs, and which origins are in no part or in two. The whole goes to standard output or
+to --out. Standard library only.
 """
 import argparse
 import csv
@@ -17,28 +18,40 @@ import tables
 
 
 class Part:
-    """A matrix on the disk: its header, and for each scenario in order, which bytes its rows are and which origins they have."""
+    """A matrix on the disk: its header, for each scenario in order which bytes its rows are and which origins they have, and the shares of each origin."""
 
     def __init__(self, path):
-        self.path, self.ranges, self.origins = path, {}, {}
+        self.path, self.ranges, self.origins, self.shares = path, {}, {}, None
         with open(path, "rb") as file:
             self.header = read_record(file)
             columns = fields_of(self.header)
-            if matrices.layout_of(columns) is None:
+            layout = matrices.layout_of(columns)
+            if layout is None:
                 raise Unlike("%s: not a matrix" % path)
             begin = file.tell()
-            last = None
+            last, shares = (None, None), []
             for record in iter(lambda: read_record(file), b""):
                 fields = fields_of(record)
                 if len(fields) != len(columns) or not record.endswith(b"\n"):
                     raise Unlike("%s: cut short" % path)
                 scenario, origin = fields[:2]
-                if scenario != last and scenario in self.ranges:
+                if scenario != last[0] and scenario in self.ranges:
                     raise Unlike("%s: the rows of %s don't stand together" % (path, scenario))
                 self.ranges[scenario] = (self.ranges.get(scenario, (begin,))[0], begin + len(record))
-                names = self.origins.setdefault(scenario, [])
-                names += [origin] if names[-1:] != [origin] else []
-                last, begin = scenario, begin + len(record)
+                if last != (scenario, origin):
+                    self.take_shares(last, shares)
+                    self.origins.setdefault(scenario, []).append(origin)
+                    shares = []
+                shares += [fields[2]] if layout.names_share else []
+                last, begin = (scenario, origin), begin + len(record)
+            self.take_shares(last, shares)
+
+    def take_shares(self, place, shares):
+        """Takes the shares of a scenario's origin, which are those of the first."""
+        if place != (None, None):
+            self.shares = shares if self.shares is None else self.shares
+            if shares != self.shares:
+                raise Unlike("%s: %s has other shares in %s than the first origin" % (self.path, place[1], place[0]))
 
     @property
     def first(self):
@@ -74,6 +87,8 @@ def in_order(parts, origins):
     for part in parts:
         if (part.header, list(part.ranges)) != (parts[0].header, list(parts[0].ranges)):
             raise Unlike("%s and %s have different %s" % (parts[0].path, part.path, "headers" if part.header != parts[0].header else "scenarios"))
+        if part.shares != parts[0].shares:
+            raise Unlike("%s and %s have different shares" % (parts[0].path, part.path))
         for scenario, names in part.origins.items():
             if names != part.first:
                 raise Unlike("%s: %s has other origins than the first scenario" % (part.path, scenario))

@@ -2,11 +2,12 @@
 """Turns a matrix from wide to long: one line per origin and destination, with names and coordinates of both.
 
     long.py [--feed FOLDER] [--origins FILE] [--destinations FILE] [--scenario NAME ..] [--share N] [--reached] [--out FILE] MATRIX
-    long.py --access [..] MATRIX
+    long.py --access [--within SECONDS] [..] MATRIX
 
 A line has scenario, share (where the matrix names it), origin, destination and seconds: the travel time, empty where the share of departures doesn't reach
 the destination. With --feed come origin_name, origin_lat, origin_lon, destination_name, destination_lat and destination_lon (degrees). With --access
-there are no destinations: a line has scenario, share, origin, within (the limit in seconds, where the matrix names it) and access.
+there are no destinations: a line has scenario, share, origin, within (the limit in seconds, where the matrix names it) and access. Without --share
+there are lines of every share, without --within of every limit.
 
 FILE of --origins and --destinations has the column stop_id, as `ttm` takes it. --out FILE.parquet writes Parquet (with pyarrow, where that is installed),
 each other FILE a CSV; without --out a CSV goes to standard output. Rows are turned some at a time, so a matrix may be larger than the memory.
@@ -65,10 +66,11 @@ def travel_times(rows, matrix, chosen, reached):
     return made[made.seconds.notna()] if reached else made
 
 
-def access(rows, matrix):
-    """A table of the access of some rows, a line for each limit."""
-    limits = [{} if limit is None else {"within": limit} for limit in matrix.layout.limits]
-    return pandas.DataFrame({**columns_of_row(row, matrix.layout), **limit, "access": number} for row in rows for limit, number in zip(limits, row.access))
+def access(rows, matrix, within):
+    """A table of the access of some rows, a line for each limit, or for the one that is asked for."""
+    chosen = range(len(matrix.layout.limits)) if within is None else [matrix.limit(within)[0]]
+    limits = [(place, {} if matrix.layout.limits[place] is None else {"within": matrix.layout.limits[place]}) for place in chosen]
+    return pandas.DataFrame({**columns_of_row(row, matrix.layout), **limit, "access": row.access[place]} for row in rows for place, limit in limits)
 
 
 def with_places(table, stops, folder):
@@ -92,7 +94,7 @@ def tables_of(asked):
         chosen = [places[name] for name in read_list(asked.destinations, places, "stop")]
     rows = rows_of(matrix, asked)
     while block := list(itertools.islice(rows, max(1, CELLS_AT_ONCE // max(1, len(chosen))))):
-        table = access(block, matrix) if asked.access else travel_times(block, matrix, chosen, asked.reached)
+        table = access(block, matrix, asked.within) if asked.access else travel_times(block, matrix, chosen, asked.reached)
         yield with_places(table, stops, asked.feed) if stops is not None else table
 
 
@@ -128,11 +130,14 @@ def main():
     for name in ("feed", "origins", "destinations", "out"):
         parser.add_argument("--" + name)
     parser.add_argument("--scenario", action="append")
-    parser.add_argument("--share", type=int)
+    for name in ("share", "within"):
+        parser.add_argument("--" + name, type=int)
     parser.add_argument("--reached", action="store_true", help="leave out the pairs without a travel time")
     parser.add_argument("--access", action="store_true", help="access of the origins in place of travel times")
     parser.add_argument("matrix")
     asked = parser.parse_args()
+    if asked.within is not None and not asked.access:
+        parser.error("--within goes with --access")
     write = write_parquet if asked.out and asked.out.endswith(".parquet") else write_csv
     write(tables_of(asked), asked.out)
 

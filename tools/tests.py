@@ -199,6 +199,20 @@ class Join(Folder):
         Path(path).write_bytes(Path(path).read_bytes().replace(b"cut,E,0,7,,4\n", b""))
         self.assertEqual(self.refused([path]), f"{path}: cut has other origins than the first scenario")
 
+    def test_a_matrix_that_was_cut_between_two_shares_is_refused(self):
+        some, other = self.parts(["A", 'b,"c"'], ["line\nend", "D", "E", "0004", "G"], scenarios=["base", "cut"], shares=2)
+        whole = Path(other).read_bytes()
+        Path(other).write_bytes(whole.replace(b"cut,G,1,7,,4\n", b""))
+        self.assertEqual(self.refused([some, other]), f"{other}: G has other shares in cut than the first origin")
+        Path(other).write_bytes(whole.replace(b"base,D,0,", b"base,D,2,"))
+        self.assertEqual(self.refused([some, other]), f"{other}: D has other shares in base than the first origin")
+
+    def test_parts_with_other_shares_are_refused(self):
+        (some,) = self.parts(self.ORIGINS[:3], shares=2)
+        other = str(self.room / "other.csv")
+        Path(other).write_bytes(matrix_of(self.SCENARIOS, self.ORIGINS[3:], 3).encode())
+        self.assertEqual(self.refused([some, other]), f"{some} and {other} have different shares")
+
 
 class Split(Folder):
     def test_parts_are_whole_in_order_and_about_equal(self):
@@ -221,7 +235,7 @@ class Split(Folder):
         self.write("cut.csv", "action,id,seconds", [["remove_route", "Q", ""]])
         tools = os.path.dirname(os.path.abspath(__file__))
         subprocess.run([sys.executable, f"{tools}/split.py", "--feed", str(self.room), "--parts", "4", "--out", str(self.room)], check=True, stderr=subprocess.DEVNULL)
-        words = f"--feed {self.room} --date 20260504 --from 08:00 --to 08:03 --trips 2 --walk 0 --share 50 --within 600 --workers 1 --tries 1 {self.room}/cut.csv".split()
+        words = f"--feed {self.room} --date 20260504 --from 08:00 --to 08:03 --trips 2 --walk 0 --share 25,50,75 --within 300,600 --workers 1 --tries 1 {self.room}/cut.csv".split()
         run = lambda *more: subprocess.run([PROGRAM, *words, *more], capture_output=True, check=True).stdout
         parts = sorted(self.room.glob("part_*.csv"))
         for part in parts:
@@ -400,6 +414,9 @@ class Long(WithTown):
         text = town_matrix(True, limits=(900, 1800))
         expected = "scenario,share,origin,within,access\nbase,50,A,900,3\nbase,50,A,1800,3\nbase,50,D,900,2\nbase,50,D,1800,3\n"
         self.assertEqual(self.ran(long, "--access --scenario base", text)[0], expected)
+        one = self.ran(long, "--access --scenario base --share 50 --within 900")[0]
+        self.assertEqual(one, "scenario,share,origin,within,access\nbase,50,A,900,3\nbase,50,D,900,2\n")
+        self.refused(long, "--access --within 60", f"{self.path}: no access within 60 seconds, but within 900, 1800")
         self.assertEqual(self.ran(long, "--access", town_matrix(False))[0].splitlines()[:2], ["scenario,origin,access", "base,A,3"])
 
     def test_a_parquet_file_has_the_same_lines(self):
@@ -555,6 +572,10 @@ class Maps(WithTown):
 @needs_packages
 @unittest.skipUnless(PROGRAM, "without the program")
 class WhatTheProgramPrints(WithTown):
+    def matrix_of(self, words):
+        """Writes what the program prints for these words."""
+        Path(self.path).write_bytes(subprocess.run([PROGRAM, *words.split()], capture_output=True, check=True).stdout)
+
     def test_each_tool_takes_the_matrix_of_the_program(self):
         self.write("routes.txt", "route_id", [["R"], ["Q"]])
         self.write("calendar.txt", "service_id,monday,tuesday,wednesday,thursday,friday,saturday,sunday,start_date,end_date", [["M", *[1] * 7, 20260504, 20260531]])
@@ -562,12 +583,20 @@ class WhatTheProgramPrints(WithTown):
         self.write("stop_times.txt", "trip_id,arrival_time,departure_time,stop_id,stop_sequence", times)
         self.write("cut.csv", "action,id,seconds", [["remove_route", "Q", ""]])
         words = f"--feed {self.room} --date 20260504 --from 08:00 --to 08:00 --trips 2 --walk 0 --share 50 --within 1800 --workers 1 --tries 1 {self.room}/cut.csv"
-        Path(self.path).write_bytes(subprocess.run([PROGRAM, *words.split()], capture_output=True, check=True).stdout)
+        self.matrix_of(words)
         pairs = [(row["origin"], row["destination"], row["what"]) for row in self.read(self.ran(compare, "")[0])]
         self.assertEqual(pairs, [("A", "D", "cut off"), ("B", "A", "cut off"), ("B", "D", "cut off"), ("C", "A", "cut off"), ("C", "B", "cut off"), ("C", "D", "cut off")])
         self.assertEqual(self.ran(long, "--reached")[0].count("\n"), 1 + 13 + 7)
         for picture in ("times --origin A", "access", "difference", "difference --origin A"):
             self.assertEqual(self.ran(maps, f"{picture} --feed {self.room} --out {self.room}/map.png"), ("", "", 0))
+        self.matrix_of(words.replace("--share 50 --within 1800", "--share 25,50,100 --within 600,1800"))
+        for tool, asked in ((compare, ""), (maps, f"times --origin A --feed {self.room}")):
+            self.refused(tool, asked, f"{self.path}: it has lines of the shares 25, 50, 100: name one by --share")
+        self.refused(compare, "--by origin --share 50", f"{self.path}: it has access within 600, 1800 seconds: name one by --within")
+        self.assertEqual([(row["origin"], row["destination"], row["what"]) for row in self.read(self.ran(compare, "--share 50")[0])], pairs)
+        lines = [self.ran(long, more)[0].count("\n") for more in ("--reached", "--reached --share 100", "--access", "--access --share 25 --within 600")]
+        self.assertEqual(lines, [1 + 3 * (13 + 7), 1 + 13 + 7, 1 + 2 * 3 * 8, 1 + 8])
+        self.assertEqual(self.ran(maps, f"difference --share 100 --within 600 --feed {self.room} --out {self.room}/map.png"), ("", "", 0))
 
 
 if __name__ == "__main__":

@@ -1,10 +1,8 @@
 -- The book's steps in a run of a book and a collector are fair.
-use Rattle.std.proofs.Common.{◌≡◌, ℕ, zero, suc, ◌*◌, List, [], ◌∷◌, Some, refl, sym, ap, ◌∙◌, take}
+use Rattle.std.proofs.Common.{◌≡◌, ℕ, zero, suc, ◌*◌, List, [], ◌∷◌, Some, refl, ap, ◌∙◌, take}
 use Rattle.std.specs.List.{slice_get}
-use Rattle.work_book.specs.Book.{BookState}
 use Rattle.work_book.specs.Steps as book
 use Rattle.work_book.specs.Laws.{AreDrawnOnce, AreKeptOnce}
-use Rattle.work_book.specs.declared.steps.Step.{Step}
 use Rattle.work_book.specs.declared.steps.Answer.{Answer}
 use Rattle.work_book.specs.declared.steps.Answer.TheVariants.{Nothing}
 use Rattle.work_book.proofs.Fair.{IsFair, step_fair, reached_fair, new_fair}

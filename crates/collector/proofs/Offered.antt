@@ -7,7 +7,7 @@ use Rattle.std.proofs.lemmas.List.{length-set, get_or-set_same, get_or-set_other
 use Rattle.std.proofs.lemmas.Bool.Decides.{nat_tests}
 use Rattle.collector.specs.Row.{RowData}
 use Rattle.collector.specs.Places.{PlacesData, place_of, row_at}
-use Rattle.collector.specs.Offers.{belongs, is_open, after_offer}
+use Rattle.collector.specs.Offers.{belongs, is_open, after_offer, IsSameSize}
 use Rattle.collector.specs.Run.{offered}
 use Rattle.collector.specs.Laws.{is_for}
 
@@ -45,12 +45,12 @@ same_test p row k = go (belongs p row && is_open p row)
     go true = refl
     go false = refl
 
-pub same_sizes : (p : PlacesData) (row : RowData) → ((after_offer p row).scenarios ≡ p.scenarios) × ((after_offer p row).origins ≡ p.origins) × ((after_offer p row).width ≡ p.width)
+pub same_sizes : (p : PlacesData) (row : RowData) → IsSameSize p (after_offer p row)
 same_sizes p row = go (belongs p row && is_open p row)
   where
-    go : (b : Bool) → let q : PlacesData = if b then record p { rows = set p.rows (place_of p row.scenario row.origin) (Some row) } else p in (q.scenarios ≡ p.scenarios) × (q.origins ≡ p.origins) × (q.width ≡ p.width)
-    go true = (refl, refl, refl)
-    go false = (refl, refl, refl)
+    go : (b : Bool) → IsSameSize p (if b then record p { rows = set p.rows (place_of p row.scenario row.origin) (Some row) } else p)
+    go true = record { scenarios = refl; origins = refl; width = refl; shares = refl; limits = refl }
+    go false = record { scenarios = refl; origins = refl; width = refl; shares = refl; limits = refl }
 
 -- the place of one row
 offer_at : (p : PlacesData) (row : RowData) (k : ℕ) → length p.rows ≡ p.scenarios * p.origins
@@ -101,14 +101,24 @@ offered_at [] p k size = last (row_at p k)
     last (Some x) = refl
 offered_at (row ∷ rows) p k size =
     let sizes = same_sizes p row in
-    let more = offered_at rows (after_offer p row) k (same_length p row ∙ size ∙ sym (λ i. sizes.0 i * sizes.1 i)) in
+    let more = offered_at rows (after_offer p row) k (same_length p row ∙ size ∙ sym (λ i. sizes.scenarios i * sizes.origins i)) in
     more
     ∙ (λ i. option_or (offer_at p row k size i) (find (same_test p row k i) rows))
     ∙ join (row_at p k) (is_for p k row) row (find (is_for p k) rows)
 
 -- the sizes stay
-pub offered_sizes : (rows : List RowData) (p : PlacesData) → ((offered p rows).scenarios ≡ p.scenarios) × ((offered p rows).origins ≡ p.origins) × ((offered p rows).width ≡ p.width) × (length (offered p rows).rows ≡ length p.rows)
-offered_sizes [] p = (refl, refl, refl, refl)
+pub offered_sizes : (rows : List RowData) (p : PlacesData) → IsSameSize p (offered p rows)
+offered_sizes [] p = record { scenarios = refl; origins = refl; width = refl; shares = refl; limits = refl }
 offered_sizes (row ∷ rows) p =
     let one = same_sizes p row in let more = offered_sizes rows (after_offer p row) in
-    (more.0 ∙ one.0, more.1 ∙ one.1, more.2 ∙ one.2, more.3 ∙ same_length p row)
+    record {
+      scenarios = more.scenarios ∙ one.scenarios;
+      origins = more.origins ∙ one.origins;
+      width = more.width ∙ one.width;
+      shares = more.shares ∙ one.shares;
+      limits = more.limits ∙ one.limits;
+    }
+
+pub offered_length : (rows : List RowData) (p : PlacesData) → length (offered p rows).rows ≡ length p.rows
+offered_length [] p = refl
+offered_length (row ∷ rows) p = offered_length rows (after_offer p row) ∙ same_length p row

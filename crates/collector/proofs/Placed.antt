@@ -21,7 +21,7 @@ use Rattle.collector.specs.declared.run.CoreStep.{CoreStep}
 use Rattle.collector.specs.declared.run.CoreStep.TheVariants.{Book, Hand}
 use Rattle.collector.specs.declared.run.CoreAnswer.TheVariants as answer
 use Rattle.collector.proofs.Merge.{run_is}
-use Rattle.collector.proofs.Offered.{offered_at, offered_sizes, belongs_in, eq_true, in_range}
+use Rattle.collector.proofs.Offered.{offered_at, offered_sizes, offered_length, belongs_in, eq_true, in_range}
 
 -- the places of a run, and its book
 places_are : (s : Setup) (steps : List CoreStep) → (reached s steps).places ≡ offered (opening s).places (handed steps)
@@ -98,11 +98,13 @@ right_when_finished s steps right m are done =
     let sizes = offered_sizes (handed steps) (opening s).places in
     let is = places_are s steps in
     let count : length m.rows ≡ s.scenarios * s.origins =
-    sym (map_length m.rows) ∙ sym (ap length done.rows) ∙ ap (λ (p : PlacesData). length p.rows) is ∙ sizes.3 ∙ open_size s in
+    sym (map_length m.rows) ∙ sym (ap length done.rows) ∙ ap (λ (p : PlacesData). length p.rows) is ∙ offered_length (handed steps) (opening s).places ∙ open_size s in
     record {
-      scenarios = done.scenarios ∙ ap (λ (p : PlacesData). p.scenarios) is ∙ sizes.0;
-      origins = done.origins ∙ ap (λ (p : PlacesData). p.origins) is ∙ sizes.1;
-      width = done.width ∙ ap (λ (p : PlacesData). p.width) is ∙ sizes.2;
+      scenarios = done.scenarios ∙ ap (λ (p : PlacesData). p.scenarios) is ∙ sizes.scenarios;
+      origins = done.origins ∙ ap (λ (p : PlacesData). p.origins) is ∙ sizes.origins;
+      width = done.width ∙ ap (λ (p : PlacesData). p.width) is ∙ sizes.width;
+      shares = done.shares ∙ ap (λ (p : PlacesData). p.shares) is ∙ sizes.shares;
+      limits = done.limits ∙ ap (λ (p : PlacesData). p.limits) is ∙ sizes.limits;
       count = count;
       rows = λ scenario origin in_scenario in_origin.
           let below = in_range scenario origin s.scenarios s.origins in_scenario in_origin in

@@ -21,10 +21,12 @@ pub record Setup : Type 0 where
   pub scenarios : ℕ
   pub origins : ℕ
   pub width : ℕ
+  pub shares : ℕ
+  pub limits : ℕ
 
 -- the new book and the empty places
 abbrev pub opening : Setup → Core
-opening s = core (new_book s.jobs s.tries s.seats) (empty_places s.study s.scenarios s.origins s.width)
+opening s = core (new_book s.jobs s.tries s.seats) (empty_places s.study s.scenarios s.origins s.width s.shares s.limits)
 
 -- the book and the places after a run
 abbrev pub reached : Setup → List CoreStep → Core
@@ -51,6 +53,8 @@ pub record IsMatrixOf (right : ℕ → ℕ → RowData) (s : Setup) (matrix : Ma
   pub scenarios : matrix.scenarios ≡ s.scenarios
   pub origins : matrix.origins ≡ s.origins
   pub width : matrix.width ≡ s.width
+  pub shares : matrix.shares ≡ s.shares
+  pub limits : matrix.limits ≡ s.limits
   pub count : length matrix.rows ≡ s.scenarios * s.origins
   pub rows : (scenario origin : ℕ) → scenario < s.scenarios → origin < s.origins → slice_get matrix.rows (scenario * s.origins + origin) ≡ Some (right scenario origin)
 

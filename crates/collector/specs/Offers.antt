@@ -1,15 +1,24 @@
 -- What an offer of a row does, and what finishing gives.
 use Rattle.std.specs.Prelude.{◌≡◌, ◌==◌, ◌<◌, ◌&&◌, ℕ, Bool, true, not, Some, None, nat_lt, length, map, is_some, slice_set, if◌then◌else◌}
-use Rattle.collector.specs.Row.{RowData}
+use Rattle.std.specs.List.{list_all}
+use Rattle.collector.specs.Row.{CellsData, RowData}
 use Rattle.collector.specs.Places.{PlacesData, MatrixData, place_of, row_at}
 use Rattle.collector.specs.declared.places.Offer.{Offer}
 use Rattle.collector.specs.declared.places.Offer.TheVariants.{Kept, Double, Stranger}
 use Rattle.collector.specs.declared.places.Unfinished.{Unfinished}
 
--- the row is no stranger: it is of this study, for a scenario and an origin in range, with a cell for each stop
+-- what a share gives has so many cells, and so many access sums
+abbrev pub is_whole : ℕ → ℕ → CellsData → Bool
+is_whole width limits cells = length cells.cells == width && length cells.access == limits
+
+-- so many shares are there, and each of them is whole: a cell for each stop, and an access sum for each limit
+abbrev pub has_all_cells : PlacesData → RowData → Bool
+has_all_cells places row = length row.shares == places.shares && list_all (is_whole places.width places.limits) row.shares
+
+-- the row is no stranger: it is of this study, for a scenario and an origin in range, with all its cells and access sums
 abbrev pub belongs : PlacesData → RowData → Bool
 belongs places row =
-    row.study == places.study && (nat_lt row.scenario places.scenarios && (nat_lt row.origin places.origins && length row.cells == places.width))
+    row.study == places.study && (nat_lt row.scenario places.scenarios && (nat_lt row.origin places.origins && has_all_cells places row))
 
 -- the row's place is empty
 abbrev pub is_open : PlacesData → RowData → Bool
@@ -26,17 +35,21 @@ after_offer places row =
     then record places { rows = slice_set places.rows (place_of places row.scenario row.origin) (Some row) }
     else places
 
--- no offer changes how many scenarios, origins and cells there are
+-- no offer changes how many scenarios, origins, cells, shares and limits there are
 pub record IsSameSize (old new : PlacesData) : Type 0 where
   pub scenarios : new.scenarios ≡ old.scenarios
   pub origins : new.origins ≡ old.origins
   pub width : new.width ≡ old.width
+  pub shares : new.shares ≡ old.shares
+  pub limits : new.limits ≡ old.limits
 
 -- every place is full, and the matrix has their rows
 pub record IsFinished (places : PlacesData) (matrix : MatrixData) : Type 0 where
   pub scenarios : matrix.scenarios ≡ places.scenarios
   pub origins : matrix.origins ≡ places.origins
   pub width : matrix.width ≡ places.width
+  pub shares : matrix.shares ≡ places.shares
+  pub limits : matrix.limits ≡ places.limits
   pub rows : places.rows ≡ map Some matrix.rows
 
 -- the first place without a row, by its scenario and origin

@@ -2,17 +2,28 @@
 use Rattle.std.specs.Prelude.{◌≡◌, ◌+◌, ◌*◌, ◌<◌, ℕ, true, List, [], ◌∷◌, Option, Some, None, length, replicate, is_some, slice_index_or}
 use Rattle.collector.specs.Row.{RowData}
 
--- the study, how many scenarios, origins and cells a row has, and the row at each place, scenarios in the outer order
+-- the study, how many scenarios and origins there are, how many cells a share of a row has, how many shares and limits, and the row at
+-- each place, scenarios in the outer order
 pub record PlacesData : Type 0 where
   pub study : ℕ
   pub scenarios : ℕ
   pub origins : ℕ
   pub width : ℕ
+  pub shares : ℕ
+  pub limits : ℕ
   pub rows : List (Option RowData)
 
 -- no place has a row yet
-abbrev pub empty_places : ℕ → ℕ → ℕ → ℕ → PlacesData
-empty_places study scenarios origins width = record { study = study; scenarios = scenarios; origins = origins; width = width; rows = replicate (scenarios * origins) None }
+abbrev pub empty_places : ℕ → ℕ → ℕ → ℕ → ℕ → ℕ → PlacesData
+empty_places study scenarios origins width shares limits = record {
+  study = study;
+  scenarios = scenarios;
+  origins = origins;
+  width = width;
+  shares = shares;
+  limits = limits;
+  rows = replicate (scenarios * origins) None;
+}
 
 -- the place of a scenario and an origin
 abbrev pub place_of : PlacesData → ℕ → ℕ → ℕ
@@ -37,6 +48,8 @@ pub record MatrixData : Type 0 where
   pub scenarios : ℕ
   pub origins : ℕ
   pub width : ℕ
+  pub shares : ℕ
+  pub limits : ℕ
   pub rows : List RowData
 
 -- the rows that are there

@@ -1,9 +1,10 @@
 //! The places of a study's rows, and the matrix.
 ghost use Rattle.std.specs.Prelude.{◌≡◌, ◌+◌, ◌*◌, ◌<◌, ◌≤◌, Some, None, option_copied, length, slice_get, IfOk, IfErr, MatchOption};
+ghost use Rattle.std.specs.List.{list_all};
 ghost use Rattle.collector.specs.Places.{empty_places, place_of, row_at, AreFull, IsFirstGap};
-ghost use Rattle.collector.specs.Offers.{belongs, offer_of, after_offer, IsSameSize, IsFinished, IsHandedBack};
+ghost use Rattle.collector.specs.Offers.{is_whole, belongs, offer_of, after_offer, IsSameSize, IsFinished, IsHandedBack};
 
-use crate::row::Row;
+use crate::row::{Cells, Row};
 use std::alloc::{AllocError, Global};
 use std::marker::Model;
 
@@ -14,6 +15,8 @@ pub struct Collector {
     scenarios: u32,
     origins: u32,
     width: u32,
+    shares: u32,
+    limits: u32,
     places: Vec<Option<Row>>,
 }
 
@@ -23,7 +26,15 @@ impl Model for Collector {
 
     ghost Value = { PlacesData };
 
-    ghost view = { λ c. record { study = c.study; scenarios = c.scenarios; origins = c.origins; width = c.width; rows = c.places.items } };
+    ghost view = { λ c. record {
+      study = c.study;
+      scenarios = c.scenarios;
+      origins = c.origins;
+      width = c.width;
+      shares = c.shares;
+      limits = c.limits;
+      rows = c.places.items;
+    } };
 
     ghost invariant = { λ c. (length c.places.items ≡ c.scenarios * c.origins) × (c.scenarios * c.origins ≤ 1048560) };
 }
@@ -35,7 +46,7 @@ pub enum Offer {
     Kept,
     /// Its place has a row already.
     Double(Row),
-    /// It has no place here: another study, a scenario or origin out of range, or another number of cells.
+    /// It has no place here: another study, a scenario or origin out of range, or another number of shares, cells or access sums.
     Stranger(Row),
 }
 
@@ -56,6 +67,8 @@ pub struct Matrix {
     scenarios: u32,
     origins: u32,
     width: u32,
+    shares: u32,
+    limits: u32,
     // The collector's own places, all full, so that to finish takes no memory.
     places: Vec<Option<Row>>,
 }
@@ -66,13 +79,21 @@ impl Model for Matrix {
 
     ghost Value = { MatrixData };
 
-    ghost view = { λ m. record { scenarios = m.scenarios; origins = m.origins; width = m.width; rows = present m.places.items } };
+    ghost view = { λ m. record {
+      scenarios = m.scenarios;
+      origins = m.origins;
+      width = m.width;
+      shares = m.shares;
+      limits = m.limits;
+      rows = present m.places.items;
+    } };
 
     ghost invariant = { λ m. (length m.places.items ≡ m.scenarios * m.origins) × (m.scenarios * m.origins ≤ 1048560) × AreFull m.places.items };
 }
 
 impl Collector {
-    /// An empty place for each of `scenarios` times `origins` rows of `width` cells.
+    /// An empty place for each of `scenarios` times `origins` rows, which have `width` cells and `limits` access sums for each of
+    /// `shares` shares.
     ///
     /// At most 1,048,560 places: 16 scenarios of 65,535 origins.
     pub fn new(
@@ -81,9 +102,11 @@ impl Collector {
         scenarios: u32,
         origins: u32,
         width: u32,
+        shares: u32,
+        limits: u32,
     ) -> Result<Collector, AllocError>
         requires { scenarios * origins ≤ 1048560 }
-        ensures { IfOk result (λ collector. collector ≡ empty_places study scenarios origins width) }
+        ensures { IfOk result (λ collector. collector ≡ empty_places study scenarios origins width shares limits) }
     {
         let count = scenarios * origins;
         let mut places = Vec::with_capacity(alloc, count as usize)?;
@@ -95,6 +118,8 @@ impl Collector {
             scenarios,
             origins,
             width,
+            shares,
+            limits,
             places,
         })
     }
@@ -144,6 +169,8 @@ impl Collector {
                 scenarios: self.scenarios,
                 origins: self.origins,
                 width: self.width,
+                shares: self.shares,
+                limits: self.limits,
                 places: self.places,
             }),
         }
@@ -156,7 +183,8 @@ impl Collector {
         row.study == self.study
             && row.scenario < self.scenarios
             && row.origin < self.origins
-            && row.cells.len() == self.width as usize
+            && row.shares.len() == self.shares as usize
+            && are_whole(&row.shares, self.width as usize, self.limits as usize)
     }
 
     // The place of a scenario and an origin.
@@ -222,10 +250,31 @@ impl Matrix {
         self.origins
     }
 
-    /// How many cells each row has.
+    /// How many cells each row has for a share.
     pub fn width(&self) -> u32
         ensures { result ≡ self.now.width }
     {
         self.width
     }
+
+    /// How many shares each row has.
+    pub fn shares(&self) -> u32
+        ensures { result ≡ self.now.shares }
+    {
+        self.shares
+    }
+
+    /// How many access sums each row has for a share.
+    pub fn limits(&self) -> u32
+        ensures { result ≡ self.now.limits }
+    {
+        self.limits
+    }
+}
+
+// Whether what each share gives has so many cells, and so many access sums.
+fn are_whole(shares: &[Cells], width: usize, limits: usize) -> bool
+    ensures { result ≡ list_all (is_whole width limits) shares.now }
+{
+    shares.iter().all(|cells| cells.cells.len() == width && cells.access.len() == limits)
 }

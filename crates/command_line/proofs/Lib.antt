@@ -1,3 +1,4 @@
 pub mod Required
 pub mod StudyCommand
 pub mod Slashes
+pub mod ListedNumbers

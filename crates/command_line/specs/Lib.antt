@@ -1,5 +1,6 @@
 pub mod Files
 pub mod Window
+pub mod Numbers
 pub mod Lines
 pub mod Paths
 pub mod Words

@@ -1,8 +1,9 @@
 -- The command line of a study: its options, and what their texts ask for.
--- "Options have one text each. A date is YYYYMMDD, a window two times of the day, all else a number within its limits;
--- spaces around a number or a date don't count. The first option that is bad is told." (The program's own rules; how
+-- "Options have one text each. A date is YYYYMMDD, a window two times of the day, the shares and the limits of access are lists
+-- of numbers, all else is a number within its limits; spaces around a number or a date don't count. The first option that is bad is told." (The program's own rules; how
 -- words are split into options is the rule of the `clap` crate.)
 use Rattle.std.specs.Prelude.{◌≡◌, ◌&&◌, ◌++◌, ℕ, ℤ, Bool, true, false, nat_le, List, [], ◌∷◌, map, Option, Some, None, option_map, option_and_then, unwrap_or, codes, ⊤, string_bytes, if◌then◌else◌}
+use Rattle.std.specs.List.{list_all}
 use Rattle.clap.specs.Words.{App, Rule, Row, Text, new_app, new_rule, with_rule, matches_of, first_of, all_of, kind_of, HasKind, fault_of, takes}
 use Rattle.clap.specs.Lexer.{usize_max}
 use Rattle.clap.specs.declared.builder.action.ArgAction.TheVariants.{Set, Append}
@@ -11,6 +12,7 @@ use Rattle.clap.specs.declared.error.kind.ErrorKind.TheVariants.{DisplayHelp}
 use Rattle.jiff.specs.Words.{epoch_day}
 use Rattle.table_records.specs.Fields.{trimmed, number_of, day_of}
 use Rattle.table_records.specs.Faults.{IsFirst}
+use Rattle.command_line.specs.Numbers.{numbers_of}
 use Rattle.command_line.specs.Window.{window_between}
 use Rattle.command_line.specs.declared.statuses.TheConstants.{DONE, NO_ROOM, REFUSED}
 use Rattle.studies.specs.declared.settings.Settings.{Settings}
@@ -85,6 +87,18 @@ abbrev pub number_in : ℕ → ℕ → Option Text → Option ℕ
 number_in low high text =
     option_and_then (λ t. option_and_then (λ n. if nat_le low n && nat_le n high then Some n else None) (number_of (trimmed t))) text
 
+-- the numbers that a text lists
+abbrev pub list_in : Option Text → Option (List ℕ)
+list_in text = option_and_then (λ t. numbers_of t) text
+
+-- a share is of a hundred minutes
+abbrev pub is_share : ℕ → Bool
+is_share n = nat_le 1 n && nat_le n 100
+
+-- the shares that a text lists
+abbrev pub shares_in : Option Text → Option (List ℕ)
+shares_in text = option_and_then (λ shares. if list_all is_share shares then Some shares else None) (list_in text)
+
 -- one day where no text says how many
 abbrev pub or_one : Option Text → Option Text
 or_one text = Some (unwrap_or text (codes "1"))
@@ -103,11 +117,11 @@ trips_of rows = number_in 1 8 (text_at rows (codes "trips"))
 abbrev pub walk_of : List Row → Option ℕ
 walk_of rows = number_in 0 7200 (text_at rows (codes "walk"))
 
-abbrev pub share_of : List Row → Option ℕ
-share_of rows = number_in 1 100 (text_at rows (codes "share"))
+abbrev pub shares_of : List Row → Option (List ℕ)
+shares_of rows = shares_in (text_at rows (codes "share"))
 
-abbrev pub within_of : List Row → Option ℕ
-within_of rows = number_in 0 4294967295 (text_at rows (codes "within"))
+abbrev pub withins_of : List Row → Option (List ℕ)
+withins_of rows = list_in (text_at rows (codes "within"))
 
 abbrev pub workers_of : List Row → Option ℕ
 workers_of rows = number_in 1 64 (text_at rows (codes "workers"))
@@ -127,8 +141,8 @@ pub record IsAsked (rows : List Row) (s : Settings) : Type 0 where
   pub window : window_of rows ≡ Some (s.first, s.minutes)
   pub rides : trips_of rows ≡ Some s.rides
   pub walk : walk_of rows ≡ Some s.walk
-  pub share : share_of rows ≡ Some s.share
-  pub within : within_of rows ≡ Some s.within
+  pub shares : shares_of rows ≡ Some s.shares
+  pub withins : withins_of rows ≡ Some s.withins
   pub workers : workers_of rows ≡ Some s.workers
   pub tries : tries_of rows ≡ Some s.tries
   pub back : back_of rows ≡ Some s.back
@@ -153,7 +167,7 @@ unless o (Some x) = []
 abbrev pub bad_options : List Row → List Opt
 bad_options rows =
     unless opt.Date (date_of rows) ++ unless opt.Window (window_of rows) ++ unless opt.Trips (trips_of rows) ++ unless opt.Walk (walk_of rows)
-    ++ unless opt.Share (share_of rows) ++ unless opt.Within (within_of rows) ++ unless opt.Workers (workers_of rows) ++ unless opt.Tries (tries_of rows)
+    ++ unless opt.Share (shares_of rows) ++ unless opt.Within (withins_of rows) ++ unless opt.Workers (workers_of rows) ++ unless opt.Tries (tries_of rows)
     ++ unless opt.Back (back_of rows) ++ unless opt.Ahead (ahead_of rows)
 
 -- what a fault says of the words: they aren't the command's or ask for its help, or they are and this option is the first bad one

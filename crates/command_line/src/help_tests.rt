@@ -20,8 +20,8 @@ Options:
       --to <HH:MM>         Last minute of departure, 00:00 to 23:59, not before --from
       --trips <K>          Most rides of a journey, 1 to 8
       --walk <S>           Longest walk in seconds, 0 to 7200
-      --share <P>          Share of the minutes in percent that a travel time covers, 1 to 100
-      --within <S>         Travel time in seconds within which a stop counts for access, 0 to 4294967295
+      --share <P>          Share of the minutes in percent that a travel time covers, 1 to 100; 1 to 8 shares, ascending, as 25,50
+      --within <S>         Travel time in seconds within which a stop counts for access, 0 to 4294967295; 1 to 8 limits, ascending, as 900,1800
       --workers <N>        Number of threads, 1 to 64
       --tries <N>          How often each row may be begun, 1 to 8
       --back <N>           Service days before the date that count, 0 to 6; 0 where the network is too large [default: 1]

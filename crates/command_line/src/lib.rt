@@ -2,11 +2,11 @@
 //!
 //! - `options`: the command that the words are taken by.
 //! - `words`: [`task_of`] reads the words into a [`Task`], or tells why they ask for no study ([`WordFault`]). `window`: [`window_of`],
-//!   the departures that two times name.
+//!   the departures that two times name. `numbers`: [`numbers_of`], the numbers that a text lists.
 //! - `paths`: the path of a file of the feed, and the name of a scenario. `files`: [`read_all`], a file read whole.
 //! - `lines`: the line and the exit status of each fault. `statuses`: the statuses in numbers. `telling` puts a line out.
 //!
-//! `specs/Words` says what the words ask for, `specs/Lines` which line tells a fault.
+//! `specs/Words` says what the words ask for, `specs/Numbers` which numbers a text lists, `specs/Lines` which line tells a fault.
 #![tactic(auto)]
 
 #[cfg(test)]
@@ -17,6 +17,9 @@ mod help_tests;
 #[cfg(test)]
 mod line_tests;
 mod lines;
+#[cfg(test)]
+mod number_tests;
+mod numbers;
 mod option_text;
 mod options;
 mod paths;
@@ -30,6 +33,7 @@ mod words;
 
 pub use files::{ReadFault, read_all};
 pub use lines::{bad_line, fault_line, path_line, path_status, status};
+pub use numbers::numbers_of;
 pub use paths::{path_in, scenario_of};
 pub use statuses::{DONE, NO_ROOM, NOT_MOVED, REFUSED, UNFINISHED, statuses_are_as_stated};
 pub use task::{Opt, Task, WordFault};

@@ -56,13 +56,13 @@ const OPTIONS: &[OptionText] = &[
     OptionText {
         name: "share",
         value: "P",
-        help: "Share of the minutes in percent that a travel time covers, 1 to 100",
+        help: "Share of the minutes in percent that a travel time covers, 1 to 100; 1 to 8 shares, ascending, as 25,50",
         is_needed: true,
     },
     OptionText {
         name: "within",
         value: "S",
-        help: "Travel time in seconds within which a stop counts for access, 0 to 4294967295",
+        help: "Travel time in seconds within which a stop counts for access, 0 to 4294967295; 1 to 8 limits, ascending, as 900,1800",
         is_needed: true,
     },
     OptionText {

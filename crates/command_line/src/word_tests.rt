@@ -78,8 +78,8 @@ fn why_not(alloc: Global, place: usize, word: &str, more: &str) -> Option<Refusa
     asked(alloc, changed(alloc, place, word, more)).err()
 }
 
-/// The settings but the date: the days back and ahead, the window, what is asked of journeys, and of the run.
-fn numbers(settings: &Settings) -> [u32; 10] {
+/// The settings but the date and the lists: the days back and ahead, the window, what is asked of journeys, and of the run.
+fn numbers(settings: &Settings) -> [u32; 8] {
     [
         settings.back,
         settings.ahead,
@@ -87,8 +87,6 @@ fn numbers(settings: &Settings) -> [u32; 10] {
         settings.minutes,
         settings.rides,
         settings.walk,
-        settings.share,
-        settings.within,
         settings.workers,
         settings.tries,
     ]
@@ -99,10 +97,29 @@ fn asks_for_a_study_of_one_minute(rt: HostRuntime) {
     match asked(rt.alloc(), changed(rt.alloc(), 0, "ttm", "cut.csv")) {
         Ok(settings) => {
             assert!(rt; settings.date == Date::constant(2026, 5, 4));
-            assert_eq!(rt; numbers(&settings), [1, 1, 480, 1, 2, 0, 50, 1800, 1, 1]);
+            assert_eq!(rt; numbers(&settings), [1, 1, 480, 1, 2, 0, 1, 1]);
+            assert_eq!(rt; settings.shares.as_slice(), [50].as_slice());
+            assert_eq!(rt; settings.withins.as_slice(), [1800].as_slice());
         }
         Err(_) => panic!(rt; "refused"),
     }
+}
+
+/// Whether the words, with one text in another's place, ask for these shares and limits.
+fn asks_for(alloc: Global, place: usize, text: &str, shares: &[u32], withins: &[u32]) -> bool {
+    match asked(alloc, changed(alloc, place, text, "cut.csv")) {
+        Ok(settings) => {
+            settings.shares.as_slice() == shares && settings.withins.as_slice() == withins
+        }
+        Err(_) => false,
+    }
+}
+
+#[test]
+fn asks_for_shares_and_limits(rt: HostRuntime) {
+    let shares = [1, 25, 50, 75, 100];
+    assert!(rt; asks_for(rt.alloc(), 14, "1,25,50,75,100", &shares, &[1800]));
+    assert!(rt; asks_for(rt.alloc(), 16, "700,1800", &[50], &[700, 1800]));
 }
 
 #[test]
@@ -131,13 +148,18 @@ fn is_bad(alloc: Global, place: usize, word: &str, option: Opt) -> bool {
 
 #[test]
 fn tells_the_option_whose_text_is_bad(rt: HostRuntime) {
-    let cases: [(usize, &str, Opt); 9] = [
+    let cases: [(usize, &str, Opt); 14] = [
         (4, "20260431", Opt::Date),
         (6, "08:01", Opt::Window),
         (10, "9", Opt::Trips),
         (12, "7201", Opt::Walk),
         (14, "0", Opt::Share),
+        (14, "50,25", Opt::Share),
+        (14, "50,101", Opt::Share),
+        (14, " 50", Opt::Share),
         (16, "4294967296", Opt::Within),
+        (16, "1800,1800", Opt::Within),
+        (16, "", Opt::Within),
         (18, "65", Opt::Workers),
         (20, "two", Opt::Tries),
         (0, "ttm", Opt::Back),

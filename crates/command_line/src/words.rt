@@ -3,13 +3,16 @@
 //! How words are split into options is `clap`'s rule, of one simple command: each option has one text, and the words
 //! that belong to no option are scenario files. What the texts say is read here.
 
-ghost use Rattle.std.specs.Prelude.{◌≡◌, ◌≤◌, ◌+◌, ℕ, [], ◌∷◌, map, Some, None, is_some, IfOk, IfErr, IfSome, option_map, string_bytes, codes, true, false};
+ghost use Rattle.std.specs.Prelude.{◌≡◌, ◌≤◌, ◌+◌, ℕ, [], ◌∷◌, All, map, Some, None, is_some, IfOk, IfErr, IfSome, IsTrue, option_map, string_bytes, codes, true, false};
+ghost use Rattle.std.specs.List.{list_all};
 ghost use Rattle.clap.specs.Words.{found_of, rows_of, fault_of};
 ghost use Rattle.jiff.specs.Words.{epoch_day};
 ghost use Rattle.table_records.specs.Faults.{IsFirst};
 ghost use Rattle.studies.specs.Settings.{SettingsFit};
+ghost use Rattle.workers.specs.Study.{LimitsFit, SharesFit};
 ghost use Rattle.command_line.specs.Words as spec;
 
+use crate::numbers::numbers_of;
 use crate::options::command;
 use crate::statuses::{DONE, NO_ROOM, REFUSED};
 use crate::task::{Opt, Task, WordFault};
@@ -24,7 +27,7 @@ use table_records::{number, read_date, trim};
 /// The study that the words ask for; the first word is the program's name.
 ///
 /// The words are taken as one command of `clap`, whose help names each option with its unit and limits. Beside the
-/// options' own limits, `--to` isn't before `--from`. Spaces around a number or a date don't count.
+/// options' own limits, `--to` isn't before `--from`. Spaces around a number or a date don't count; a list of numbers has none.
 pub fn task_of(alloc: Global, words: &[String]) -> Result<Task, WordFault>
     ensures taken { IfOk result (λ _. fault_of spec.study_app (map string_bytes words.now) ≡ []) }
     ensures asked { IfOk result (λ task. spec.IsAsked (spec.rows_of_words (map string_bytes words.now)) task.settings) }
@@ -33,9 +36,10 @@ pub fn task_of(alloc: Global, words: &[String]) -> Result<Task, WordFault>
     ensures fault { IfErr result (λ fault. spec.Tells fault (map string_bytes words.now)) }
 {
     let matches = matched(alloc, words)?;
-    let settings = match settings_at(&matches) {
-        Ok(settings) => settings,
-        Err(opt) => return Err(WordFault::Bad(opt)),
+    let settings = match settings_at(alloc, &matches) {
+        Ok(Ok(settings)) => settings,
+        Ok(Err(opt)) => return Err(WordFault::Bad(opt)),
+        Err(_) => return Err(WordFault::Memory),
     };
     match with_paths(alloc, &matches, settings) {
         Ok(task) => Ok(task),
@@ -160,8 +164,64 @@ fn days_at(matches: &ArgMatches<'_>, opt: Opt, id: &str) -> Result<u32, Opt>
     }
 }
 
+/// Whether each number is one of a hundred parts, 1 to 100.
+fn are_shares(numbers: &[u32]) -> bool
+    ensures value { result ≡ list_all spec.is_share numbers.now }
+    ensures limits { IsTrue result → All (λ share. (1 ≤ share) × (share ≤ 100)) numbers.now }
+{
+    numbers.iter().all(|share| 1 <= *share && *share <= 100)
+}
+
+/// The shares that their option lists, if its text lists some.
+fn shares_at(alloc: Global, matches: &ArgMatches<'_>) -> Result<Option<Vec<u32>>, AllocError>
+    ensures value { IfOk result (λ list. option_map (λ shares. shares.items) list ≡ spec.shares_of (rows_of (found_of matches.now))) }
+    ensures fits { IfOk result (λ list. IfSome list (λ shares. SharesFit shares.items)) }
+{
+    let Some(text) = text_at(matches, "share") else {
+        return Ok(None);
+    };
+    let Some(shares) = numbers_of(alloc, text.as_bytes())? else {
+        return Ok(None);
+    };
+    if are_shares(&shares) {
+        Ok(Some(shares))
+    } else {
+        Ok(None)
+    }
+}
+
+/// The limits of access that their option lists, if its text lists some.
+fn withins_at(alloc: Global, matches: &ArgMatches<'_>) -> Result<Option<Vec<u32>>, AllocError>
+    ensures value { IfOk result (λ list. option_map (λ withins. withins.items) list ≡ spec.withins_of (rows_of (found_of matches.now))) }
+    ensures fits { IfOk result (λ list. IfSome list (λ withins. LimitsFit withins.items)) }
+{
+    match text_at(matches, "within") {
+        Some(text) => numbers_of(alloc, text.as_bytes()),
+        None => Ok(None),
+    }
+}
+
 /// The settings that the texts ask for, or the first option whose text is bad.
-fn settings_at(matches: &ArgMatches<'_>) -> Result<Settings, Opt>
+fn settings_at(alloc: Global, matches: &ArgMatches<'_>) -> Result<Result<Settings, Opt>, AllocError>
+    ensures asked { IfOk result (λ made. IfOk made (λ settings. spec.IsAsked (rows_of (found_of matches.now)) settings)) }
+    ensures fits { IfOk result (λ made. IfOk made (λ settings. SettingsFit settings)) }
+    ensures bad { IfOk result (λ made. IfErr made (λ o. IsFirst o (spec.bad_options (rows_of (found_of matches.now))))) }
+{
+    let shares = shares_at(alloc, matches)?;
+    let withins = withins_at(alloc, matches)?;
+    Ok(settings_with(matches, shares, withins))
+}
+
+/// The same with the lists of numbers, each there if its text lists some.
+fn settings_with(
+    matches: &ArgMatches<'_>,
+    shares: Option<Vec<u32>>,
+    withins: Option<Vec<u32>>,
+) -> Result<Settings, Opt>
+    requires shares { option_map (λ list. list.items) shares ≡ spec.shares_of (rows_of (found_of matches.now)) }
+    requires withins { option_map (λ list. list.items) withins ≡ spec.withins_of (rows_of (found_of matches.now)) }
+    requires shares_fit { IfSome shares (λ list. SharesFit list.items) }
+    requires withins_fit { IfSome withins (λ list. LimitsFit list.items) }
     ensures asked { IfOk result (λ settings. spec.IsAsked (rows_of (found_of matches.now)) settings) }
     ensures fits { IfOk result (λ settings. SettingsFit settings) }
     ensures bad { IfErr result (λ o. IsFirst o (spec.bad_options (rows_of (found_of matches.now)))) }
@@ -170,8 +230,12 @@ fn settings_at(matches: &ArgMatches<'_>) -> Result<Settings, Opt>
     let (first, minutes) = window_at(matches)?;
     let rides = number_at(matches, Opt::Trips, "trips", 1, 8)?;
     let walk = number_at(matches, Opt::Walk, "walk", 0, 7200)?;
-    let share = number_at(matches, Opt::Share, "share", 1, 100)?;
-    let within = number_at(matches, Opt::Within, "within", 0, u32::MAX)?;
+    let Some(shares) = shares else {
+        return Err(Opt::Share);
+    };
+    let Some(withins) = withins else {
+        return Err(Opt::Within);
+    };
     let workers = number_at(matches, Opt::Workers, "workers", 1, 64)?;
     let tries = number_at(matches, Opt::Tries, "tries", 1, 8)?;
     let back = days_at(matches, Opt::Back, "back")?;
@@ -184,8 +248,8 @@ fn settings_at(matches: &ArgMatches<'_>) -> Result<Settings, Opt>
         minutes,
         rides,
         walk,
-        share,
-        within,
+        shares,
+        withins,
         workers,
         tries,
     })

@@ -2,7 +2,7 @@
 
 use crate::small_networks::{a_line, of_window, two_trips};
 use rounds::{Durations, Window};
-use shares::{access, cell, cells};
+use shares::{access, cell, cells, cells_of};
 use std::alloc::Global;
 use timetable::{MOST_STOPS, Network, StopNo};
 
@@ -76,6 +76,45 @@ fn two_trips_have_theirs(alloc: Global) -> bool {
 #[test]
 fn cells_of_shares(rt: HostRuntime) {
     assert!(rt; two_trips_have_theirs(rt.alloc()));
+}
+
+/// Whether a window of the two trips has these cells for two shares at once.
+fn has_cells_of(
+    alloc: Global,
+    window: Window,
+    shares: [u32; 2],
+    expected: [[Option<u32>; 3]; 2],
+) -> bool {
+    if shares[0] > 100 || shares[1] > 100 {
+        return false;
+    }
+    let Ok(network) = two_trips(alloc, 29_700, true) else {
+        return false;
+    };
+    let Ok(Some(found)) = of_window(alloc, &network, 0, window, 2) else {
+        return false;
+    };
+    match cells_of(alloc, &found, &shares) {
+        Ok(lists) => {
+            lists.len() == 2
+                && lists[0].as_slice() == expected[0].as_slice()
+                && lists[1].as_slice() == expected[1].as_slice()
+        }
+        Err(_) => false,
+    }
+}
+
+#[test]
+fn cells_of_two_shares_at_once(rt: HostRuntime) {
+    let four = Window {
+        first: 28_680,
+        minutes: 4,
+    };
+    let expected = [
+        [Some(0), Some(660), Some(1_860)],
+        [Some(0), Some(720), Some(1_920)],
+    ];
+    assert!(rt; has_cells_of(rt.alloc(), four, [50, 75], expected));
 }
 
 /// The access, where there are as many opportunities as cells.

@@ -1,33 +1,59 @@
 //! Worked examples of offers, of finishing, and of steps of a book and a collector together.
 ghost use Rattle.std.specs.Prelude.{◌≡◌, IfOk};
 
-use collector::{Collector, CoreAnswer, CoreStep, Matrix, Offer, Row, Unfinished, run_core};
+use collector::{Cells, Collector, CoreAnswer, CoreStep, Matrix, Offer, Row, Unfinished, run_core};
 use std::alloc::{AllocError, Global};
 use std::test::Fail;
 use work_book::{Answer, Book, Lease, Step};
 
-/// A row that reaches no stop, but for its own.
-fn row(
-    alloc: Global,
-    study: u64,
-    scenario: u32,
-    origin: u32,
-    width: usize,
-) -> Result<Row, AllocError> {
-    let mut cells = Vec::with_capacity(alloc, width)?;
-    for stop in 0..width {
+/// How many shares a row has, and how many cells and access sums each of them.
+#[derive(Clone, Copy)]
+struct Size {
+    shares: usize,
+    cells: usize,
+    sums: usize,
+}
+
+/// The size of the rows that these collectors ask for.
+const SIZE: Size = Size {
+    shares: 2,
+    cells: 3,
+    sums: 4,
+};
+
+/// What a share gives that reaches no stop, but for its own.
+fn cells_from(alloc: Global, origin: u32, size: Size) -> Result<Cells, AllocError> {
+    let mut cells = Vec::with_capacity(alloc, size.cells)?;
+    for stop in 0..size.cells {
         cells.push(if stop == origin as usize {
             Some(0)
         } else {
             None
         })?;
     }
+    Ok(Cells {
+        cells,
+        access: vec![in alloc; 7; size.sums]?,
+    })
+}
+
+/// A row of this size that reaches no stop, but for its own.
+fn row(
+    alloc: Global,
+    study: u64,
+    scenario: u32,
+    origin: u32,
+    size: Size,
+) -> Result<Row, AllocError> {
+    let mut shares = Vec::with_capacity(alloc, size.shares)?;
+    for _ in 0..size.shares {
+        shares.push(cells_from(alloc, origin, size)?)?;
+    }
     Ok(Row {
         study,
         scenario,
         origin,
-        cells,
-        access: 7,
+        shares,
     })
 }
 
@@ -48,13 +74,13 @@ fn became(collector: &mut Collector, row: Row) -> Outcome {
     }
 }
 
-/// A row that is offered, and what becomes of it: study, scenario, origin, number of cells.
-type Case = (u64, u32, u32, usize, Outcome);
+/// A row that is offered, and what becomes of it: study, scenario, origin, size.
+type Case = (u64, u32, u32, Size, Outcome);
 
 /// Whether rows that are offered in turn become what they should.
 fn become_so(alloc: Global, collector: &mut Collector, cases: &[Case]) -> bool {
-    for (study, scenario, origin, width, want) in cases {
-        match row(alloc, *study, *scenario, *origin, *width) {
+    for (study, scenario, origin, size, want) in cases {
+        match row(alloc, *study, *scenario, *origin, *size) {
             Ok(row) => {
                 if became(collector, row) != *want {
                     return false;
@@ -66,11 +92,11 @@ fn become_so(alloc: Global, collector: &mut Collector, cases: &[Case]) -> bool {
     true
 }
 
-/// How a collector ends: with a first empty place, or with a matrix of so many scenarios, origins and cells.
+/// How a collector ends: with a first empty place, or with a matrix of so many scenarios, origins, cells, shares and limits.
 #[derive(Clone, Copy, PartialEq, Eq)]
 enum End {
     Empty(u32, u32),
-    Full(u32, u32, u32),
+    Full(u32, u32, u32, u32, u32),
 }
 
 /// The shape of a matrix in which each row stands at its own place.
@@ -83,7 +109,13 @@ fn shape_of(matrix: &Matrix) -> Option<End> {
             }
         }
     }
-    Some(End::Full(matrix.scenarios(), matrix.origins(), matrix.width()))
+    Some(End::Full(
+        matrix.scenarios(),
+        matrix.origins(),
+        matrix.width(),
+        matrix.shares(),
+        matrix.limits(),
+    ))
 }
 
 /// How a collector ends; none where a row stands at another's place.
@@ -94,13 +126,13 @@ fn end_of(collector: Collector) -> Option<End> {
     }
 }
 
-/// Whether rows that are offered in turn to a collector of study 1, three scenarios, so many origins and three cells become
-/// what they should, and it ends so.
+/// Whether rows that are offered in turn to a collector of study 1, three scenarios, so many origins, three cells, two shares and
+/// four limits become what they should, and it ends so.
 fn ends(alloc: Global, origins: u32, cases: &[Case], end: End) -> bool {
     if origins > 3 {
         return false;
     }
-    match Collector::new(alloc, 1, 3, origins, 3) {
+    match Collector::new(alloc, 1, 3, origins, 3, 2, 4) {
         Ok(mut collector) => {
             let are_so = become_so(alloc, &mut collector, cases);
             end_of(collector) == Some(end) && are_so
@@ -111,30 +143,51 @@ fn ends(alloc: Global, origins: u32, cases: &[Case], end: End) -> bool {
 
 #[test]
 fn keeps_the_first_row_of_a_place(rt: HostRuntime) {
-    let twice = [(1, 0, 0, 3, Outcome::Kept), (1, 0, 0, 3, Outcome::Double)];
+    let twice = [
+        (1, 0, 0, SIZE, Outcome::Kept),
+        (1, 0, 0, SIZE, Outcome::Double),
+    ];
     assert!(rt; ends(rt.alloc(), 3, &twice, End::Empty(0, 1)));
 }
 
 #[test]
 fn hands_strangers_back(rt: HostRuntime) {
     let strangers = [
-        (9, 0, 0, 3, Outcome::Stranger),
-        (1, 0, 3, 3, Outcome::Stranger),
-        (1, 3, 0, 3, Outcome::Stranger),
-        (1, 0, 0, 2, Outcome::Stranger),
-        (1, 0, 0, 4, Outcome::Stranger),
+        (9, 0, 0, SIZE, Outcome::Stranger),
+        (1, 0, 3, SIZE, Outcome::Stranger),
+        (1, 3, 0, SIZE, Outcome::Stranger),
+        (1, 0, 0, Size { shares: 1, ..SIZE }, Outcome::Stranger),
+        (1, 0, 0, Size { shares: 3, ..SIZE }, Outcome::Stranger),
+        (1, 0, 0, Size { cells: 2, ..SIZE }, Outcome::Stranger),
+        (1, 0, 0, Size { cells: 4, ..SIZE }, Outcome::Stranger),
+        (1, 0, 0, Size { sums: 3, ..SIZE }, Outcome::Stranger),
+        (1, 0, 0, Size { sums: 5, ..SIZE }, Outcome::Stranger),
     ];
     assert!(rt; ends(rt.alloc(), 3, &strangers, End::Empty(0, 0)));
+}
+
+/// Whether a row comes back of which only the last share lacks a cell.
+fn hands_back_a_short_share(alloc: Global) -> Result<bool, AllocError> {
+    let mut collector = Collector::new(alloc, 1, 3, 3, 3, 2, 4)?;
+    let mut row = row(alloc, 1, 0, 0, Size { shares: 1, ..SIZE })?;
+    row.shares
+        .push(cells_from(alloc, 0, Size { cells: 2, ..SIZE })?)?;
+    Ok(became(&mut collector, row) == Outcome::Stranger)
+}
+
+#[test]
+fn hands_a_row_with_a_short_share_back(rt: HostRuntime) {
+    assert!(rt; hands_back_a_short_share(rt.alloc()) == Ok(true));
 }
 
 #[test]
 fn names_a_place_of_a_later_scenario(rt: HostRuntime) {
     let rows = [
-        (1, 2, 2, 3, Outcome::Kept),
-        (1, 0, 2, 3, Outcome::Kept),
-        (1, 0, 1, 3, Outcome::Kept),
-        (1, 0, 0, 3, Outcome::Kept),
-        (1, 1, 0, 3, Outcome::Kept),
+        (1, 2, 2, SIZE, Outcome::Kept),
+        (1, 0, 2, SIZE, Outcome::Kept),
+        (1, 0, 1, SIZE, Outcome::Kept),
+        (1, 0, 0, SIZE, Outcome::Kept),
+        (1, 1, 0, SIZE, Outcome::Kept),
     ];
     assert!(rt; ends(rt.alloc(), 3, &rows, End::Empty(1, 1)));
 }
@@ -142,22 +195,22 @@ fn names_a_place_of_a_later_scenario(rt: HostRuntime) {
 #[test]
 fn finishes_with_every_row(rt: HostRuntime) {
     let rows = [
-        (1, 0, 0, 3, Outcome::Kept),
-        (1, 2, 2, 3, Outcome::Kept),
-        (1, 0, 1, 3, Outcome::Kept),
-        (1, 2, 0, 3, Outcome::Kept),
-        (1, 1, 0, 3, Outcome::Kept),
-        (1, 1, 2, 3, Outcome::Kept),
-        (1, 0, 2, 3, Outcome::Kept),
-        (1, 1, 1, 3, Outcome::Kept),
-        (1, 2, 1, 3, Outcome::Kept),
+        (1, 0, 0, SIZE, Outcome::Kept),
+        (1, 2, 2, SIZE, Outcome::Kept),
+        (1, 0, 1, SIZE, Outcome::Kept),
+        (1, 2, 0, SIZE, Outcome::Kept),
+        (1, 1, 0, SIZE, Outcome::Kept),
+        (1, 1, 2, SIZE, Outcome::Kept),
+        (1, 0, 2, SIZE, Outcome::Kept),
+        (1, 1, 1, SIZE, Outcome::Kept),
+        (1, 2, 1, SIZE, Outcome::Kept),
     ];
-    assert!(rt; ends(rt.alloc(), 3, &rows, End::Full(3, 3, 3)));
+    assert!(rt; ends(rt.alloc(), 3, &rows, End::Full(3, 3, 3, 2, 4)));
 }
 
 #[test]
 fn has_no_places(rt: HostRuntime) {
-    assert!(rt; ends(rt.alloc(), 0, &[], End::Full(3, 0, 3)));
+    assert!(rt; ends(rt.alloc(), 0, &[], End::Full(3, 0, 3, 2, 4)));
 }
 
 /// Whether a row is that of place (0, 0) of study 1, as `row` makes it.
@@ -165,8 +218,14 @@ fn is_first_row(row: &Row) -> bool {
     row.study == 1
         && row.scenario == 0
         && row.origin == 0
-        && row.access == 7
-        && row.cells.as_slice() == [Some(0), None, None].as_slice()
+        && row.shares.len() == 2
+        && row.shares.iter().all(reaches_its_own)
+}
+
+/// Whether a share reaches the first of three stops alone, as `cells_from` makes it.
+fn reaches_its_own(share: &Cells) -> bool {
+    share.access.as_slice() == [7, 7, 7, 7].as_slice()
+        && share.cells.as_slice() == [Some(0), None, None].as_slice()
 }
 
 /// Whether a row is handed back as it was, as the second of its place.
@@ -189,7 +248,7 @@ fn first_comes_back(alloc: Global, collector: &mut Collector) -> bool
     ensures scenarios { collector.new.scenarios ≡ 3 }
     ensures origins { collector.new.origins ≡ 3 }
 {
-    match row(alloc, 1, 0, 0, 3) {
+    match row(alloc, 1, 0, 0, SIZE) {
         Ok(row) => comes_back(collector, row),
         Err(_) => false,
     }
@@ -207,12 +266,12 @@ fn shows_the_first(collector: &Collector) -> bool
     first && collector.place(0, 1).is_none() && collector.place(2, 2).is_none()
 }
 
-/// A collector of study 1, with three scenarios, three origins and three cells.
+/// A collector of study 1, with three scenarios, three origins, three cells, two shares and four limits.
 fn three_by_three(alloc: Global) -> Result<Collector, AllocError>
     ensures scenarios { IfOk result (λ collector. collector.scenarios ≡ 3) }
     ensures origins { IfOk result (λ collector. collector.origins ≡ 3) }
 {
-    Collector::new(alloc, 1, 3, 3, 3)
+    Collector::new(alloc, 1, 3, 3, 3, 2, 4)
 }
 
 /// Whether a place shows the first row that it was offered, and the second one comes back.
@@ -235,15 +294,18 @@ fn gives_the_second_row_of_a_place_back(rt: HostRuntime) {
 /// Whether a collector that came back unfinished has its row, and takes another.
 fn goes_on(alloc: Global, unfinished: Unfinished) -> bool {
     let mut collector = unfinished.collector;
-    let cases = [(1, 0, 0, 3, Outcome::Double), (1, 0, 1, 3, Outcome::Kept)];
+    let cases = [
+        (1, 0, 0, SIZE, Outcome::Double),
+        (1, 0, 1, SIZE, Outcome::Kept),
+    ];
     become_so(alloc, &mut collector, &cases)
 }
 
 /// Whether a collector with one row comes back from `finish`, and goes on.
 fn goes_on_unfinished(alloc: Global) -> bool {
-    match Collector::new(alloc, 1, 3, 3, 3) {
+    match Collector::new(alloc, 1, 3, 3, 3, 2, 4) {
         Ok(mut collector) => {
-            become_so(alloc, &mut collector, &[(1, 0, 0, 3, Outcome::Kept)]);
+            become_so(alloc, &mut collector, &[(1, 0, 0, SIZE, Outcome::Kept)]);
             match collector.finish() {
                 Ok(_) => false,
                 Err(unfinished) => goes_on(alloc, unfinished),
@@ -257,6 +319,13 @@ fn goes_on_unfinished(alloc: Global) -> bool {
 fn an_unfinished_collector_goes_on(rt: HostRuntime) {
     assert!(rt; goes_on_unfinished(rt.alloc()));
 }
+
+/// The size of a row with one of each.
+const ONE: Size = Size {
+    shares: 1,
+    cells: 1,
+    sums: 1,
+};
 
 /// Steps of two seats over two jobs and two tries, and then a row that seat 1 hands over twice.
 fn steps(alloc: Global) -> Result<Vec<CoreStep>, AllocError> {
@@ -281,7 +350,7 @@ fn steps(alloc: Global) -> Result<Vec<CoreStep>, AllocError> {
     }
     for _ in 0..2 {
         if steps
-            .push(CoreStep::Hand(1, row(alloc, 1, 0, 1, 1)?))
+            .push(CoreStep::Hand(1, row(alloc, 1, 0, 1, ONE)?))
             .is_err()
         {
             return Err(AllocError);
@@ -358,7 +427,7 @@ fn answer_so(
 
 /// Whether a core of two jobs answers as it should, and its book has gone on by four numbers.
 fn core_answers(alloc: Global, book: &mut Book) -> bool {
-    match (Collector::new(alloc, 1, 1, 2, 1), steps(alloc)) {
+    match (Collector::new(alloc, 1, 1, 2, 1, 1, 1), steps(alloc)) {
         (Ok(mut collector), Ok(steps)) => {
             answer_so(alloc, book, &mut collector, steps) && book.next() == 4
         }

@@ -6,7 +6,7 @@ use rounds::Window;
 use std::alloc::{AllocError, Global};
 use timetable::{Event, Network, StopNo};
 use work_book::{Lease, Settled};
-use workers::{Gate, Open, Study, Verdict, one_thread, row_of};
+use workers::{Asked, Gate, Open, Study, Verdict, limits_fit, one_thread, row_of, shares_fit};
 
 /// The stops of the small feed.
 pub(crate) const A: u32 = 0;
@@ -63,27 +63,47 @@ fn window(minute: u32, minutes: u32) -> Window {
     }
 }
 
-/// Two rides, half of the minutes of 08:00 alone, and half an hour's reach, from A.
-pub(crate) fn study_of(networks: &[Network]) -> Study<'_> {
+/// Two rides, half of the minutes of 08:00 alone, and half an hour's reach.
+fn asked() -> Asked<'static> {
+    Asked {
+        window: window(480, 1),
+        rides: 2,
+        shares: &[50],
+        limits: &[1_800],
+    }
+}
+
+/// The study that asks so of these networks, from A.
+fn asking<'a>(networks: &'a [Network], asked: Asked<'a>) -> Study<'a> {
     Study {
         number: 7,
         networks,
         origins: &[StopNo(A)],
         opportunities: &[1, 1, 1],
-        window: window(480, 1),
-        rides: 2,
-        share: 50,
-        within: 1_800,
+        asked,
     }
 }
 
-/// A row of a matrix: scenario, origin, access and cells.
-pub(crate) type Told = (u32, u32, u64, [Option<u32>; 3]);
-
-/// Whether a row of study 7 has this access, and these cells.
-fn is(row: &Row, access: u64, cells: &[Option<u32>]) -> bool {
-    row.study == 7 && row.access == access && row.cells.as_slice() == cells
+/// The study of two rides, half of the minutes of 08:00 alone, and half an hour's reach, from A.
+pub(crate) fn study_of(networks: &[Network]) -> Study<'_> {
+    asking(networks, asked())
 }
+
+/// What a share gives: access sums and cells.
+type Given<'a> = (&'a [u64], [Option<u32>; 3]);
+
+/// Whether a row of study 7 has these for its shares.
+fn is(row: &Row, given: &[Given<'_>]) -> bool {
+    for (found, (access, cells)) in row.shares.iter().zip(given.iter()) {
+        if found.access.as_slice() != *access || found.cells.as_slice() != cells.as_slice() {
+            return false;
+        }
+    }
+    row.study == 7 && row.shares.len() == given.len()
+}
+
+/// A row of one share and one limit: scenario, origin, access and cells.
+pub(crate) type Told = (u32, u32, u64, [Option<u32>; 3]);
 
 /// Whether a matrix has these rows, each at its place.
 pub(crate) fn has(matrix: &Matrix, rows: &[Told]) -> bool {
@@ -92,14 +112,14 @@ pub(crate) fn has(matrix: &Matrix, rows: &[Told]) -> bool {
             return false;
         }
         let row = matrix.row(*scenario, *origin);
-        if row.scenario != *scenario || row.origin != *origin || !is(row, *access, cells) {
+        if row.scenario != *scenario || row.origin != *origin || !is(row, &[(&[*access], *cells)]) {
             return false;
         }
     }
     true
 }
 
-/// Whether a study fits, and its matrix has so many scenarios, origins and cells, and these rows.
+/// Whether a study of one share and one limit fits, and its matrix has so many scenarios, origins and cells, and these rows.
 fn gives(alloc: Global, study: &Study, shape: (u32, u32, u32), rows: &[Told]) -> bool {
     if !study.fits() {
         return false;
@@ -107,7 +127,8 @@ fn gives(alloc: Global, study: &Study, shape: (u32, u32, u32), rows: &[Told]) ->
     match one_thread(alloc, study) {
         Ok(matrix) => {
             let found = (matrix.scenarios(), matrix.origins(), matrix.width());
-            found == shape && has(&matrix, rows)
+            let sizes = (matrix.shares(), matrix.limits());
+            found == shape && sizes == (1, 1) && has(&matrix, rows)
         }
         Err(_) => false,
     }
@@ -118,10 +139,11 @@ fn gives_one(alloc: Global, study: &Study, access: u64, cells: [Option<u32>; 3])
     gives(alloc, study, (1, 1, 3), &[(0, 0, access, cells)])
 }
 
-/// What the tests ask of studies over some networks.
+/// What the tests want of studies over some networks.
 #[derive(Clone, Copy)]
-enum Asked {
+enum Wanted {
     Shares,
+    SharesAtOnce,
     Reach,
     OneRide,
     EveryRow,
@@ -129,33 +151,36 @@ enum Asked {
     WholeDay,
     NoOrigins,
     Limits,
+    Rising,
     Opportunities,
     Origins,
     Scenarios,
 }
 
-/// Whether the networks of these scenarios' rides give what is asked.
-fn are_right(alloc: Global, scenarios: &[&[Ride]], asked: Asked) -> bool {
+/// Whether the networks of these scenarios' rides give what is wanted.
+fn are_right(alloc: Global, scenarios: &[&[Ride]], wanted: Wanted) -> bool {
     match networks_of(alloc, scenarios) {
-        Ok(networks) => give(alloc, &networks, asked),
+        Ok(networks) => give(alloc, &networks, wanted),
         Err(_) => false,
     }
 }
 
-/// Whether networks give what is asked.
-fn give(alloc: Global, networks: &[Network], asked: Asked) -> bool {
-    match asked {
-        Asked::Shares => give_the_nearest_rank(alloc, networks),
-        Asked::Reach => sum_the_opportunities(alloc, networks),
-        Asked::OneRide => count_rides(alloc, networks),
-        Asked::EveryRow => give_every_row(alloc, networks),
-        Asked::OneRow => give_one_row(alloc, networks),
-        Asked::WholeDay => give_the_row_of_a_day(alloc, networks),
-        Asked::NoOrigins => give_no_rows(alloc, networks),
-        Asked::Limits => fit_up_to_each_limit(networks),
-        Asked::Opportunities => fit_an_opportunity_for_each_stop(networks),
-        Asked::Origins => fit_up_to_the_most_origins(alloc, networks),
-        Asked::Scenarios => fit_sixteen_scenarios(networks),
+/// Whether networks give what is wanted.
+fn give(alloc: Global, networks: &[Network], wanted: Wanted) -> bool {
+    match wanted {
+        Wanted::Shares => give_the_nearest_rank(alloc, networks),
+        Wanted::SharesAtOnce => give_each_share_and_limit(alloc, networks),
+        Wanted::Reach => sum_the_opportunities(alloc, networks),
+        Wanted::OneRide => count_rides(alloc, networks),
+        Wanted::EveryRow => give_every_row(alloc, networks),
+        Wanted::OneRow => give_one_row(alloc, networks),
+        Wanted::WholeDay => give_the_row_of_a_day(alloc, networks),
+        Wanted::NoOrigins => give_no_rows(alloc, networks),
+        Wanted::Limits => fit_up_to_each_limit(networks),
+        Wanted::Rising => fit_with_theirs(networks),
+        Wanted::Opportunities => fit_an_opportunity_for_each_stop(networks),
+        Wanted::Origins => fit_up_to_the_most_origins(alloc, networks),
+        Wanted::Scenarios => fit_sixteen_scenarios(networks),
     }
 }
 
@@ -175,12 +200,13 @@ fn give_the_nearest_rank(alloc: Global, networks: &[Network]) -> bool {
         (464, 17, 1, 3, all),
         (448, 33, 50, 2, [Some(0), Some(1_560), Some(2_760)]),
     ] {
-        let study = Study {
+        let shares = [share];
+        let asked = Asked {
             window: window(minute, minutes),
-            share,
-            ..study_of(networks)
+            shares: &shares,
+            ..asked()
         };
-        if !gives_one(alloc, &study, access, cells) {
+        if !gives_one(alloc, &asking(networks, asked), access, cells) {
             return false;
         }
     }
@@ -189,16 +215,63 @@ fn give_the_nearest_rank(alloc: Global, networks: &[Network]) -> bool {
 
 #[test]
 fn gives_the_nearest_rank_of_the_minutes(rt: HostRuntime) {
-    assert!(rt; are_right(rt.alloc(), BASE, Asked::Shares));
+    assert!(rt; are_right(rt.alloc(), BASE, Wanted::Shares));
+}
+
+/// What the shares 1, 25, 50, 75 and 100 of the minutes from 07:58 to 08:01 give from A, within 700 and within 1,800 seconds.
+const GIVEN: [Given<'static>; 5] = [
+    (&[2, 3], [Some(0), Some(600), Some(1_800)]),
+    (&[2, 3], [Some(0), Some(600), Some(1_800)]),
+    (&[2, 2], [Some(0), Some(660), Some(1_860)]),
+    (&[1, 2], [Some(0), Some(720), Some(1_920)]),
+    (&[1, 1], [Some(0), None, None]),
+];
+
+/// Whether the first row of a matrix has these for its shares.
+fn begins_with(matrix: &Matrix, given: &[Given<'_>]) -> bool {
+    if matrix.scenarios() == 0 || matrix.origins() == 0 {
+        return false;
+    }
+    is(matrix.row(0, 0), given)
+}
+
+/// Five shares and two limits, in one run.
+fn give_each_share_and_limit(alloc: Global, networks: &[Network]) -> bool {
+    let asked = Asked {
+        window: window(478, 4),
+        shares: &[1, 25, 50, 75, 100],
+        limits: &[700, 1_800],
+        ..asked()
+    };
+    let study = asking(networks, asked);
+    if !study.fits() {
+        return false;
+    }
+    match one_thread(alloc, &study) {
+        Ok(matrix) => {
+            let found = (matrix.shares(), matrix.limits(), matrix.width());
+            found == (5, 2, 3) && begins_with(&matrix, &GIVEN)
+        }
+        Err(_) => false,
+    }
+}
+
+#[test]
+fn gives_each_share_its_cells_and_each_limit_its_sum(rt: HostRuntime) {
+    assert!(rt; are_right(rt.alloc(), BASE, Wanted::SharesAtOnce));
 }
 
 /// The access, of what is reached within a limit.
 fn sum_the_opportunities(alloc: Global, networks: &[Network]) -> bool {
     for (within, access) in [(1_800, 15), (1_799, 10), (599, 0)] {
+        let limits = [within];
+        let asked = Asked {
+            limits: &limits,
+            ..asked()
+        };
         let study = Study {
             opportunities: &[0, 10, 5],
-            within,
-            ..study_of(networks)
+            ..asking(networks, asked)
         };
         if !gives_one(alloc, &study, access, [Some(0), Some(600), Some(1_800)]) {
             return false;
@@ -209,21 +282,26 @@ fn sum_the_opportunities(alloc: Global, networks: &[Network]) -> bool {
 
 #[test]
 fn sums_the_opportunities_within_reach(rt: HostRuntime) {
-    assert!(rt; are_right(rt.alloc(), BASE, Asked::Reach));
+    assert!(rt; are_right(rt.alloc(), BASE, Wanted::Reach));
 }
 
 /// One ride, where C wants two.
 fn count_rides(alloc: Global, networks: &[Network]) -> bool {
-    let study = Study {
+    let asked = Asked {
         rides: 1,
-        ..study_of(networks)
+        ..asked()
     };
-    gives_one(alloc, &study, 2, [Some(0), Some(600), None])
+    gives_one(
+        alloc,
+        &asking(networks, asked),
+        2,
+        [Some(0), Some(600), None],
+    )
 }
 
 #[test]
 fn counts_rides(rt: HostRuntime) {
-    assert!(rt; are_right(rt.alloc(), BASE, Asked::OneRide));
+    assert!(rt; are_right(rt.alloc(), BASE, Wanted::OneRide));
 }
 
 /// The feed as it is, without its second trip, and with its first trip 300 seconds late.
@@ -258,7 +336,7 @@ fn give_every_row(alloc: Global, networks: &[Network]) -> bool {
 /// The rows of all three scenarios, from each stop.
 #[test]
 fn has_a_row_per_scenario_and_origin(rt: HostRuntime) {
-    assert!(rt; are_right(rt.alloc(), EDITED, Asked::EveryRow));
+    assert!(rt; are_right(rt.alloc(), EDITED, Wanted::EveryRow));
 }
 
 /// The row of the second scenario and the second origin, by itself.
@@ -272,7 +350,7 @@ fn give_one_row(alloc: Global, networks: &[Network]) -> bool {
     }
     match row_of(alloc, &study, 1, 1) {
         Ok(row) => {
-            row.scenario == 1 && row.origin == 1 && is(&row, 2, &[Some(0), Some(600), None])
+            row.scenario == 1 && row.origin == 1 && is(&row, &[(&[2], [Some(0), Some(600), None])])
         }
         Err(_) => false,
     }
@@ -281,22 +359,27 @@ fn give_one_row(alloc: Global, networks: &[Network]) -> bool {
 #[test]
 fn gives_one_row_alone(rt: HostRuntime) {
     let scenarios: [&[Ride]; 2] = [&[FIRST, SECOND], &[FIRST]];
-    assert!(rt; are_right(rt.alloc(), &scenarios, Asked::OneRow));
+    assert!(rt; are_right(rt.alloc(), &scenarios, Wanted::OneRow));
 }
 
 /// The row of all minutes of a day, of which 481 leave before the only trips: a third of them is 476 minutes.
 fn give_the_row_of_a_day(alloc: Global, networks: &[Network]) -> bool {
-    let study = Study {
+    let asked = Asked {
         window: window(0, 1_440),
-        share: 33,
-        ..study_of(networks)
+        shares: &[33],
+        ..asked()
     };
-    gives_one(alloc, &study, 1, [Some(0), Some(29_100), Some(30_300)])
+    gives_one(
+        alloc,
+        &asking(networks, asked),
+        1,
+        [Some(0), Some(29_100), Some(30_300)],
+    )
 }
 
 #[test]
 fn gives_the_row_of_a_days_window(rt: HostRuntime) {
-    assert!(rt; are_right(rt.alloc(), BASE, Asked::WholeDay));
+    assert!(rt; are_right(rt.alloc(), BASE, Wanted::WholeDay));
 }
 
 /// No rows without origins, and none without scenarios.
@@ -310,28 +393,76 @@ fn give_no_rows(alloc: Global, networks: &[Network]) -> bool {
 
 #[test]
 fn has_no_rows_without_origins_or_scenarios(rt: HostRuntime) {
-    assert!(rt; are_right(rt.alloc(), BASE, Asked::NoOrigins));
+    assert!(rt; are_right(rt.alloc(), BASE, Wanted::NoOrigins));
 }
 
-/// Rides, shares, minutes and origins, at each limit and past it.
-fn fit_up_to_each_limit(networks: &[Network]) -> bool {
-    let study = study_of(networks);
-    let with_rides = |rides| Study { rides, ..study }.fits();
-    let with_share = |share| Study { share, ..study }.fits();
-    let with_minutes = |minutes| {
-        let window = window(0, minutes);
-        Study { window, ..study }.fits()
+/// Whether the study that asks for so many minutes and rides fits.
+fn fits_with(networks: &[Network], minutes: u32, rides: u32) -> bool {
+    let asked = Asked {
+        window: window(0, minutes),
+        rides,
+        ..asked()
     };
-    let rides = !with_rides(0) && with_rides(1) && with_rides(8) && !with_rides(9);
-    let shares = !with_share(0) && with_share(1) && with_share(100) && !with_share(101);
-    let minutes = !with_minutes(0) && with_minutes(1) && with_minutes(1_440);
+    asking(networks, asked).fits()
+}
+
+/// Rides, minutes and origins, at each limit and past it.
+fn fit_up_to_each_limit(networks: &[Network]) -> bool {
+    let fits = |minutes, rides| fits_with(networks, minutes, rides);
+    let rides = !fits(1, 0) && fits(1, 1) && fits(1, 8) && !fits(1, 9);
+    let minutes = !fits(0, 1) && fits(1_440, 1) && !fits(1_441, 1);
     let origins = fits_from(networks, &[StopNo(2)]) && !fits_from(networks, &[StopNo(3)]);
-    rides && shares && minutes && !with_minutes(1_441) && origins
+    rides && minutes && origins
 }
 
 #[test]
 fn fits_up_to_each_limit(rt: HostRuntime) {
-    assert!(rt; are_right(rt.alloc(), BASE, Asked::Limits));
+    assert!(rt; are_right(rt.alloc(), BASE, Wanted::Limits));
+}
+
+/// Shares, and whether a study fits with them.
+const SHARES: [(&[u32], bool); 9] = [
+    (&[], false),
+    (&[0], false),
+    (&[1, 100], true),
+    (&[101], false),
+    (&[25, 50], true),
+    (&[50, 25], false),
+    (&[50, 50], false),
+    (&[1, 2, 3, 4, 5, 6, 7, 8], true),
+    (&[1, 2, 3, 4, 5, 6, 7, 8, 9], false),
+];
+
+/// Limits, and whether a study fits with them.
+const LIMITS: [(&[u32], bool); 6] = [
+    (&[], false),
+    (&[0, u32::MAX], true),
+    (&[1_800, 700], false),
+    (&[1_800, 1_800], false),
+    (&[1, 2, 3, 4, 5, 6, 7, 8], true),
+    (&[1, 2, 3, 4, 5, 6, 7, 8, 9], false),
+];
+
+/// Each of the shares, and each of the limits.
+fn fit_with_theirs(networks: &[Network]) -> bool {
+    for (shares, want) in SHARES {
+        let asked = Asked { shares, ..asked() };
+        if shares_fit(shares) != want || asking(networks, asked).fits() != want {
+            return false;
+        }
+    }
+    for (limits, want) in LIMITS {
+        let asked = Asked { limits, ..asked() };
+        if limits_fit(limits) != want || asking(networks, asked).fits() != want {
+            return false;
+        }
+    }
+    true
+}
+
+#[test]
+fn fits_with_one_to_eight_rising_shares_and_limits(rt: HostRuntime) {
+    assert!(rt; are_right(rt.alloc(), BASE, Wanted::Rising));
 }
 
 /// One opportunity too few, and one too many.
@@ -349,20 +480,14 @@ fn fit_an_opportunity_for_each_stop(networks: &[Network]) -> bool {
 
 #[test]
 fn fits_an_opportunity_for_each_stop(rt: HostRuntime) {
-    assert!(rt; are_right(rt.alloc(), BASE, Asked::Opportunities));
+    assert!(rt; are_right(rt.alloc(), BASE, Wanted::Opportunities));
 }
 
 /// Whether the study of some networks fits with these origins.
 fn fits_from(networks: &[Network], origins: &[StopNo]) -> bool {
     let study = Study {
-        number: 7,
-        networks,
         origins,
-        opportunities: &[1, 1, 1],
-        window: window(480, 1),
-        rides: 2,
-        share: 50,
-        within: 1_800,
+        ..study_of(networks)
     };
     study.fits()
 }
@@ -377,7 +502,7 @@ fn fit_up_to_the_most_origins(alloc: Global, networks: &[Network]) -> bool {
 
 #[test]
 fn fits_up_to_the_most_origins(rt: HostRuntime) {
-    assert!(rt; are_right(rt.alloc(), BASE, Asked::Origins));
+    assert!(rt; are_right(rt.alloc(), BASE, Wanted::Origins));
 }
 
 /// Sixteen of seventeen scenarios, and all.
@@ -388,7 +513,7 @@ fn fit_sixteen_scenarios(networks: &[Network]) -> bool {
 #[test]
 fn fits_sixteen_scenarios(rt: HostRuntime) {
     let one: &[Ride] = &[FIRST];
-    assert!(rt; are_right(rt.alloc(), &[one; 17], Asked::Scenarios));
+    assert!(rt; are_right(rt.alloc(), &[one; 17], Wanted::Scenarios));
 }
 
 #[test]

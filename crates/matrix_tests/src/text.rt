@@ -1,6 +1,6 @@
 //! Worked examples of texts, and texts put out by poor writers.
 
-use collector::{Collector, Matrix, Row};
+use collector::{Cells, Collector, Matrix, Row};
 use gtfs_tables::{Feed, FeedBytes, read_feed};
 use matrix_text::{Labels, TextFault, put_all, write_matrix};
 use std::alloc::{AllocError, Global};
@@ -63,50 +63,76 @@ fn feed_of(alloc: Global, own: Files) -> Option<Feed> {
     read_feed(alloc, &files).ok()
 }
 
-/// A row: scenario, origin, access and cells.
-type Told<'a> = (u32, u32, u64, &'a [Option<u32>]);
+/// What a share gives: scenario, origin, access sums and cells.
+type Told<'a> = (u32, u32, &'a [u64], &'a [Option<u32>]);
 
 /// From A: B after ten minutes and C after thirty.
-const FROM_A: Told<'static> = (0, 0, 3, &[Some(0), Some(600), Some(1_800)]);
+const FROM_A: Told<'static> = (0, 0, &[3], &[Some(0), Some(600), Some(1_800)]);
 
-/// The matrix of three columns and these rows; want of memory is told too where they don't fill it.
-fn matrix_of(
-    alloc: Global,
-    scenarios: u32,
-    origins: u32,
-    rows: &[Told<'_>],
-) -> Result<Matrix, AllocError> {
-    if scenarios > 3 || origins > 3 {
+/// The names of scenarios, the stops of origins, and the shares and limits.
+#[derive(Clone, Copy)]
+struct Named<'a> {
+    scenarios: &'a [&'a [u8]],
+    origins: &'a [StopNo],
+    shares: &'a [u32],
+    limits: &'a [u32],
+}
+
+/// One scenario, and A as the only origin, at half of the minutes and within half an hour.
+const BASE_FROM_A: Named<'static> = Named {
+    scenarios: &[b"base"],
+    origins: &[StopNo(0)],
+    shares: &[50],
+    limits: &[1_800],
+};
+
+/// The row of a scenario and an origin, of what each of its shares gives; want of memory is told too without shares.
+fn row_of(alloc: Global, shares: &[Told<'_>]) -> Result<Row, AllocError> {
+    let Some((scenario, origin, _, _)) = shares.first() else {
+        return Err(AllocError);
+    };
+    let mut list = Vec::with_capacity(alloc, shares.len())?;
+    for (_, _, access, cells) in shares {
+        list.push(Cells {
+            cells: cells.to_vec(alloc)?,
+            access: access.to_vec(alloc)?,
+        })?;
+    }
+    Ok(Row {
+        study: 1,
+        scenario: *scenario,
+        origin: *origin,
+        shares: list,
+    })
+}
+
+/// The matrix of three columns with so many scenarios, origins, shares and limits as are named, of what the shares of each
+/// row give, one after another; want of memory is told too where they don't fill it.
+fn matrix_of(alloc: Global, named: Named<'_>, told: &[Told<'_>]) -> Result<Matrix, AllocError> {
+    let shares = named.shares.len();
+    if named.scenarios.len() > 3 || named.origins.len() > 3 || shares == 0 || shares > 3 {
         return Err(AllocError);
     }
-    let mut collector = Collector::new(alloc, 1, scenarios, origins, 3)?;
-    for (scenario, origin, access, cells) in rows {
-        collector.offer(Row {
-            study: 1,
-            scenario: *scenario,
-            origin: *origin,
-            cells: cells.to_vec(alloc)?,
-            access: *access,
-        });
+    if named.limits.len() > 3 {
+        return Err(AllocError);
+    }
+    let mut collector = Collector::new(
+        alloc,
+        1,
+        named.scenarios.len() as u32,
+        named.origins.len() as u32,
+        3,
+        shares as u32,
+        named.limits.len() as u32,
+    )?;
+    for row in told.chunks(shares) {
+        collector.offer(row_of(alloc, row)?);
     }
     match collector.finish() {
         Ok(matrix) => Ok(matrix),
         Err(_) => Err(AllocError),
     }
 }
-
-/// The names of scenarios and the stops of origins.
-#[derive(Clone, Copy)]
-struct Named<'a> {
-    scenarios: &'a [&'a [u8]],
-    origins: &'a [StopNo],
-}
-
-/// One scenario, and A as the only origin.
-const BASE_FROM_A: Named<'static> = Named {
-    scenarios: &[b"base"],
-    origins: &[StopNo(0)],
-};
 
 /// The names as they stand in labels.
 fn list_of(alloc: Global, names: &[&[u8]]) -> Result<Vec<Vec<u8>>, AllocError> {
@@ -123,12 +149,14 @@ fn write_over<W: Write>(
     feed: &Feed,
     matrix: &Matrix,
     scenarios: &[Vec<u8>],
-    origins: &[StopNo],
+    named: Named<'_>,
     w: &mut W,
 ) -> Result<(), TextFault> {
     let labels = Labels {
         scenarios,
-        origins,
+        origins: named.origins,
+        shares: named.shares,
+        limits: named.limits,
         feed,
     };
     if !labels.fit(matrix) {
@@ -149,25 +177,18 @@ fn write_text<W: Write>(
         return Err(TextFault::Memory);
     };
     match feed_of(alloc, files) {
-        Some(feed) => write_over(alloc, &feed, matrix, &scenarios, named.origins, w),
+        Some(feed) => write_over(alloc, &feed, matrix, &scenarios, named, w),
         None => Err(TextFault::Memory),
     }
 }
 
 /// Whether the matrix of these rows has this text.
-fn gives(
-    alloc: Global,
-    files: Files,
-    shape: (u32, u32),
-    rows: &[Told<'_>],
-    named: Named<'_>,
-    want: &[u8],
-) -> bool {
+fn gives(alloc: Global, files: Files, told: &[Told<'_>], named: Named<'_>, want: &[u8]) -> bool {
     let mut text = Vec::new(alloc);
-    match matrix_of(alloc, shape.0, shape.1, rows) {
+    match matrix_of(alloc, named, told) {
         Ok(matrix) => {
-            let told = write_text(alloc, files, &matrix, named, &mut text);
-            told.is_ok() && text.as_slice() == want
+            let done = write_text(alloc, files, &matrix, named, &mut text);
+            done.is_ok() && text.as_slice() == want
         }
         Err(_) => false,
     }
@@ -179,59 +200,82 @@ fn writes_one_row(rt: HostRuntime) {
         gives(
             rt.alloc(),
             THREE_STOPS,
-            (1, 1),
             &[FROM_A],
             BASE_FROM_A,
-            b"scenario,origin,access,A,B,C\nbase,A,3,0,600,1800\n"
+            b"scenario,origin,share,access_1800,A,B,C\nbase,A,50,3,0,600,1800\n"
         )
     );
 }
 
 #[test]
 fn writes_scenarios_and_their_origins_in_order(rt: HostRuntime) {
-    let rows: [Told<'_>; 9] = [
-        (2, 2, 1, &[None, None, Some(0)]),
+    let told: [Told<'_>; 9] = [
+        (2, 2, &[1], &[None, None, Some(0)]),
         FROM_A,
-        (0, 1, 2, &[None, Some(0), Some(1_800)]),
-        (0, 2, 1, &[None, None, Some(0)]),
-        (1, 0, 2, &[Some(0), Some(600), None]),
-        (1, 1, 1, &[None, Some(0), None]),
-        (1, 2, 1, &[None, None, Some(0)]),
-        (2, 0, 3, &[Some(0), Some(900), Some(1_800)]),
-        (2, 1, 2, &[None, Some(0), Some(1_800)]),
+        (0, 1, &[2], &[None, Some(0), Some(1_800)]),
+        (0, 2, &[1], &[None, None, Some(0)]),
+        (1, 0, &[2], &[Some(0), Some(600), None]),
+        (1, 1, &[1], &[None, Some(0), None]),
+        (1, 2, &[1], &[None, None, Some(0)]),
+        (2, 0, &[3], &[Some(0), Some(900), Some(1_800)]),
+        (2, 1, &[2], &[None, Some(0), Some(1_800)]),
     ];
     let named = Named {
         scenarios: &[b"base", b"cut", b"late"],
         origins: &[StopNo(0), StopNo(1), StopNo(2)],
+        shares: &[50],
+        limits: &[1_800],
     };
-    let want = b"scenario,origin,access,A,B,C
-base,A,3,0,600,1800
-base,B,2,,0,1800
-base,C,1,,,0
-cut,A,2,0,600,
-cut,B,1,,0,
-cut,C,1,,,0
-late,A,3,0,900,1800
-late,B,2,,0,1800
-late,C,1,,,0
+    let want = b"scenario,origin,share,access_1800,A,B,C
+base,A,50,3,0,600,1800
+base,B,50,2,,0,1800
+base,C,50,1,,,0
+cut,A,50,2,0,600,
+cut,B,50,1,,0,
+cut,C,50,1,,,0
+late,A,50,3,0,900,1800
+late,B,50,2,,0,1800
+late,C,50,1,,,0
 ";
-    assert!(rt; gives(rt.alloc(), THREE_STOPS, (3, 3), &rows, named, want));
+    assert!(rt; gives(rt.alloc(), THREE_STOPS, &told, named, want));
+}
+
+#[test]
+fn writes_a_line_for_each_share_and_a_sum_for_each_limit(rt: HostRuntime) {
+    let told: [Told<'_>; 4] = [
+        (0, 1, &[1, 2], &[None, Some(0), Some(900)]),
+        (0, 1, &[1, 1], &[None, Some(0), None]),
+        (0, 0, &[2, 2], &[Some(0), Some(660), Some(1_860)]),
+        (0, 0, &[1, 1], &[Some(0), None, None]),
+    ];
+    let named = Named {
+        scenarios: &[b"base"],
+        origins: &[StopNo(0), StopNo(1)],
+        shares: &[50, 100],
+        limits: &[700, 1_800],
+    };
+    let want = b"scenario,origin,share,access_700,access_1800,A,B,C
+base,A,50,2,2,0,660,1860
+base,A,100,1,1,0,,
+base,B,50,1,2,,0,900
+base,B,100,1,1,,0,
+";
+    assert!(rt; gives(rt.alloc(), THREE_STOPS, &told, named, want));
 }
 
 #[test]
 fn tells_origins_by_their_stops(rt: HostRuntime) {
     let named = Named {
-        scenarios: &[b"base"],
         origins: &[StopNo(2)],
+        ..BASE_FROM_A
     };
     assert!(rt;
         gives(
             rt.alloc(),
             THREE_STOPS,
-            (1, 1),
-            &[(0, 0, 1, &[None, None, Some(0)])],
+            &[(0, 0, &[1], &[None, None, Some(0)])],
             named,
-            b"scenario,origin,access,A,B,C\nbase,C,1,,,0\n"
+            b"scenario,origin,share,access_1800,A,B,C\nbase,C,50,1,,,0\n"
         )
     );
 }
@@ -239,34 +283,37 @@ fn tells_origins_by_their_stops(rt: HostRuntime) {
 #[test]
 fn writes_the_header_alone_without_origins(rt: HostRuntime) {
     let named = Named {
-        scenarios: &[b"base"],
         origins: &[],
+        ..BASE_FROM_A
     };
-    let want = b"scenario,origin,access,A,B,C\n";
-    assert!(rt; gives(rt.alloc(), THREE_STOPS, (1, 0), &[], named, want));
+    let want = b"scenario,origin,share,access_1800,A,B,C\n";
+    assert!(rt; gives(rt.alloc(), THREE_STOPS, &[], named, want));
 }
 
 #[test]
 fn quotes_where_it_is_needed(rt: HostRuntime) {
     let named = Named {
         scenarios: &[b"a \"b\""],
-        origins: &[StopNo(0)],
+        ..BASE_FROM_A
     };
-    let want = b"scenario,origin,access,\"A,1\",B,C\n\"a \"\"b\"\"\",\"A,1\",3,0,600,1800\n";
-    assert!(rt; gives(rt.alloc(), QUOTED, (1, 1), &[FROM_A], named, want));
+    let want =
+        b"scenario,origin,share,access_1800,\"A,1\",B,C\n\"a \"\"b\"\"\",\"A,1\",50,3,0,600,1800\n";
+    assert!(rt; gives(rt.alloc(), QUOTED, &[FROM_A], named, want));
 }
 
 /// Whether the row from A is written whole under a scenario's name of so many bytes.
 fn gives_a_line_longer_than(alloc: Global, bytes: usize) -> Result<bool, AllocError> {
     let name = vec![in alloc; b'x'; bytes]?;
-    let mut want = Vec::from_slice(alloc, b"scenario,origin,access,A,B,C\n")?;
+    let mut want = Vec::from_slice(alloc, b"scenario,origin,share,access_1800,A,B,C\n")?;
     want.extend_from_slice(&name)?;
-    want.extend_from_slice(b",A,3,0,600,1800\n")?;
+    want.extend_from_slice(b",A,50,3,0,600,1800\n")?;
     let named = Named {
         scenarios: &[&name],
         origins: &[StopNo(0)],
+        shares: &[50],
+        limits: &[1_800],
     };
-    Ok(gives(alloc, THREE_STOPS, (1, 1), &[FROM_A], named, &want))
+    Ok(gives(alloc, THREE_STOPS, &[FROM_A], named, &want))
 }
 
 #[test]
@@ -275,9 +322,12 @@ fn writes_a_line_of_more_than_64_kib(rt: HostRuntime) {
 }
 
 /// Whether these labels are told to fit the matrix of the row from A: none without memory.
-fn fit(alloc: Global, files: Files, scenarios: &[&[u8]], origins: &[StopNo]) -> Option<bool> {
-    match (matrix_of(alloc, 1, 1, &[FROM_A]), list_of(alloc, scenarios)) {
-        (Ok(matrix), Ok(scenarios)) => fit_over(alloc, files, &scenarios, origins, &matrix),
+fn fit(alloc: Global, files: Files, named: Named<'_>) -> Option<bool> {
+    match (
+        matrix_of(alloc, BASE_FROM_A, &[FROM_A]),
+        list_of(alloc, named.scenarios),
+    ) {
+        (Ok(matrix), Ok(scenarios)) => fit_over(alloc, files, &scenarios, named, &matrix),
         _ => None,
     }
 }
@@ -287,39 +337,50 @@ fn fit_over(
     alloc: Global,
     files: Files,
     scenarios: &[Vec<u8>],
-    origins: &[StopNo],
+    named: Named<'_>,
     matrix: &Matrix,
 ) -> Option<bool> {
     match feed_of(alloc, files) {
-        Some(feed) => Some(labels_fit(scenarios, origins, &feed, matrix)),
+        Some(feed) => Some(labels_fit(scenarios, named, &feed, matrix)),
         None => None,
     }
 }
 
 /// Whether these labels are told to fit a matrix.
-fn labels_fit(scenarios: &[Vec<u8>], origins: &[StopNo], feed: &Feed, matrix: &Matrix) -> bool {
+fn labels_fit(scenarios: &[Vec<u8>], named: Named<'_>, feed: &Feed, matrix: &Matrix) -> bool {
     let labels = Labels {
         scenarios,
-        origins,
+        origins: named.origins,
+        shares: named.shares,
+        limits: named.limits,
         feed,
     };
     labels.fit(matrix)
 }
 
-/// Labels: the files, the names of scenarios, the origins, and whether they fit the matrix of the row from A.
-const LABELS: [(Files, &[&[u8]], &[StopNo], bool); 6] = [
-    (THREE_STOPS, &[b"base"], &[StopNo(0)], true),
-    (THREE_STOPS, &[], &[StopNo(0)], false),
-    (THREE_STOPS, &[b"base", b"cut"], &[StopNo(0)], false),
-    (THREE_STOPS, &[b"base"], &[StopNo(3)], false),
-    (THREE_STOPS, &[b"base"], &[], false),
-    (TWO_STOPS, &[b"base"], &[StopNo(0)], false),
+/// Labels: the names of scenarios, the origins, the shares, the limits, and whether they fit the matrix of the row from A.
+const LABELS: [(&[&[u8]], &[StopNo], &[u32], &[u32], bool); 9] = [
+    (&[b"base"], &[StopNo(0)], &[50], &[1_800], true),
+    (&[], &[StopNo(0)], &[50], &[1_800], false),
+    (&[b"base", b"cut"], &[StopNo(0)], &[50], &[1_800], false),
+    (&[b"base"], &[StopNo(3)], &[50], &[1_800], false),
+    (&[b"base"], &[], &[50], &[1_800], false),
+    (&[b"base"], &[StopNo(0)], &[], &[1_800], false),
+    (&[b"base"], &[StopNo(0)], &[50, 75], &[1_800], false),
+    (&[b"base"], &[StopNo(0)], &[50], &[], false),
+    (&[b"base"], &[StopNo(0)], &[50], &[700, 1_800], false),
 ];
 
 /// Whether each of the labels is told to fit, or not to, as it should.
 fn labels_are_told(alloc: Global) -> bool {
-    for (files, scenarios, origins, want) in &LABELS {
-        if fit(alloc, *files, scenarios, origins) != Some(*want) {
+    for (scenarios, origins, shares, limits, want) in &LABELS {
+        let named = Named {
+            scenarios,
+            origins,
+            shares,
+            limits,
+        };
+        if fit(alloc, THREE_STOPS, named) != Some(*want) {
             return false;
         }
     }
@@ -329,6 +390,7 @@ fn labels_are_told(alloc: Global) -> bool {
 #[test]
 fn labels_fit_their_own_matrix_alone(rt: HostRuntime) {
     assert!(rt; labels_are_told(rt.alloc()));
+    assert_eq!(rt; fit(rt.alloc(), TWO_STOPS, BASE_FROM_A), Some(false));
 }
 
 /// Takes at most so many bytes at a call, and fails after so many calls.
@@ -368,7 +430,7 @@ fn leaves(
         at_once,
         calls,
     };
-    match matrix_of(alloc, 1, 1, &[FROM_A]) {
+    match matrix_of(alloc, BASE_FROM_A, &[FROM_A]) {
         Ok(matrix) => {
             let done = write_text(alloc, THREE_STOPS, &matrix, BASE_FROM_A, &mut writer);
             done == told && writer.taken.as_slice() == want
@@ -380,8 +442,8 @@ fn leaves(
 #[test]
 fn leaves_a_prefix_where_the_writer_fails(rt: HostRuntime) {
     let fault = Err(TextFault::Write);
-    let header = b"scenario,origin,access,A,B,C\n";
-    let all = b"scenario,origin,access,A,B,C\nbase,A,3,0,600,1800\n";
+    let header = b"scenario,origin,share,access_1800,A,B,C\n";
+    let all = b"scenario,origin,share,access_1800,A,B,C\nbase,A,50,3,0,600,1800\n";
     assert!(rt; leaves(rt.alloc(), 10, 1, fault, b"scenario,o"));
     assert!(rt; leaves(rt.alloc(), 1, 999, Ok(()), all));
     assert!(rt; leaves(rt.alloc(), 99, 1, fault, header));

@@ -1,4 +1,4 @@
-//! The text of a matrix: comma-separated records, a header and then one line per scenario and origin.
+//! The text of a matrix: comma-separated records, a header and then one line per scenario, origin and share.
 //!
 //! - `text`: [`write_matrix`], line after line.
 //! - `labels`: [`Labels`], what names the rows and the columns.

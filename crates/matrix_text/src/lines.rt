@@ -2,7 +2,7 @@
 ghost use Rattle.std.specs.Prelude.{◌≡◌, ◌++◌, ◌∷◌, [], decimal, OnOk, OnErr, IfOk, IfErr};
 ghost use Rattle.std.specs.Io.KnownBytes.{Appends};
 ghost use Rattle.csv.specs.Records.{fields_of};
-ghost use Rattle.matrix_text.specs.Text.{line_text, cell_field};
+ghost use Rattle.matrix_text.specs.Text.{line_text, limit_field, cell_field};
 ghost use Rattle.matrix_text.specs.Prefixes.{PutsPrefix};
 
 use crate::faults::TextFault;
@@ -73,6 +73,16 @@ impl Line {
         self.push(Buffer::new().format(number).as_bytes())
     }
 
+    /// Puts the name of a limit's column last.
+    pub fn push_limit(&mut self, limit: u32) -> Result<(), TextFault>
+        ensures { OnOk result (self.new ≡ self.old ++ limit_field limit ∷ []) }
+    {
+        match limit_name(self.alloc, limit) {
+            Ok(name) => self.push(&name),
+            Err(_) => Err(TextFault::Memory),
+        }
+    }
+
     /// Puts a cell last: its digits, or an empty field where it is absent.
     pub fn push_cell(&mut self, cell: Option<u32>) -> Result<(), TextFault>
         ensures { OnOk result (self.new ≡ self.old ++ cell_field cell ∷ []) }
@@ -98,6 +108,15 @@ impl Line {
         self.text = text;
         Ok(())
     }
+}
+
+/// The name of a limit's column.
+fn limit_name(alloc: Global, limit: u32) -> Result<Vec<u8>, AllocError>
+    ensures { IfOk result (λ name. name.items ≡ limit_field limit) }
+{
+    let mut name = Vec::from_slice(alloc, b"access_")?;
+    name.extend_from_slice(Buffer::new().format(limit).as_bytes())?;
+    Ok(name)
 }
 
 /// The text of a record, in the room of a text that isn't needed any more.

@@ -1,13 +1,13 @@
 //! The text of a matrix, line after line.
-ghost use Rattle.std.specs.Prelude.{◌≡◌, ◌<◌, ◌++◌, map, OnOk, OnErr};
+ghost use Rattle.std.specs.Prelude.{◌≡◌, ◌<◌, ◌++◌, map, decimal, OnOk, OnErr};
 ghost use Rattle.std.specs.Io.KnownBytes.{Appends};
-ghost use Rattle.matrix_text.specs.Text.{labels_of, LabelsFit, header_fields, row_fields, cell_field, line_text, line_at, scenario_text, rows_text, matrix_text};
+ghost use Rattle.matrix_text.specs.Text.{labels_of, LabelsFit, limit_field, header_fields, share_fields, cell_field, line_text, row_lines, lines_at, scenario_text, rows_text, matrix_text};
 ghost use Rattle.matrix_text.specs.Prefixes.{PutsPrefix};
 
 use crate::faults::TextFault;
 use crate::labels::Labels;
 use crate::lines::Line;
-use collector::{Matrix, Row};
+use collector::{Cells, Matrix};
 use gtfs_tables::Feed;
 use std::alloc::Global;
 use std::io::Write;
@@ -15,10 +15,11 @@ use timetable::StopNo;
 
 /// Writes the text of a matrix, where the labels fit it.
 ///
-/// The header has the fields `scenario`, `origin`, `access` and the stops' identifiers in order. A record follows for
-/// each row, scenarios in order, and each scenario's origins in order: the scenario's name, the identifier of the
-/// origin's stop, the access, and the cells in seconds, an absent one as an empty field. Fields are quoted where commas,
-/// quotes or line ends in them ask for it (RFC 4180), and each line ends with LF.
+/// The header has the fields `scenario`, `origin`, `share`, one for each limit, as `access_1800`, and the stops' identifiers
+/// in order. Records follow for each row, scenarios in order, and each scenario's origins in order; a row has one for each
+/// share, in order: the scenario's name, the identifier of the origin's stop, the share, an access for each limit, and the
+/// cells in seconds, an absent one as an empty field. Fields are quoted where commas, quotes or line ends in them ask for
+/// it (RFC 4180), and each line ends with LF.
 ///
 /// `Write` comes where the writer fails or takes nothing, `Memory` where a line found no room; then a prefix of the text
 /// is out.
@@ -36,30 +37,46 @@ pub fn write_matrix<W: Write>(
         (PutsPrefix (W.contents w.old) (W.contents w.new) (matrix_text (labels_of labels.now) matrix.now)) }
 {
     let mut line = Line::new(alloc);
-    write_header(&mut line, labels.feed, w)?;
+    write_header(&mut line, labels.limits, labels.feed, w)?;
     write_rows(&mut line, matrix, labels, w)
 }
 
 /// Writes the header.
-fn write_header<W: Write>(line: &mut Line, feed: &Feed, w: &mut W) -> Result<(), TextFault>
+fn write_header<W: Write>(
+    line: &mut Line,
+    limits: &[u32],
+    feed: &Feed,
+    w: &mut W,
+) -> Result<(), TextFault>
     ensures ok { OnOk result
-        (Appends (W.contents w.old) (W.contents w.new) (line_text (header_fields feed.now.stops))) }
+        (Appends (W.contents w.old) (W.contents w.new) (line_text (header_fields limits.now feed.now.stops))) }
     ensures err { OnErr result
-        (PutsPrefix (W.contents w.old) (W.contents w.new) (line_text (header_fields feed.now.stops))) }
+        (PutsPrefix (W.contents w.old) (W.contents w.new) (line_text (header_fields limits.now feed.now.stops))) }
 {
-    fill_header(line, feed)?;
+    fill_header(line, limits, feed)?;
     line.put(w)
 }
 
 /// Makes the line the header.
-fn fill_header(line: &mut Line, feed: &Feed) -> Result<(), TextFault>
-    ensures { OnOk result (line.new ≡ header_fields feed.now.stops) }
+fn fill_header(line: &mut Line, limits: &[u32], feed: &Feed) -> Result<(), TextFault>
+    ensures { OnOk result (line.new ≡ header_fields limits.now feed.now.stops) }
 {
     line.clear();
     line.push(b"scenario")?;
     line.push(b"origin")?;
-    line.push(b"access")?;
+    line.push(b"share")?;
+    push_limits(line, limits)?;
     push_stops(line, feed)
+}
+
+/// Puts the names of the limits' columns last.
+fn push_limits(line: &mut Line, limits: &[u32]) -> Result<(), TextFault>
+    ensures { OnOk result (line.new ≡ line.old ++ map limit_field limits.now) }
+{
+    for limit in limits {
+        line.push_limit(*limit)?;
+    }
+    Ok(())
 }
 
 /// Puts the stops' identifiers last.
@@ -114,7 +131,7 @@ fn write_scenario<W: Write>(
     Ok(())
 }
 
-/// Writes the row of a scenario and an origin.
+/// Writes the lines of a scenario and an origin.
 fn write_row<W: Write>(
     line: &mut Line,
     matrix: &Matrix,
@@ -127,25 +144,80 @@ fn write_row<W: Write>(
     requires scenario { scenario < matrix.now.scenarios }
     requires origin { origin < matrix.now.origins }
     ensures ok { OnOk result
-        (Appends (W.contents w.old) (W.contents w.new) (line_at (labels_of labels.now) matrix.now scenario origin)) }
+        (Appends (W.contents w.old) (W.contents w.new) (lines_at (labels_of labels.now) matrix.now scenario origin)) }
     ensures err { OnErr result
-        (PutsPrefix (W.contents w.old) (W.contents w.new) (line_at (labels_of labels.now) matrix.now scenario origin)) }
+        (PutsPrefix (W.contents w.old) (W.contents w.new) (lines_at (labels_of labels.now) matrix.now scenario origin)) }
 {
     let name = &labels.scenarios[scenario as usize];
     let stop = labels.feed.stop_id(labels.origins[origin as usize]);
-    fill_row(line, name, stop, matrix.row(scenario, origin))?;
+    let row = matrix.row(scenario, origin);
+    write_shares(line, name, stop, labels.shares, &row.shares, w)
+}
+
+/// Writes a line for each share, and what it gives.
+fn write_shares<W: Write>(
+    line: &mut Line,
+    name: &[u8],
+    stop: &[u8],
+    shares: &[u32],
+    rows: &[Cells],
+    w: &mut W,
+) -> Result<(), TextFault>
+    ensures ok { OnOk result
+        (Appends (W.contents w.old) (W.contents w.new) (row_lines name.now stop.now shares.now rows.now)) }
+    ensures err { OnErr result
+        (PutsPrefix (W.contents w.old) (W.contents w.new) (row_lines name.now stop.now shares.now rows.now)) }
+{
+    for (share, given) in shares.iter().zip(rows) {
+        write_share(line, name, stop, *share, given, w)?;
+    }
+    Ok(())
+}
+
+/// Writes the line of a share.
+fn write_share<W: Write>(
+    line: &mut Line,
+    name: &[u8],
+    stop: &[u8],
+    share: u32,
+    given: &Cells,
+    w: &mut W,
+) -> Result<(), TextFault>
+    ensures ok { OnOk result
+        (Appends (W.contents w.old) (W.contents w.new) (line_text (share_fields name.now stop.now share given.now))) }
+    ensures err { OnErr result
+        (PutsPrefix (W.contents w.old) (W.contents w.new) (line_text (share_fields name.now stop.now share given.now))) }
+{
+    fill_share(line, name, stop, share, given)?;
     line.put(w)
 }
 
-/// Makes the line that of a row.
-fn fill_row(line: &mut Line, name: &[u8], stop: &[u8], row: &Row) -> Result<(), TextFault>
-    ensures { OnOk result (line.new ≡ row_fields name.now stop.now row.now) }
+/// Makes the line that of a share.
+fn fill_share(
+    line: &mut Line,
+    name: &[u8],
+    stop: &[u8],
+    share: u32,
+    given: &Cells,
+) -> Result<(), TextFault>
+    ensures { OnOk result (line.new ≡ share_fields name.now stop.now share given.now) }
 {
     line.clear();
     line.push(name)?;
     line.push(stop)?;
-    line.push_number(row.access)?;
-    push_cells(line, &row.cells)
+    line.push_number(share)?;
+    push_access(line, &given.access)?;
+    push_cells(line, &given.cells)
+}
+
+/// Puts the access sums last.
+fn push_access(line: &mut Line, access: &[u64]) -> Result<(), TextFault>
+    ensures { OnOk result (line.new ≡ line.old ++ map decimal access.now) }
+{
+    for sum in access {
+        line.push_number(*sum)?;
+    }
+    Ok(())
 }
 
 /// Puts the cells last.

@@ -23,10 +23,10 @@ use timetable::{Feet, Network};
 use workers::{Study, one_thread};
 
 /// Of a hundred minutes, for how many a cell's travel time must suffice.
-const SHARE: u32 = 50;
+const SHARES: &[u32] = &[50];
 
 /// The longest travel time, in seconds, at which a stop counts for access.
-const WITHIN: u32 = 1800;
+const LIMITS: &[u32] = &[1800];
 
 /// Times the stages of a study over the feed of a folder. The own files are that of footpaths, that of origins, and those of
 /// scenarios.
@@ -192,7 +192,7 @@ fn time_part(
     }
 }
 
-// The networks are made: the durations are computed, with their cells.
+// The networks are made: the durations are computed, with their cells. Each stop counts for one opportunity.
 fn time_durations(
     rt: &HostRuntime,
     asked: Asked,
@@ -201,15 +201,30 @@ fn time_durations(
     networks: &[Network],
 ) -> io::Result<()> {
     let opportunities = vec![in rt.alloc(); 1; feed.stop_count() as usize]?;
+    let query = workers::Asked {
+        window: asked.window,
+        rides: asked.rides,
+        shares: SHARES,
+        limits: LIMITS,
+    };
+    time_query(rt, query, feed, tables, networks, &opportunities)
+}
+
+// What is asked of every network is put together. One lifetime for all that the study holds: the prover asks for it.
+fn time_query<'a>(
+    rt: &HostRuntime,
+    query: workers::Asked<'a>,
+    feed: &Feed,
+    tables: &'a Tables,
+    networks: &'a [Network],
+    opportunities: &'a [u32],
+) -> io::Result<()> {
     let study = Study {
         number: 0,
         networks,
         origins: tables.origins.as_slice(),
-        opportunities: opportunities.as_slice(),
-        window: asked.window,
-        rides: asked.rides,
-        share: SHARE,
-        within: WITHIN,
+        opportunities,
+        asked: query,
     };
     time_rows(rt, feed, tables, &study)
 }
@@ -242,6 +257,8 @@ fn time_text(
     let labels = Labels {
         scenarios: names.as_slice(),
         origins: tables.origins.as_slice(),
+        shares: SHARES,
+        limits: LIMITS,
         feed,
     };
     time_writing(rt, &labels, matrix, start)

@@ -9,16 +9,16 @@ use Rattle.workers.specs.Matrices.{IsMatrix}
 use Rattle.workers.specs.Study.{StudyData}
 use Rattle.matrix_text.specs.Text.{matrix_text}
 use Rattle.studies.specs.declared.fault.StudyFault.TheVariants as fault
-use Rattle.studies.specs.declared.settings.Settings.{Settings}
 use Rattle.studies.specs.Inputs.{InputFiles}
 use Rattle.studies.specs.Names.{name_faults}
 use Rattle.studies.specs.Laws.{RefusedHaveNoMeaning, TextsAreUnique}
 use Rattle.studies.specs.Parts.{day_faults, direct_in, edit_faults, feed_in, labels_in, network_faults, networks_of, runs_in, scenarios_in, study_in, table_faults}
+use Rattle.studies.specs.Settings.{SettingsData}
 use Rattle.studies.specs.Study.{Means}
 use Rattle.studies.proofs.Firsts.{no_first}
 
 -- the files mean one study
-one_study : ClosuresAreUnique → (i : InputFiles) (s : Settings) (a b : StudyData) → Means i s a → Means i s b → a ≡ b
+one_study : ClosuresAreUnique → (i : InputFiles) (s : SettingsData) (a b : StudyData) → Means i s a → Means i s b → a ≡ b
 one_study once i s a b h g =
     let feet : h.made.feet ≡ g.made.feet = once (direct_in i) s.walk h.made.feet g.made.feet h.made.walked.walks.closed g.made.walked.walks.closed in
     let networks : h.networks ≡ g.networks =
@@ -29,7 +29,7 @@ pub texts_unique : ClosuresAreUnique → MatricesAreUnique → TextsAreUnique
 texts_unique closures matrices i s text other h g =
     let study : h.study ≡ g.study = one_study closures i s h.study g.study h.means g.means in
     let matrix : h.matrix ≡ g.matrix = matrices h.study h.matrix g.matrix h.is_matrix (subst (λ (x : StudyData). IsMatrix x g.matrix) (sym study) g.is_matrix) in
-    h.text_is ∙ ap (λ (m : MatrixData). matrix_text (labels_in i) m) matrix ∙ sym g.text_is
+    h.text_is ∙ ap (λ (m : MatrixData). matrix_text (labels_in i s) m) matrix ∙ sym g.text_is
 
 pub refused_meaningless : TooManyHaveNoClosure → RefusedHaveNoMeaning
 refused_meaningless none i s fault.Scenarios study r m = let few = m.made.walked.dated.edited.read.named.few in omega (arith, r, few)

@@ -23,20 +23,19 @@ use Rattle.footpaths.specs.Closure.{IsClosure, IsFootFault, HasTooMany}
 use Rattle.scenarios.specs.ScenarioData.{ScenarioData}
 use Rattle.scenarios.specs.Files.{scenario_in}
 use Rattle.scenarios.specs.Networks.{net_of}
-use Rattle.rounds.specs.declared.window.Window.{Window}
 use Rattle.rounds.specs.Window.{Fits}
 use Rattle.collector.specs.Places.{MatrixData}
 use Rattle.workers.specs.Matrices.{IsMatrix}
-use Rattle.workers.specs.Study.{StudyData, StudyFits}
+use Rattle.workers.specs.Study.{Query, StudyData, StudyFits}
 use Rattle.matrix_text.specs.Text.{LabelData, matrix_text}
 use Rattle.studies.specs.declared.fault.StudyFault.{StudyFault}
 use Rattle.studies.specs.declared.fault.StudyFault.TheVariants as fault
-use Rattle.studies.specs.declared.settings.Settings.{Settings}
+use Rattle.studies.specs.declared.settings.Settings.TheInside.{Inside}
 use Rattle.studies.specs.Inputs.{InputFiles}
 use Rattle.studies.specs.declared.parts.Tables.{Tables}
 use Rattle.studies.specs.NamedFile.{NamedBytes}
 use Rattle.studies.specs.Names.{names_of}
-use Rattle.studies.specs.Settings.{SettingsFit, window_of}
+use Rattle.studies.specs.Settings.{SettingsData, SettingsFit, query_of, window_of}
 use Rattle.studies.specs.Parts.{direct_in, edit_faults, feed_in, labels_in, network_faults, networks_of, opportunities_in, origins_in, own_faults, runs_in, scenarios_in, study_in}
 use Rattle.work_book.specs.declared.rule.View.{View}
 use Rattle.workers.specs.Outcomes.{IsFaultOf}
@@ -46,7 +45,23 @@ use Rattle.studies.specs.Stages.{AreTables, IsFeedOf, TellsEdits, TellsNames, Te
 use Rattle.studies.specs.Study.{AreDated, AreEdited, AreNamed, AreNetworks, AreRead, AreWalked, IsFaultOfRun, IsStudyText, Tells}
 use Rattle.studies.proofs.Firsts.{first_left, first_right, none_of_both}
 
-module _ (i : InputFiles) (s : Settings) where
+-- settings, by their fields
+abbrev pub seen : Inside → SettingsData
+seen s = record {
+  date = s.date;
+  back = s.back;
+  ahead = s.ahead;
+  first = s.first;
+  minutes = s.minutes;
+  rides = s.rides;
+  walk = s.walk;
+  shares = s.shares.items;
+  withins = s.withins.items;
+  workers = s.workers;
+  tries = s.tries;
+}
+
+module _ (i : InputFiles) (s : SettingsData) where
   pub names_told : (e : StudyFault) → TellsNames e i.scenarios → Tells e i s
   names_told fault.Scenarios h = inr h
   names_told (fault.Name k) h = inr h
@@ -127,7 +142,7 @@ module _ (i : InputFiles) (s : Settings) where
   text_told (Err fault.Memory) h = inl h
 
 -- the parts before the networks, as they are of the files
-module _ (i : InputFiles) (s : Settings) (feed : FeedData) (runs : List Run) (feet : FeetData) (scenarios : List ScenarioData)
+module _ (i : InputFiles) (s : SettingsData) (feed : FeedData) (runs : List Run) (feet : FeetData) (scenarios : List ScenarioData)
     (walked : AreWalked i s feet) (feed_is : feed ≡ feed_in i) (runs_are : runs ≡ days.runs_of feed (day_number s.date) s.back s.ahead)
     (scenarios_are : scenarios ≡ scenarios_in i) where
   runs_are_in : runs ≡ runs_in i s
@@ -164,25 +179,25 @@ module _ (i : InputFiles) (s : Settings) (feed : FeedData) (runs : List Run) (fe
   networks_made items (Err e) none is = none
 
 -- a study of these parts
-abbrev pub study_with : Settings → Window → List Net → List StopNo → List ℕ → StudyData
-study_with s window networks origins opportunities = record {
+abbrev pub study_with : Query → List Net → List StopNo → List ℕ → StudyData
+study_with query networks origins opportunities = record {
   number = 0;
   networks = networks;
   origins = origins;
   opportunities = opportunities;
-  query = record { window = window; rides = s.rides; share = s.share; within = s.within };
+  query = query;
 }
 
 -- the study that is computed is the one that the files mean
-pub study_is : (i : InputFiles) (s : Settings) (networks : List Net) (origins : List StopNo) (opportunities : List ℕ) (window : Window)
-    → origins ≡ origins_in i → opportunities ≡ opportunities_in i → window ≡ window_of s → study_with s window networks origins opportunities ≡ study_in i s networks
-study_is i s networks origins opportunities window p q w =
-    ap (λ (x : List StopNo). study_with s window networks x opportunities) p
-    ∙ ap (λ (x : List ℕ). study_with s window networks (origins_in i) x) q
-    ∙ ap (λ (x : Window). study_with s x networks (origins_in i) (opportunities_in i)) w
+pub study_is : (i : InputFiles) (s : SettingsData) (networks : List Net) (origins : List StopNo) (opportunities : List ℕ) (query : Query)
+    → origins ≡ origins_in i → opportunities ≡ opportunities_in i → query ≡ query_of s → study_with query networks origins opportunities ≡ study_in i s networks
+study_is i s networks origins opportunities query p q asked =
+    ap (λ (x : List StopNo). study_with query networks x opportunities) p
+    ∙ ap (λ (x : List ℕ). study_with query networks (origins_in i) x) q
+    ∙ ap (λ (x : Query). study_with x networks (origins_in i) (opportunities_in i)) asked
 
-pub text_made : {V : Type 0} (items : V → List ℕ) (r : Result V StudyFault) (i : InputFiles) (s : Settings) (networks : List Net) (study : StudyData) (matrix : MatrixData)
-    → AreNetworks i s networks → study ≡ study_in i s networks → IsMatrix study matrix → IfOk r (λ v. items v ≡ matrix_text (labels_in i) matrix)
+pub text_made : {V : Type 0} (items : V → List ℕ) (r : Result V StudyFault) (i : InputFiles) (s : SettingsData) (networks : List Net) (study : StudyData) (matrix : MatrixData)
+    → AreNetworks i s networks → study ≡ study_in i s networks → IsMatrix study matrix → IfOk r (λ v. items v ≡ matrix_text (labels_in i s) matrix)
     → IfOk r (λ v. IsStudyText i s (items v))
 text_made items (Ok v) i s networks study matrix made is is_matrix text =
     record { study = study; matrix = matrix; means = record { networks = networks; made = made; study_is = is }; is_matrix = is_matrix; text_is = text }
@@ -198,13 +213,13 @@ scenario_count i =
     ap suc (length-map i.scenarios scenario) ∙ one_first (length i.scenarios)
 
 -- there is a network for each scenario
-pub network_count : (i : InputFiles) (s : Settings) (networks : List Net) → AreNetworks i s networks → length networks ≡ length i.scenarios + 1
+pub network_count : (i : InputFiles) (s : SettingsData) (networks : List Net) → AreNetworks i s networks → length networks ≡ length i.scenarios + 1
 network_count i s networks made =
     let network : ScenarioData → Net = λ x. net_of (feed_in i) x (runs_in i s) made.feet in
     ap length made.networks_are ∙ length-map (scenarios_in i) network ∙ scenario_count i
 
 -- each network has the feed's stops
-pub network_stops : (i : InputFiles) (s : Settings) (networks : List Net) → AreNetworks i s networks → All (λ n. n.stops ≡ length (feed_in i).stops) networks
+pub network_stops : (i : InputFiles) (s : SettingsData) (networks : List Net) → AreNetworks i s networks → All (λ n. n.stops ≡ length (feed_in i).stops) networks
 network_stops i s networks made =
     subst (All (λ (n : Net). n.stops ≡ length (feed_in i).stops)) (sym made.networks_are) (of_all (scenarios_in i))
   where
@@ -214,7 +229,7 @@ network_stops i s networks made =
         All-cons (λ (n : Net). n.stops ≡ length (feed_in i).stops) (net_of (feed_in i) x (runs_in i s) made.feet) (networks_of (feed_in i) (runs_in i s) made.feet xs) refl (of_all xs)
 
 -- the window of settings that fit is on the axis
-window_fits : (s : Settings) → SettingsFit s → Fits (window_of s)
+window_fits : (s : SettingsData) → SettingsFit s → Fits (window_of s)
 window_fits s fits = record {
   some = fits.some_minutes;
   few = omega (arith, fits.one_day);
@@ -222,10 +237,10 @@ window_fits s fits = record {
 }
 
 -- the study is within the limits
-pub study_fits : (i : InputFiles) (s : Settings) (feed : FeedData) (t : Tables) (networks : List Net) (origins : List StopNo) (opportunities : List ℕ) (window : Window)
-    → SettingsFit s → IsFeed feed → feed ≡ feed_in i → AreTables i feed t → AreNetworks i s networks → origins ≡ t.origins.items → opportunities ≡ t.opportunities.items → window ≡ window_of s
-    → StudyFits (study_with s window networks origins opportunities)
-study_fits i s feed t networks origins opportunities window fits is_feed is tables made p q w =
+pub study_fits : (i : InputFiles) (s : SettingsData) (feed : FeedData) (t : Tables) (networks : List Net) (origins : List StopNo) (opportunities : List ℕ) (query : Query)
+    → SettingsFit s → IsFeed feed → feed ≡ feed_in i → AreTables i feed t → AreNetworks i s networks → origins ≡ t.origins.items → opportunities ≡ t.opportunities.items → query ≡ query_of s
+    → StudyFits (study_with query networks origins opportunities)
+study_fits i s feed t networks origins opportunities query fits is_feed is tables made p q asked =
     let count : length networks ≡ length i.scenarios + 1 = network_count i s networks made in
     let few_files : length i.scenarios ≤ 15 = made.walked.dated.edited.read.named.few in
     let stops : length opportunities ≡ length feed.stops = ap length q ∙ tables.count in
@@ -233,30 +248,34 @@ study_fits i s feed t networks origins opportunities window fits is_feed is tabl
     let some : length origins ≡ length t.origins.items = ap length p in
     let few : length t.origins.items ≤ length feed.stops = tables.few_origins in
     let limit : length feed.stops ≤ 65535 = is_feed.few_stops in
-    record {
+    subst (λ (x : Query). StudyFits (study_with x networks origins opportunities)) (sym asked)
+    (record {
       few_networks = omega (arith, count, few_files);
       stops = subst (λ (n : ℕ). All (λ (x : Net). x.stops ≡ n) networks) (sym same) (network_stops i s networks made);
       few_origins = omega (arith, some, few, limit);
       origins = subst (λ (n : ℕ). All (λ (o : StopNo). o.0 < n) origins) (sym stops)
           (subst (λ (l : List StopNo). All (λ (o : StopNo). o.0 < length feed.stops) l) (sym p) tables.in_range);
-      window = subst Fits (sym w) (window_fits s fits);
+      window = window_fits s fits;
       some_rides = fits.some_rides;
       few_rides = fits.few_rides;
-      some_share = fits.some_share;
-      whole_share = fits.whole_share;
-    }
+      shares = fits.shares;
+      limits = fits.withins;
+    })
 
 -- labels of these parts
-abbrev pub labels_with : List (List ℕ) → List StopNo → List (List ℕ) → LabelData
-labels_with names origins stops = record { scenarios = names; origins = origins; stops = stops }
+abbrev pub labels_with : List (List ℕ) → List StopNo → List ℕ → List ℕ → List (List ℕ) → LabelData
+labels_with names origins shares limits stops = record { scenarios = names; origins = origins; shares = shares; limits = limits; stops = stops }
 
--- the labels are those of the files
-pub labels_are : (i : InputFiles) (names : List (List ℕ)) (origins : List StopNo) (stops : List (List ℕ))
-    → names ≡ names_of i.scenarios → origins ≡ origins_in i → stops ≡ (feed_in i).stops → labels_with names origins stops ≡ labels_in i
-labels_are i names origins stops p q r =
-    ap (λ (x : List (List ℕ)). labels_with x origins stops) p
-    ∙ ap (λ (x : List StopNo). labels_with (names_of i.scenarios) x stops) q
-    ∙ ap (λ (x : List (List ℕ)). labels_with (names_of i.scenarios) (origins_in i) x) r
+-- the labels are those of the files and the settings
+pub labels_are : (i : InputFiles) (s : SettingsData) (names : List (List ℕ)) (origins : List StopNo) (shares limits : List ℕ) (stops : List (List ℕ))
+    → names ≡ names_of i.scenarios → origins ≡ origins_in i → shares ≡ s.shares → limits ≡ s.withins → stops ≡ (feed_in i).stops
+    → labels_with names origins shares limits stops ≡ labels_in i s
+labels_are i s names origins shares limits stops p q r t u =
+    ap (λ (x : List (List ℕ)). labels_with x origins shares limits stops) p
+    ∙ ap (λ (x : List StopNo). labels_with (names_of i.scenarios) x shares limits stops) q
+    ∙ ap (λ (x : List ℕ). labels_with (names_of i.scenarios) (origins_in i) x limits stops) r
+    ∙ ap (λ (x : List ℕ). labels_with (names_of i.scenarios) (origins_in i) s.shares x stops) t
+    ∙ ap (λ (x : List (List ℕ)). labels_with (names_of i.scenarios) (origins_in i) s.shares s.withins x) u
 
 -- there is a name for each scenario
 pub name_count : (files : List NamedBytes) → length (names_of files) ≡ length files + 1
@@ -265,7 +284,7 @@ name_count files =
     ap suc (length-map files name) ∙ one_first (length files)
 
 -- what a run of workers tells
-pub run_told : (i : InputFiles) (s : Settings) (networks : List Net) (study : StudyData) (e : RunFault) → AreNetworks i s networks → study ≡ study_in i s networks
+pub run_told : (i : InputFiles) (s : SettingsData) (networks : List Net) (study : StudyData) (e : RunFault) → AreNetworks i s networks → study ≡ study_in i s networks
     → TellsRun e study → IsFaultOfRun e i s
 run_told i s networks study run.Memory made is h = tt
 run_told i s networks study run.Spawn made is h = (study, record { networks = networks; made = made; study_is = is }, h)

@@ -20,11 +20,10 @@ use Rattle.scenarios.specs.Files.{scenario_faults, scenario_in}
 use Rattle.scenarios.specs.Networks.{net_faults, net_of}
 use Rattle.workers.specs.Study.{StudyData}
 use Rattle.matrix_text.specs.Text.{LabelData}
-use Rattle.studies.specs.declared.settings.Settings.{Settings}
 use Rattle.studies.specs.Inputs.{InputFiles}
 use Rattle.studies.specs.NamedFile.{NamedBytes}
 use Rattle.studies.specs.Names.{base_name, names_of}
-use Rattle.studies.specs.Settings.{query_of}
+use Rattle.studies.specs.Settings.{SettingsData, query_of}
 
 -- what the feed's files state
 abbrev pub feed_in : InputFiles → FeedData
@@ -67,11 +66,11 @@ abbrev pub scenarios_in : InputFiles → List ScenarioData
 scenarios_in i = scenarios_of (feed_in i) i.scenarios
 
 -- why the runs of the study's days aren't listed
-abbrev pub day_faults : InputFiles → Settings → List DayFault
+abbrev pub day_faults : InputFiles → SettingsData → List DayFault
 day_faults i s = days.day_faults (feed_in i) (day_number s.date) s.back s.ahead
 
 -- the runs of the study's days
-abbrev pub runs_in : InputFiles → Settings → List Run
+abbrev pub runs_in : InputFiles → SettingsData → List Run
 runs_in i s = days.runs_of (feed_in i) (day_number s.date) s.back s.ahead
 
 -- the faults of networks, each with its scenario's number, of which the first has this one
@@ -84,7 +83,7 @@ abbrev pub networks_of : FeedData → List Run → FeetData → List ScenarioDat
 networks_of feed runs feet xs = map (λ x. net_of feed x runs feet) xs
 
 -- the study of these networks
-abbrev pub study_in : InputFiles → Settings → List Net → StudyData
+abbrev pub study_in : InputFiles → SettingsData → List Net → StudyData
 study_in i s networks = record {
   number = 0;
   networks = networks;
@@ -94,5 +93,11 @@ study_in i s networks = record {
 }
 
 -- what names the rows and the columns
-abbrev pub labels_in : InputFiles → LabelData
-labels_in i = record { scenarios = names_of i.scenarios; origins = origins_in i; stops = (feed_in i).stops }
+abbrev pub labels_in : InputFiles → SettingsData → LabelData
+labels_in i s = record {
+  scenarios = names_of i.scenarios;
+  origins = origins_in i;
+  shares = s.shares;
+  limits = s.withins;
+  stops = (feed_in i).stops;
+}

@@ -1,11 +1,25 @@
 -- What is asked of the files: the days, the departures, and what becomes of the durations.
-use Rattle.std.specs.Prelude.{◌+◌, ◌*◌, ◌≤◌}
+use Rattle.std.specs.Prelude.{ℕ, List, ◌+◌, ◌*◌, ◌≤◌}
+use Rattle.jiff_core.specs.declared.civil.date.Date.{Date}
 use Rattle.rounds.specs.declared.window.Window.{Window}
-use Rattle.workers.specs.Study.{Query}
-use Rattle.studies.specs.declared.settings.Settings.{Settings}
+use Rattle.workers.specs.Study.{LimitsFit, Query, SharesFit}
+
+-- settings as plain data
+pub record SettingsData : Type 0 where
+  pub date : Date
+  pub back : ℕ
+  pub ahead : ℕ
+  pub first : ℕ
+  pub minutes : ℕ
+  pub rides : ℕ
+  pub walk : ℕ
+  pub shares : List ℕ
+  pub withins : List ℕ
+  pub workers : ℕ
+  pub tries : ℕ
 
 -- each setting is within its limits, and the departures are all on one day
-pub record SettingsFit (s : Settings) : Type 0 where
+pub record SettingsFit (s : SettingsData) : Type 0 where
   pub back : s.back ≤ 6
   pub ahead : s.ahead ≤ 6
   pub some_minutes : 1 ≤ s.minutes
@@ -13,17 +27,17 @@ pub record SettingsFit (s : Settings) : Type 0 where
   pub some_rides : 1 ≤ s.rides
   pub few_rides : s.rides ≤ 8
   pub walk : s.walk ≤ 7200
-  pub some_share : 1 ≤ s.share
-  pub whole_share : s.share ≤ 100
+  pub shares : SharesFit s.shares
+  pub withins : LimitsFit s.withins
   pub some_workers : 1 ≤ s.workers
   pub few_workers : s.workers ≤ 64
   pub some_tries : 1 ≤ s.tries
   pub few_tries : s.tries ≤ 8
 
 -- the departures on the axis, which begins so many service days before that of the date
-abbrev pub window_of : Settings → Window
+abbrev pub window_of : SettingsData → Window
 window_of s = record { first = 86400 * s.back + 60 * s.first; minutes = s.minutes }
 
 -- what is asked of every network
-abbrev pub query_of : Settings → Query
-query_of s = record { window = window_of s; rides = s.rides; share = s.share; within = s.within }
+abbrev pub query_of : SettingsData → Query
+query_of s = record { window = window_of s; rides = s.rides; shares = s.shares; limits = s.withins }

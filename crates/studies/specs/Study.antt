@@ -21,9 +21,9 @@ use Rattle.matrix_text.specs.declared.faults.TextFault.TheVariants as text
 use Rattle.matrix_text.specs.Text.{matrix_text}
 use Rattle.studies.specs.declared.fault.StudyFault.{StudyFault}
 use Rattle.studies.specs.declared.fault.StudyFault.TheVariants as fault
-use Rattle.studies.specs.declared.settings.Settings.{Settings}
 use Rattle.studies.specs.Inputs.{InputFiles}
 use Rattle.studies.specs.Names.{name_faults}
+use Rattle.studies.specs.Settings.{SettingsData}
 use Rattle.studies.specs.Parts.{table_faults, edit_faults, day_faults, network_faults, feed_in, direct_in, scenarios_in, runs_in, networks_of, study_in, labels_in}
 
 -- there are few enough scenario files, and their names are accepted
@@ -42,30 +42,30 @@ pub record AreEdited (i : InputFiles) : Type 0 where
   pub edits : edit_faults (feed_in i) 0 i.scenarios ≡ []
 
 -- ... and the runs of the study's days
-pub record AreDated (i : InputFiles) (s : Settings) : Type 0 where
+pub record AreDated (i : InputFiles) (s : SettingsData) : Type 0 where
   pub edited : AreEdited i
   pub days : day_faults i s ≡ []
 
 -- ... and the footpaths, of which these are the closed ones
-pub record AreWalked (i : InputFiles) (s : Settings) (feet : FeetData) : Type 0 where
+pub record AreWalked (i : InputFiles) (s : SettingsData) (feet : FeetData) : Type 0 where
   pub dated : AreDated i s
   pub walks : IsClosure (direct_in i) s.walk feet
 
 -- ... and these are the networks
-pub record AreNetworks (i : InputFiles) (s : Settings) (networks : List Net) : Type 0 where
+pub record AreNetworks (i : InputFiles) (s : SettingsData) (networks : List Net) : Type 0 where
   pub feet : FeetData
   pub walked : AreWalked i s feet
   pub faultless : network_faults (feed_in i) (runs_in i s) 0 (scenarios_in i) ≡ []
   pub networks_are : networks ≡ networks_of (feed_in i) (runs_in i s) feet (scenarios_in i)
 
 -- the files are accepted, and mean this study
-pub record Means (i : InputFiles) (s : Settings) (study : StudyData) : Type 0 where
+pub record Means (i : InputFiles) (s : SettingsData) (study : StudyData) : Type 0 where
   pub networks : List Net
   pub made : AreNetworks i s networks
   pub study_is : study ≡ study_in i s networks
 
 -- this is the first fault of the first part that is refused
-abbrev pub Refuses : StudyFault → InputFiles → Settings → Type 0
+abbrev pub Refuses : StudyFault → InputFiles → SettingsData → Type 0
 Refuses fault.Scenarios i s = 15 < length i.scenarios
 Refuses (fault.Name k) i s = (length i.scenarios ≤ 15) × IsFirst k (name_faults i.scenarios)
 Refuses (fault.Feed e) i s = AreNamed i × IsFirst e (table_faults i)
@@ -79,14 +79,14 @@ Refuses (fault.Text e) i s = ⊥
 Refuses fault.Memory i s = ⊥
 
 -- why workers gave no matrix of the study that the files mean: no worker was started for its places, or one of them has no row
-abbrev pub IsFaultOfRun : RunFault → InputFiles → Settings → Type 0
+abbrev pub IsFaultOfRun : RunFault → InputFiles → SettingsData → Type 0
 IsFaultOfRun run.Memory i s = ⊤
 IsFaultOfRun run.Spawn i s = (study : StudyData) × Means i s study × (0 < jobs_of study)
 IsFaultOfRun (run.Unfinished scenario origin) i s =
     (study : StudyData) × Means i s study × (scenario < length study.networks) × (origin < length study.origins)
 
 -- what the files don't decide: want of memory, and a run of workers that gives no matrix
-abbrev pub IsNotOfFiles : StudyFault → InputFiles → Settings → Type 0
+abbrev pub IsNotOfFiles : StudyFault → InputFiles → SettingsData → Type 0
 IsNotOfFiles fault.Scenarios i s = ⊥
 IsNotOfFiles (fault.Name k) i s = ⊥
 IsNotOfFiles (fault.Feed e) i s = e.what ≡ what.Memory
@@ -99,13 +99,13 @@ IsNotOfFiles (fault.Text e) i s = e ≡ text.Memory
 IsNotOfFiles fault.Memory i s = ⊤
 
 -- what may be told of the files
-abbrev pub Tells : StudyFault → InputFiles → Settings → Type 0
+abbrev pub Tells : StudyFault → InputFiles → SettingsData → Type 0
 Tells e i s = IsNotOfFiles e i s ⊎ Refuses e i s
 
 -- the text of the matrix of the study that the files mean
-pub record IsStudyText (i : InputFiles) (s : Settings) (bytes : List ℕ) : Type 0 where
+pub record IsStudyText (i : InputFiles) (s : SettingsData) (bytes : List ℕ) : Type 0 where
   pub study : StudyData
   pub matrix : MatrixData
   pub means : Means i s study
   pub is_matrix : IsMatrix study matrix
-  pub text_is : bytes ≡ matrix_text (labels_in i) matrix
+  pub text_is : bytes ≡ matrix_text (labels_in i s) matrix

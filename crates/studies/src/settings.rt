@@ -1,11 +1,13 @@
 //! What is asked of the files.
 ghost use Rattle.std.specs.Prelude.{◌≡◌, ◌≤◌, ◌+◌, ◌↔◌, IsTrue};
-ghost use Rattle.studies.specs.Settings.{SettingsFit, window_of};
+ghost use Rattle.workers.specs.Study as study;
+ghost use Rattle.studies.specs.Settings.{SettingsFit, query_of, window_of};
 
 use footpaths::limit_fits;
 use jiff::civil::Date;
 use rounds::{MOST_MINUTES, Window};
-use workers::MOST_RIDES;
+use std::marker::Model;
+use workers::{Asked, MOST_RIDES, limits_fit, shares_fit};
 
 /// The most service days of a study before that of its date, and the most after it.
 const MOST_DAYS: u32 = 6;
@@ -19,8 +21,8 @@ const MOST_TRIES: u32 = 8;
 /// The seconds of a service day, on the axis of a study's times.
 const DAY: u32 = 86_400;
 
-/// What is asked of the files of a study.
-#[derive(Clone, Copy)]
+/// What is asked of the files of a study. Contracts see the shares and the longest travel times as lists.
+#[derive(Drop)]
 pub struct Settings {
     /// The date of the departures.
     pub date: Date,
@@ -36,20 +38,30 @@ pub struct Settings {
     pub rides: u32,
     /// The longest walk between two rides, in seconds, at most 7,200.
     pub walk: u32,
-    /// Of a hundred minutes, for how many a cell's travel time must suffice, 1 to 100.
-    pub share: u32,
-    /// The longest travel time, in seconds, at which a stop counts for access.
-    pub within: u32,
+    /// Of a hundred minutes, for how many a cell's travel time must suffice, 1 to 100; each share has its own cells. There are
+    /// 1 to 8, each above the one before.
+    pub shares: Vec<u32>,
+    /// The longest travel times, in seconds, at which a stop counts for access; each has its own sum. There are 1 to 8, each
+    /// above the one before.
+    pub withins: Vec<u32>,
     /// How many worker threads there are, 1 to 64.
     pub workers: u32,
     /// How often each row may be begun, 1 to 8.
     pub tries: u32,
 }
 
+impl Model for Settings {
+    ghost use Rattle.studies.specs.Settings.{SettingsData};
+
+    ghost Value = { SettingsData };
+
+    ghost view = { λ s. record { date = s.date; back = s.back; ahead = s.ahead; first = s.first; minutes = s.minutes; rides = s.rides; walk = s.walk; shares = s.shares.items; withins = s.withins.items; workers = s.workers; tries = s.tries } };
+}
+
 impl Settings {
     /// Whether all settings are within their limits, as [`run_study`](crate::study::run_study) asks: 6 days back and ahead
-    /// at most; 1 minute or more, all on one day; 1 to 8 rides; a walk of at most 7,200 seconds; a share of 1 to 100;
-    /// 1 to 64 workers; and 1 to 8 tries.
+    /// at most; 1 minute or more, all on one day; 1 to 8 rides; a walk of at most 7,200 seconds; 1 to 8 shares of 1 to 100,
+    /// and 1 to 8 longest travel times, each above the one before; 1 to 64 workers; and 1 to 8 tries.
     pub fn fits(&self) -> bool
         ensures { IsTrue result ↔ SettingsFit self.now }
     {
@@ -59,12 +71,25 @@ impl Settings {
             && 1 <= self.rides
             && self.rides <= MOST_RIDES
             && limit_fits(self.walk)
-            && 1 <= self.share
-            && self.share <= 100
+            && shares_fit(&self.shares)
+            && limits_fit(&self.withins)
             && 1 <= self.workers
             && self.workers <= MOST_WORKERS
             && 1 <= self.tries
             && self.tries <= MOST_TRIES
+    }
+
+    /// What is asked of every network.
+    pub fn asked(&self) -> Asked<'_>
+        requires { SettingsFit self.now }
+        ensures { study.query_of result ≡ query_of self.now }
+    {
+        Asked {
+            window: self.window(),
+            rides: self.rides,
+            shares: self.shares.as_slice(),
+            limits: self.withins.as_slice(),
+        }
     }
 
     /// The departures on the axis of the study's times, which begins with the first service day.

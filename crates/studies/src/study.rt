@@ -146,22 +146,20 @@ fn text_of_networks<G: Gate + Sync, R: Threads + Wait + Sync>(
         networks,
         origins: tables.origins.as_slice(),
         opportunities: tables.opportunities.as_slice(),
-        window: settings.window(),
-        rides: settings.rides,
-        share: settings.share,
-        within: settings.within,
+        asked: settings.asked(),
     };
     let matrix = match matrix_of(rt, alloc, &study, settings, gate) {
         Ok(matrix) => matrix,
         Err(fault) => return Err(StudyFault::Run(fault)),
     };
-    text_of_matrix(alloc, inputs, feed, tables, &matrix)
+    text_of_matrix(alloc, inputs, settings, feed, tables, &matrix)
 }
 
 /// The text of the matrix.
 fn text_of_matrix(
     alloc: Global,
     inputs: &Inputs<'_>,
+    settings: &Settings,
     feed: &Feed,
     tables: &Tables,
     matrix: &Matrix,
@@ -171,7 +169,9 @@ fn text_of_matrix(
     requires scenarios { matrix.now.scenarios ≡ length inputs.now.scenarios.now + 1 }
     requires origins { matrix.now.origins ≡ length tables.now.origins.items }
     requires width { matrix.now.width ≡ length feed.now.stops }
-    ensures text { IfOk result (λ text. text.items ≡ matrix_text (labels_in (inputs_of inputs.now)) matrix.now) }
+    requires shares { matrix.now.shares ≡ length settings.now.shares }
+    requires limits { matrix.now.limits ≡ length settings.now.withins }
+    ensures text { IfOk result (λ text. text.items ≡ matrix_text (labels_in (inputs_of inputs.now) settings.now) matrix.now) }
     ensures fault { IfErr result TellsText }
 {
     let names = match names_of(alloc, inputs.scenarios) {
@@ -181,6 +181,8 @@ fn text_of_matrix(
     let labels = Labels {
         scenarios: names.as_slice(),
         origins: tables.origins.as_slice(),
+        shares: settings.shares.as_slice(),
+        limits: settings.withins.as_slice(),
         feed,
     };
     let mut text = Vec::new(alloc);

@@ -12,9 +12,9 @@ use studies::Inputs;
 
 const FROM_B: &[u8] = b"stop_id\nB\n";
 
-const ALL: &[u8] = b"scenario,origin,access,A,B,C\nbase,A,3,0,600,1800\n";
+const ALL: &[u8] = b"scenario,origin,share,access_1800,A,B,C\nbase,A,50,3,0,600,1800\n";
 
-const NO_CHANGE: &[u8] = b"scenario,origin,access,A,B,C\nbase,A,2,0,600,\n";
+const NO_CHANGE: &[u8] = b"scenario,origin,share,access_1800,A,B,C\nbase,A,50,2,0,600,\n";
 
 // The study of the small feed with these transfers has this text.
 fn expect_with<R: Threads + Wait + Sync + Abort>(
@@ -64,7 +64,7 @@ fn nobody_changes_at_the_start(rt: HostRuntime) {
         rt.alloc(),
         &inputs,
         leaving,
-        b"scenario,origin,access,A,B,C\nbase,B,2,,0,900\n",
+        b"scenario,origin,share,access_1800,A,B,C\nbase,B,50,2,,0,900\n",
     );
 }
 
@@ -82,6 +82,6 @@ fn nothing_is_added_after_a_walk(rt: HostRuntime) {
         rt.alloc(),
         &inputs,
         far,
-        b"scenario,origin,access,A,B,C,B2\nbase,A,4,0,600,1800,900\n",
+        b"scenario,origin,share,access_1800,A,B,C,B2\nbase,A,50,4,0,600,1800,900\n",
     );
 }

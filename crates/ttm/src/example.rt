@@ -1,8 +1,13 @@
-//! The feed that the program carries: two trips among three stops.
+//! The study that the program carries: two trips among three stops, and what is asked of them.
 
+ghost use Rattle.std.specs.Prelude.{IfOk};
 ghost use Rattle.gtfs_tables.specs.Files.{AreWithinLimit, files_of};
+ghost use Rattle.studies.specs.Settings.{SettingsFit};
 
 use gtfs_tables::FeedBytes;
+use jiff::civil::Date;
+use std::alloc::{AllocError, Global};
+use studies::Settings;
 
 const STOPS: &[u8] = b"stop_id,stop_name
 A,Alpha
@@ -49,4 +54,23 @@ pub(crate) fn example_feed() -> FeedBytes<'static>
         frequencies: None,
         transfers: None,
     }
+}
+
+/// What is asked of it: one minute of Monday, 4 May 2026, by at most two rides.
+pub(crate) fn example_settings(alloc: Global) -> Result<Settings, AllocError>
+    ensures { IfOk result (λ settings. SettingsFit settings) }
+{
+    Ok(Settings {
+        date: Date::constant(2026, 5, 4),
+        back: 1,
+        ahead: 1,
+        first: 480,
+        minutes: 1,
+        rides: 2,
+        walk: 0,
+        shares: Vec::from_slice(alloc, &[50])?,
+        withins: Vec::from_slice(alloc, &[1800])?,
+        workers: 1,
+        tries: 1,
+    })
 }

@@ -12,7 +12,7 @@ ghost use Rattle.studies.specs.Settings.{SettingsFit};
 ghost use Rattle.ttm.specs.Answers as spec;
 
 use crate::disk::Disk;
-use crate::example::{EXAMPLE_ORIGINS, example_feed};
+use crate::example::{EXAMPLE_ORIGINS, example_feed, example_settings};
 use crate::reading::read_files;
 use crate::study_files::StudyFiles;
 use clap::Error;
@@ -20,7 +20,6 @@ use command_line::{
     DONE, NOT_MOVED, REFUSED, Task, WordFault, bad_line, fault_line, status, task_of, tell,
     tell_made, tell_short, word_status,
 };
-use jiff::civil::Date;
 use matrix_text::put_all;
 use std::alloc::Global;
 use std::env;
@@ -81,19 +80,6 @@ fn example<T: Threads + Wait + Sync, O: Write, E: Write>(
     ensures success { exit_status result ≡ DONE → spec.IsExample (O.contents out.old) (O.contents out.new) }
     ensures quiet { exit_status result ≡ DONE → err.new ≡ err.old }
 {
-    let settings = Settings {
-        date: Date::constant(2026, 5, 4),
-        back: 1,
-        ahead: 1,
-        first: 480,
-        minutes: 1,
-        rides: 2,
-        walk: 0,
-        share: 50,
-        within: 1800,
-        workers: 1,
-        tries: 1,
-    };
     let inputs = Inputs {
         feed: example_feed(),
         footpaths: None,
@@ -101,7 +87,10 @@ fn example<T: Threads + Wait + Sync, O: Write, E: Write>(
         opportunities: None,
         scenarios: &[],
     };
-    answer(rt, alloc, &inputs, &settings, out, err)
+    match example_settings(alloc) {
+        Ok(settings) => answer(rt, alloc, &inputs, &settings, out, err),
+        Err(_) => tell_short(err),
+    }
 }
 
 /// The study that the words ask for.

@@ -18,6 +18,19 @@ const FOLDER: &str = "feed_of_whole_runs";
 const ASKED: &str =
     "--date 20260504 --from 08:00 --to 08:00 --trips 2 --walk 0 --share 50 --within 1800 --workers 1 --tries 1";
 
+/// What is asked of four minutes from A, but for the shares and the limits of access.
+const ASKED_OF_FOUR: &str =
+    "--date 20260504 --from 07:58 --to 08:01 --trips 2 --walk 0 --workers 2 --tries 1 --origins feed_of_whole_runs/origins.csv";
+
+/// From A, a line for each share, and access for each limit.
+const SHARES: &[u8] = b"scenario,origin,share,access_700,access_1800,A,B,C
+base,A,1,2,3,0,600,1800
+base,A,25,2,3,0,600,1800
+base,A,50,2,2,0,660,1860
+base,A,75,1,2,0,720,1920
+base,A,100,1,1,0,,
+";
+
 /// A file in the folder.
 const ORIGINS: &str = "feed_of_whole_runs/origins.csv";
 
@@ -26,21 +39,21 @@ const OWN_FILES: &str =
     "--origins feed_of_whole_runs/origins.csv feed_of_whole_runs/cut.csv feed_of_whole_runs/late.csv";
 
 /// From every stop at 08:00: nothing leaves C, and nothing comes to A.
-const FROM_ALL: &[u8] = b"scenario,origin,access,A,B,C
-base,A,3,0,600,1800
-base,B,2,,0,1800
-base,C,1,,,0
+const FROM_ALL: &[u8] = b"scenario,origin,share,access_1800,A,B,C
+base,A,50,3,0,600,1800
+base,B,50,2,,0,1800
+base,C,50,1,,,0
 ";
 
 /// From A, without edits, without T2, and with T1 five minutes later.
-const SCENARIOS: &[u8] = b"scenario,origin,access,A,B,C
-base,A,3,0,600,1800
-cut,A,2,0,600,
-late,A,3,0,900,1800
+const SCENARIOS: &[u8] = b"scenario,origin,share,access_1800,A,B,C
+base,A,50,3,0,600,1800
+cut,A,50,2,0,600,
+late,A,50,3,0,900,1800
 ";
 
-const EXAMPLE: &[u8] = b"scenario,origin,access,A,B,C
-base,A,3,0,600,1800
+const EXAMPLE: &[u8] = b"scenario,origin,share,access_1800,A,B,C
+base,A,50,3,0,600,1800
 ";
 
 /// What a word that is no option is told by.
@@ -164,10 +177,38 @@ fn are_right<R: Files + Disk + Threads + Wait + Sync + AllocGlobal>(rt: &R) -> i
     Ok(true)
 }
 
+/// Whether runs with these shares and limits of access leave what they should.
+fn lists_are_right<R: Files + Disk + Threads + Wait + Sync + AllocGlobal>(
+    rt: &R,
+) -> io::Result<bool> {
+    let cases: [(&str, &str, &[u8], &[u8], u8); 4] = [
+        ("1,25,50,75,100", "700,1800", SHARES, b"", 0),
+        ("50,25", "1800,1800", b"", b"ttm: bad share\n", 2),
+        ("0", "1800", b"", b"ttm: bad share\n", 2),
+        ("50", "1800,1800", b"", b"ttm: bad within\n", 2),
+    ];
+    for (shares, withins, printed, fault, status) in &cases {
+        let line = format!(in rt.alloc();
+            "ttm --feed {FOLDER} {ASKED_OF_FOUR} --share {shares} --within {withins}"
+        )?;
+        if !leaves(rt, line.as_str(), printed, fault, *status)? {
+            return Ok(false);
+        }
+    }
+    Ok(true)
+}
+
+/// Whether all runs over the folder leave what they should.
+fn all_are_right<R: Files + Disk + Threads + Wait + Sync + AllocGlobal>(
+    rt: &R,
+) -> io::Result<bool> {
+    Ok(are_right(rt)? && lists_are_right(rt)?)
+}
+
 #[test]
 fn a_run_ends_in_a_matrix_or_a_line(rt: HostRuntime) -> Result<(), Fail> {
     write_files(&rt)?;
-    let are_right = are_right(&rt);
+    let are_right = all_are_right(&rt);
     fs::remove_dir_all(&rt, FOLDER)?;
     assert!(rt; are_right?);
     Ok(())

@@ -21,6 +21,12 @@ fn tells<R: Threads + Wait + Sync + AllocGlobal>(
     let Some(date) = read_date(date) else {
         return false;
     };
+    let Ok(shares) = Vec::from_slice(rt.alloc(), &[50]) else {
+        return false;
+    };
+    let Ok(withins) = Vec::from_slice(rt.alloc(), &[1800]) else {
+        return false;
+    };
     let settings = Settings {
         date,
         back: 0,
@@ -29,8 +35,8 @@ fn tells<R: Threads + Wait + Sync + AllocGlobal>(
         minutes: 1,
         rides: 2,
         walk: 120,
-        share: 50,
-        within: 1800,
+        shares,
+        withins,
         workers: 1,
         tries: 1,
     };

@@ -12,25 +12,25 @@ use workers::Open;
 
 /// What an example asks for. Times are in seconds, minutes of the day from midnight.
 #[derive(Clone, Copy)]
-pub(crate) struct Asked {
+pub(crate) struct Asked<'a> {
     pub back: u32,
     pub first: u32,
     pub minutes: u32,
     pub rides: u32,
     pub walk: u32,
-    pub share: u32,
-    pub within: u32,
+    pub shares: &'a [u32],
+    pub withins: &'a [u32],
 }
 
 /// From 08:00 to 08:00 with two trips, no walks, half of the minutes, and half an hour.
-pub(crate) const EIGHT: Asked = Asked {
+pub(crate) const EIGHT: Asked<'static> = Asked {
     back: 1,
     first: 480,
     minutes: 1,
     rides: 2,
     walk: 0,
-    share: 50,
-    within: 1800,
+    shares: &[50],
+    withins: &[1800],
 };
 
 const FROM_A: &[u8] = b"stop_id\nA\n";
@@ -40,10 +40,16 @@ fn gives<R: Threads + Wait + Sync>(
     rt: &R,
     alloc: Global,
     inputs: &Inputs<'_>,
-    asked: Asked,
+    asked: Asked<'_>,
     text: &[u8],
 ) -> bool {
     let Some(date) = read_date(b"20260504") else {
+        return false;
+    };
+    let Ok(shares) = Vec::from_slice(alloc, asked.shares) else {
+        return false;
+    };
+    let Ok(withins) = Vec::from_slice(alloc, asked.withins) else {
         return false;
     };
     let settings = Settings {
@@ -54,8 +60,8 @@ fn gives<R: Threads + Wait + Sync>(
         minutes: asked.minutes,
         rides: asked.rides,
         walk: asked.walk,
-        share: asked.share,
-        within: asked.within,
+        shares,
+        withins,
         workers: 1,
         tries: 1,
     };
@@ -72,7 +78,7 @@ pub(crate) fn expect<R: Threads + Wait + Sync + Abort>(
     rt: &R,
     alloc: Global,
     inputs: &Inputs<'_>,
-    asked: Asked,
+    asked: Asked<'_>,
     text: &[u8],
 ) {
     assert!(rt; gives(rt, alloc, inputs, asked, text));
@@ -97,7 +103,7 @@ fn two_rides_reach_c(rt: HostRuntime) {
         rt.alloc(),
         &inputs,
         EIGHT,
-        b"scenario,origin,access,A,B,C\nbase,A,3,0,600,1800\n",
+        b"scenario,origin,share,access_1800,A,B,C\nbase,A,50,3,0,600,1800\n",
     );
     let one_ride = Asked { rides: 1, ..EIGHT };
     expect(
@@ -105,7 +111,7 @@ fn two_rides_reach_c(rt: HostRuntime) {
         rt.alloc(),
         &inputs,
         one_ride,
-        b"scenario,origin,access,A,B,C\nbase,A,2,0,600,\n",
+        b"scenario,origin,share,access_1800,A,B,C\nbase,A,50,2,0,600,\n",
     );
 }
 
@@ -120,7 +126,7 @@ fn a_change_takes_no_time(rt: HostRuntime) {
         rt.alloc(),
         &inputs,
         EIGHT,
-        b"scenario,origin,access,A,B,C\nbase,A,3,0,600,1800\n",
+        b"scenario,origin,share,access_1800,A,B,C\nbase,A,50,3,0,600,1800\n",
     );
 }
 
@@ -135,7 +141,7 @@ fn nobody_boards_where_pickup_is_forbidden(rt: HostRuntime) {
         rt.alloc(),
         &inputs,
         EIGHT,
-        b"scenario,origin,access,A,B,C\nbase,A,2,0,600,\n",
+        b"scenario,origin,share,access_1800,A,B,C\nbase,A,50,2,0,600,\n",
     );
 }
 
@@ -153,7 +159,7 @@ fn a_trip_of_the_day_before_runs_after_midnight(rt: HostRuntime) {
         rt.alloc(),
         &inputs,
         midnight,
-        b"scenario,origin,access,A,B,C\nbase,A,2,0,1200,30600\n",
+        b"scenario,origin,share,access_1800,A,B,C\nbase,A,50,2,0,1200,30600\n",
     );
     let alone = Asked {
         back: 0,
@@ -164,7 +170,7 @@ fn a_trip_of_the_day_before_runs_after_midnight(rt: HostRuntime) {
         rt.alloc(),
         &inputs,
         alone,
-        b"scenario,origin,access,A,B,C\nbase,A,1,0,29400,30600\n",
+        b"scenario,origin,share,access_1800,A,B,C\nbase,A,50,1,0,29400,30600\n",
     );
 }
 
@@ -179,7 +185,7 @@ fn exceptions_take_out_and_put_in(rt: HostRuntime) {
         rt.alloc(),
         &removed,
         EIGHT,
-        b"scenario,origin,access,A,B,C\nbase,A,1,0,,\n",
+        b"scenario,origin,share,access_1800,A,B,C\nbase,A,50,1,0,,\n",
     );
     let added = inputs_of(FeedBytes {
         calendar: None,
@@ -191,7 +197,7 @@ fn exceptions_take_out_and_put_in(rt: HostRuntime) {
         rt.alloc(),
         &added,
         EIGHT,
-        b"scenario,origin,access,A,B,C\nbase,A,3,0,600,1800\n",
+        b"scenario,origin,share,access_1800,A,B,C\nbase,A,50,3,0,600,1800\n",
     );
 }
 
@@ -211,7 +217,7 @@ fn chains_of_walks_end_at_the_limit(rt: HostRuntime) {
         rt.alloc(),
         &inputs,
         short,
-        b"scenario,origin,access,A,B,C\nbase,A,2,0,60,\n",
+        b"scenario,origin,share,access_1800,A,B,C\nbase,A,50,2,0,60,\n",
     );
     let long = Asked { walk: 120, ..short };
     expect(
@@ -219,7 +225,7 @@ fn chains_of_walks_end_at_the_limit(rt: HostRuntime) {
         rt.alloc(),
         &inputs,
         long,
-        b"scenario,origin,access,A,B,C\nbase,A,3,0,60,120\n",
+        b"scenario,origin,share,access_1800,A,B,C\nbase,A,50,3,0,60,120\n",
     );
 }
 
@@ -239,7 +245,7 @@ fn two_walks_never_follow_one_another(rt: HostRuntime) {
         rt.alloc(),
         &inputs,
         walk,
-        b"scenario,origin,access,A,B,C\nbase,A,2,0,100,\n",
+        b"scenario,origin,share,access_1800,A,B,C\nbase,A,50,2,0,100,\n",
     );
 }
 
@@ -249,23 +255,34 @@ fn a_stop_without_service_has_an_empty_cell(rt: HostRuntime) {
         stops: Some(STOP_D),
         ..example_feed()
     });
-    for share in [1, 50, 100] {
-        let asked = Asked { share, ..EIGHT };
-        expect(
-            &rt,
-            rt.alloc(),
-            &inputs,
-            asked,
-            b"scenario,origin,access,A,B,C,D\nbase,A,3,0,600,1800,\n",
-        );
+    let cases: [(&[u32], &[u8]); 3] = [
+        (
+            &[1],
+            b"scenario,origin,share,access_1800,A,B,C,D\nbase,A,1,3,0,600,1800,\n",
+        ),
+        (
+            &[50],
+            b"scenario,origin,share,access_1800,A,B,C,D\nbase,A,50,3,0,600,1800,\n",
+        ),
+        (
+            &[100],
+            b"scenario,origin,share,access_1800,A,B,C,D\nbase,A,100,3,0,600,1800,\n",
+        ),
+    ];
+    for (shares, text) in &cases {
+        let asked = Asked {
+            shares: *shares,
+            ..EIGHT
+        };
+        expect(&rt, rt.alloc(), &inputs, asked, *text);
     }
 }
 
 /// Four departures from 07:58 on, and the fastest of them.
-const FOUR: Asked = Asked {
+const FOUR: Asked<'static> = Asked {
     first: 478,
     minutes: 4,
-    share: 1,
+    shares: &[1],
     ..EIGHT
 };
 
@@ -277,44 +294,56 @@ fn small_shares_of_four_minutes(rt: HostRuntime) {
         rt.alloc(),
         &inputs,
         FOUR,
-        b"scenario,origin,access,A,B,C\nbase,A,3,0,600,1800\n",
+        b"scenario,origin,share,access_1800,A,B,C\nbase,A,1,3,0,600,1800\n",
     );
-    let quarter = Asked { share: 25, ..FOUR };
+    let quarter = Asked {
+        shares: &[25],
+        ..FOUR
+    };
     expect(
         &rt,
         rt.alloc(),
         &inputs,
         quarter,
-        b"scenario,origin,access,A,B,C\nbase,A,3,0,600,1800\n",
+        b"scenario,origin,share,access_1800,A,B,C\nbase,A,25,3,0,600,1800\n",
     );
 }
 
 #[test]
 fn great_shares_of_four_minutes(rt: HostRuntime) {
     let inputs = inputs_of(example_feed());
-    let half = Asked { share: 50, ..FOUR };
+    let half = Asked {
+        shares: &[50],
+        ..FOUR
+    };
     expect(
         &rt,
         rt.alloc(),
         &inputs,
         half,
-        b"scenario,origin,access,A,B,C\nbase,A,2,0,660,1860\n",
+        b"scenario,origin,share,access_1800,A,B,C\nbase,A,50,2,0,660,1860\n",
     );
-    let most = Asked { share: 75, ..FOUR };
+    let most = Asked {
+        shares: &[75],
+        ..FOUR
+    };
     expect(
         &rt,
         rt.alloc(),
         &inputs,
         most,
-        b"scenario,origin,access,A,B,C\nbase,A,2,0,720,1920\n",
+        b"scenario,origin,share,access_1800,A,B,C\nbase,A,75,2,0,720,1920\n",
     );
-    let all = Asked { share: 100, ..FOUR };
+    let all = Asked {
+        shares: &[100],
+        ..FOUR
+    };
     expect(
         &rt,
         rt.alloc(),
         &inputs,
         all,
-        b"scenario,origin,access,A,B,C\nbase,A,1,0,,\n",
+        b"scenario,origin,share,access_1800,A,B,C\nbase,A,100,1,0,,\n",
     );
 }
 
@@ -324,7 +353,7 @@ fn shares_of_seventeen_and_thirty_three_minutes(rt: HostRuntime) {
     let all = Asked {
         first: 464,
         minutes: 17,
-        share: 100,
+        shares: &[100],
         ..EIGHT
     };
     expect(
@@ -332,15 +361,18 @@ fn shares_of_seventeen_and_thirty_three_minutes(rt: HostRuntime) {
         rt.alloc(),
         &inputs,
         all,
-        b"scenario,origin,access,A,B,C\nbase,A,2,0,1560,2760\n",
+        b"scenario,origin,share,access_1800,A,B,C\nbase,A,100,2,0,1560,2760\n",
     );
-    let some = Asked { share: 1, ..all };
+    let some = Asked {
+        shares: &[1],
+        ..all
+    };
     expect(
         &rt,
         rt.alloc(),
         &inputs,
         some,
-        b"scenario,origin,access,A,B,C\nbase,A,3,0,600,1800\n",
+        b"scenario,origin,share,access_1800,A,B,C\nbase,A,1,3,0,600,1800\n",
     );
     let half = Asked {
         first: 448,
@@ -352,7 +384,7 @@ fn shares_of_seventeen_and_thirty_three_minutes(rt: HostRuntime) {
         rt.alloc(),
         &inputs,
         half,
-        b"scenario,origin,access,A,B,C\nbase,A,2,0,1560,2760\n",
+        b"scenario,origin,share,access_1800,A,B,C\nbase,A,50,2,0,1560,2760\n",
     );
 }
 
@@ -367,7 +399,7 @@ fn a_headway_departs_before_its_end(rt: HostRuntime) {
         rt.alloc(),
         &inputs,
         EIGHT,
-        b"scenario,origin,access,A,B,C\nbase,A,3,0,600,1800\n",
+        b"scenario,origin,share,access_1800,A,B,C\nbase,A,50,3,0,600,1800\n",
     );
     let second = Asked {
         first: 485,
@@ -378,7 +410,7 @@ fn a_headway_departs_before_its_end(rt: HostRuntime) {
         rt.alloc(),
         &inputs,
         second,
-        b"scenario,origin,access,A,B,C\nbase,A,2,0,900,\n",
+        b"scenario,origin,share,access_1800,A,B,C\nbase,A,50,2,0,900,\n",
     );
     let late = Asked {
         first: 491,
@@ -389,7 +421,7 @@ fn a_headway_departs_before_its_end(rt: HostRuntime) {
         rt.alloc(),
         &inputs,
         late,
-        b"scenario,origin,access,A,B,C\nbase,A,1,0,,\n",
+        b"scenario,origin,share,access_1800,A,B,C\nbase,A,50,1,0,,\n",
     );
 }
 
@@ -404,7 +436,13 @@ fn a_feed_of_headers_gives_a_header(rt: HostRuntime) {
             ..example_feed()
         })
     };
-    expect(&rt, rt.alloc(), &inputs, EIGHT, b"scenario,origin,access\n");
+    expect(
+        &rt,
+        rt.alloc(),
+        &inputs,
+        EIGHT,
+        b"scenario,origin,share,access_1800\n",
+    );
 }
 
 #[test]
@@ -419,7 +457,7 @@ fn a_trip_may_overtake_another(rt: HostRuntime) {
         rt.alloc(),
         &inputs,
         EIGHT,
-        b"scenario,origin,access,A,B,C\nbase,A,3,0,360,1800\n",
+        b"scenario,origin,share,access_1800,A,B,C\nbase,A,50,3,0,360,1800\n",
     );
 }
 
@@ -443,7 +481,7 @@ fn walks_come_first_and_last(rt: HostRuntime) {
         rt.alloc(),
         &inputs,
         early,
-        b"scenario,origin,access,A,B,C,W,X\nbase,W,3,120,720,1920,0,2010\n",
+        b"scenario,origin,share,access_1800,A,B,C,W,X\nbase,W,50,3,120,720,1920,0,2010\n",
     );
     let late = Asked {
         first: 479,
@@ -454,7 +492,7 @@ fn walks_come_first_and_last(rt: HostRuntime) {
         rt.alloc(),
         &inputs,
         late,
-        b"scenario,origin,access,A,B,C,W,X\nbase,W,2,120,,,0,\n",
+        b"scenario,origin,share,access_1800,A,B,C,W,X\nbase,W,50,2,120,,,0,\n",
     );
 }
 
@@ -472,7 +510,7 @@ fn a_change_within_a_station_is_a_walk(rt: HostRuntime) {
         rt.alloc(),
         &inputs,
         enough,
-        b"scenario,origin,access,A,B,C,B2\nbase,A,4,0,600,1800,660\n",
+        b"scenario,origin,share,access_1800,A,B,C,B2\nbase,A,50,4,0,600,1800,660\n",
     );
     let short = Asked { walk: 59, ..EIGHT };
     expect(
@@ -480,7 +518,7 @@ fn a_change_within_a_station_is_a_walk(rt: HostRuntime) {
         rt.alloc(),
         &inputs,
         short,
-        b"scenario,origin,access,A,B,C,B2\nbase,A,2,0,600,,\n",
+        b"scenario,origin,share,access_1800,A,B,C,B2\nbase,A,50,2,0,600,,\n",
     );
 }
 
@@ -499,7 +537,7 @@ fn commas_are_quoted(rt: HostRuntime) {
         rt.alloc(),
         &inputs,
         EIGHT,
-        b"scenario,origin,access,\"A,1\",B,C\nbase,\"A,1\",3,0,600,1800\n",
+        b"scenario,origin,share,access_1800,\"A,1\",B,C\nbase,\"A,1\",50,3,0,600,1800\n",
     );
 }
 
@@ -514,7 +552,7 @@ fn both_ends_of_a_calendar_are_included(rt: HostRuntime) {
         rt.alloc(),
         &last_day,
         EIGHT,
-        b"scenario,origin,access,A,B,C\nbase,A,3,0,600,1800\n",
+        b"scenario,origin,share,access_1800,A,B,C\nbase,A,50,3,0,600,1800\n",
     );
     let before = inputs_of(FeedBytes {
         calendar: Some(WEEK_BEFORE),
@@ -525,7 +563,7 @@ fn both_ends_of_a_calendar_are_included(rt: HostRuntime) {
         rt.alloc(),
         &before,
         EIGHT,
-        b"scenario,origin,access,A,B,C\nbase,A,1,0,,\n",
+        b"scenario,origin,share,access_1800,A,B,C\nbase,A,50,1,0,,\n",
     );
 }
 
@@ -540,10 +578,10 @@ fn opportunities_count_where_the_cell_is_within(rt: HostRuntime) {
         rt.alloc(),
         &inputs,
         EIGHT,
-        b"scenario,origin,access,A,B,C\nbase,A,15,0,600,1800\n",
+        b"scenario,origin,share,access_1800,A,B,C\nbase,A,50,15,0,600,1800\n",
     );
     let less = Asked {
-        within: 1799,
+        withins: &[1799],
         ..EIGHT
     };
     expect(
@@ -551,6 +589,6 @@ fn opportunities_count_where_the_cell_is_within(rt: HostRuntime) {
         rt.alloc(),
         &inputs,
         less,
-        b"scenario,origin,access,A,B,C\nbase,A,10,0,600,1800\n",
+        b"scenario,origin,share,access_1799,A,B,C\nbase,A,50,10,0,600,1800\n",
     );
 }

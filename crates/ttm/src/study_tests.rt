@@ -29,27 +29,29 @@ const TOO_EARLY: (&[u8], &[u8]) = (b"early", b"action,id,seconds\nshift_trip,T1,
 /// A scenario's name and the bytes of its file.
 type Named = (&'static [u8], &'static [u8]);
 
-/// What is asked of the small feed: on Monday 4 May 2026, within 1,800 seconds.
+/// What is asked of the small feed: on Monday 4 May 2026.
 #[derive(Clone, Copy)]
 struct Case {
     date: &'static [u8],
     first: u32,
     minutes: u32,
     rides: u32,
-    share: u32,
+    shares: &'static [u32],
+    withins: &'static [u32],
     workers: u32,
     transfers: Option<&'static [u8]>,
     origins: &'static [u8],
     scenarios: &'static [Named],
 }
 
-/// At 08:00 from A by at most two rides.
+/// At 08:00 from A by at most two rides, half of the minutes, and half an hour.
 const FIRST: Case = Case {
     date: b"20260504",
     first: 480,
     minutes: 1,
     rides: 2,
-    share: 50,
+    shares: &[50],
+    withins: &[1800],
     workers: 1,
     transfers: None,
     origins: FROM_A,
@@ -86,7 +88,14 @@ fn files_of<R: Threads + Wait + Sync + Abort>(
     files
 }
 
-fn settings_of<R: Threads + Wait + Sync + Abort>(rt: &R, case: &Case) -> Settings {
+fn list_of<R: Threads + Wait + Sync + Abort>(rt: &R, alloc: Global, numbers: &[u32]) -> Vec<u32> {
+    match Vec::from_slice(alloc, numbers) {
+        Ok(list) => list,
+        Err(_) => panic!(rt; "out of memory"),
+    }
+}
+
+fn settings_of<R: Threads + Wait + Sync + Abort>(rt: &R, alloc: Global, case: &Case) -> Settings {
     Settings {
         date: date_of(rt, case.date),
         back: 1,
@@ -95,8 +104,8 @@ fn settings_of<R: Threads + Wait + Sync + Abort>(rt: &R, case: &Case) -> Setting
         minutes: case.minutes,
         rides: case.rides,
         walk: 0,
-        share: case.share,
-        within: 1800,
+        shares: list_of(rt, alloc, case.shares),
+        withins: list_of(rt, alloc, case.withins),
         workers: case.workers,
         tries: 2,
     }
@@ -118,7 +127,7 @@ fn study_of<R: Threads + Wait + Sync + Abort>(
         opportunities: None,
         scenarios: &files,
     };
-    let settings = settings_of(rt, case);
+    let settings = settings_of(rt, alloc, case);
     assert!(rt; inputs.fits());
     assert!(rt; settings.fits());
     run_study(rt, alloc, &inputs, &settings, &Open)
@@ -145,44 +154,106 @@ fn expect_fault<R: Threads + Wait + Sync + Abort>(
 
 #[test]
 fn gives_the_travel_times_of_one_minute(rt: HostRuntime) {
-    let two = b"scenario,origin,access,A,B,C\nbase,A,3,0,600,1800\n";
+    let two = b"scenario,origin,share,access_1800,A,B,C\nbase,A,50,3,0,600,1800\n";
     expect_text(&rt, rt.alloc(), &FIRST, two);
-    let one = b"scenario,origin,access,A,B,C\nbase,A,2,0,600,\n";
+    let one = b"scenario,origin,share,access_1800,A,B,C\nbase,A,50,2,0,600,\n";
     expect_text(&rt, rt.alloc(), &Case { rides: 1, ..FIRST }, one);
 }
 
+/// Four departures from 07:58 on.
+const FOUR: Case = Case {
+    first: 478,
+    minutes: 4,
+    ..FIRST
+};
+
 #[test]
 fn gives_the_shares_of_four_minutes(rt: HostRuntime) {
-    let cases: [(u32, &[u8]); 5] = [
-        (1, b"scenario,origin,access,A,B,C\nbase,A,3,0,600,1800\n"),
-        (25, b"scenario,origin,access,A,B,C\nbase,A,3,0,600,1800\n"),
-        (50, b"scenario,origin,access,A,B,C\nbase,A,2,0,660,1860\n"),
-        (75, b"scenario,origin,access,A,B,C\nbase,A,2,0,720,1920\n"),
-        (100, b"scenario,origin,access,A,B,C\nbase,A,1,0,,\n"),
+    let cases: [(&'static [u32], &[u8]); 5] = [
+        (
+            &[1],
+            b"scenario,origin,share,access_1800,A,B,C\nbase,A,1,3,0,600,1800\n",
+        ),
+        (
+            &[25],
+            b"scenario,origin,share,access_1800,A,B,C\nbase,A,25,3,0,600,1800\n",
+        ),
+        (
+            &[50],
+            b"scenario,origin,share,access_1800,A,B,C\nbase,A,50,2,0,660,1860\n",
+        ),
+        (
+            &[75],
+            b"scenario,origin,share,access_1800,A,B,C\nbase,A,75,2,0,720,1920\n",
+        ),
+        (
+            &[100],
+            b"scenario,origin,share,access_1800,A,B,C\nbase,A,100,1,0,,\n",
+        ),
     ];
-    for (share, want) in &cases {
+    for (shares, want) in &cases {
         let case = Case {
-            first: 478,
-            minutes: 4,
-            share: *share,
-            ..FIRST
+            shares: *shares,
+            ..FOUR
         };
         expect_text(&rt, rt.alloc(), &case, *want);
     }
 }
 
 #[test]
+fn gives_a_line_for_each_share_and_access_for_each_limit(rt: HostRuntime) {
+    let want = b"scenario,origin,share,access_700,access_1800,A,B,C
+base,A,1,2,3,0,600,1800
+base,A,25,2,3,0,600,1800
+base,A,50,2,2,0,660,1860
+base,A,75,1,2,0,720,1920
+base,A,100,1,1,0,,
+";
+    for workers in [1, 2] {
+        let case = Case {
+            shares: &[1, 25, 50, 75, 100],
+            withins: &[700, 1800],
+            workers,
+            ..FOUR
+        };
+        expect_text(&rt, rt.alloc(), &case, want);
+    }
+}
+
+#[test]
+fn lines_of_shares_stand_together(rt: HostRuntime) {
+    let want = b"scenario,origin,share,access_600,access_1800,A,B,C
+base,A,50,1,2,0,660,1860
+base,A,100,1,1,0,,
+base,C,50,1,1,,,0
+base,C,100,1,1,,,0
+cut,A,50,1,2,0,660,
+cut,A,100,1,1,0,,
+cut,C,50,1,1,,,0
+cut,C,100,1,1,,,0
+";
+    let case = Case {
+        shares: &[50, 100],
+        withins: &[600, 1800],
+        origins: b"stop_id\nA\nC\n",
+        scenarios: &[CUT],
+        ..FOUR
+    };
+    expect_text(&rt, rt.alloc(), &case, want);
+}
+
+#[test]
 fn gives_each_scenario_its_own_edits_whatever_the_workers(rt: HostRuntime) {
-    let want = b"scenario,origin,access,A,B,C
-base,A,3,0,600,1800
-base,B,2,,0,1800
-base,C,1,,,0
-cut,A,2,0,600,
-cut,B,1,,0,
-cut,C,1,,,0
-late,A,3,0,900,1800
-late,B,2,,0,1800
-late,C,1,,,0
+    let want = b"scenario,origin,share,access_1800,A,B,C
+base,A,50,3,0,600,1800
+base,B,50,2,,0,1800
+base,C,50,1,,,0
+cut,A,50,2,0,600,
+cut,B,50,1,,0,
+cut,C,50,1,,,0
+late,A,50,3,0,900,1800
+late,B,50,2,,0,1800
+late,C,50,1,,,0
 ";
     for workers in [1, 2, 7] {
         let case = Case {
@@ -198,10 +269,10 @@ late,C,1,,,0
 #[test]
 fn every_scenario_has_the_feeds_change_times(rt: HostRuntime) {
     // at B there are 300 seconds between the trips, 301, and none
-    let want = b"scenario,origin,access,A,B,C
-base,A,2,0,600,
-later,A,2,0,600,1801
-late,A,2,0,900,
+    let want = b"scenario,origin,share,access_1800,A,B,C
+base,A,50,2,0,600,
+later,A,50,2,0,600,1801
+late,A,50,2,0,900,
 ";
     let case = Case {
         transfers: Some(CHANGE_AT_B),

@@ -44,6 +44,8 @@ matrix_of s places m full done =
       scenarios = scenarios;
       origins = origins;
       width = done.width ∙ full.places_are.width;
+      shares = done.shares ∙ full.places_are.shares;
+      limits = done.limits ∙ full.places_are.limits;
       count = count_of s places m full done ∙ sym (λ i. scenarios i * origins i);
       rows = λ scenario origin row in_scenario in_origin at.
           let low : scenario < length s.networks = subst (λ n. scenario < n) scenarios in_scenario in
@@ -63,9 +65,16 @@ shape_of s places m fits full done =
       scenarios = matrix.scenarios;
       origins = matrix.origins;
       width = λ some. matrix.width ∙ width_is s fits some;
+      shares = matrix.shares;
+      limits = matrix.limits;
       count = matrix.count;
-      cells = λ k row below.
+      rows = λ k row below.
           let at = slice_get-get_or m.rows k row below in
           let is = row_of_place s places m k (get_or m.rows k row) full done (subst (λ n. k < n) (count_of s places m full done) below) at in
-          cells_of s _ _ (get_or m.rows k row) fits is ∙ sym matrix.width;
+          let has = cells_of s _ _ (get_or m.rows k row) fits is in
+          record {
+            shares_are = has.shares_are ∙ sym matrix.shares;
+            cells = λ j d low. has.cells j d low ∙ sym matrix.width;
+            access = λ j d low. has.access j d low ∙ sym matrix.limits;
+          };
     }

@@ -14,11 +14,11 @@ use Rattle.work_book.specs.Views.{seat_of}
 use Rattle.work_book.specs.declared.rule.View.{View}
 use Rattle.collector.specs.Row.{RowData}
 use Rattle.collector.specs.Places.{PlacesData, MatrixData, place_of, row_at}
-use Rattle.collector.specs.Offers.{belongs, is_open, after_offer, IsFinished, IsFirstEmpty}
+use Rattle.collector.specs.Offers.{belongs, has_all_cells, is_open, after_offer, IsFinished, IsFirstEmpty}
 use Rattle.collector.specs.Run.{offered}
 use Rattle.collector.specs.Laws.{is_for}
 use Rattle.collector.proofs.Divide.{origin_below, joined}
-use Rattle.collector.proofs.Offered.{in_range, offered_at, offered_sizes}
+use Rattle.collector.proofs.Offered.{in_range, offered_at, offered_sizes, offered_length}
 use Rattle.collector.proofs.Placed.{one_place}
 use Rattle.workers.specs.Study.{StudyData, StudyFits}
 use Rattle.workers.specs.Rows.{IsRowOf}
@@ -26,7 +26,7 @@ use Rattle.workers.specs.Jobs.{jobs_of, IsRowOfJob, ArePlaces, AreFilled, places
 use Rattle.workers.specs.Held.{times, HaveSameJobs, job_of_row, jobs_of_rows, AreRowsOf, HoldsRows}
 use Rattle.workers.specs.Filling.{IsFilledAs, AreFilledAs}
 use Rattle.workers.specs.Outcomes.{KeptEachJob, IsFirstUnkept}
-use Rattle.workers.proofs.Wide.{cells_of}
+use Rattle.workers.proofs.Wide.{is_whole_row}
 use Rattle.workers.proofs.NextJob.{none_at}
 use Rattle.workers.proofs.Times.{times_append, times_cons, same, same_true}
 
@@ -46,7 +46,7 @@ for_its_job : (s : StudyData) (places : PlacesData) (row : RowData) (job : ℕ) 
 for_its_job s places row job fits are is =
     let in_scenario : nat_lt row.scenario places.scenarios ≡ true = lt_true _ _ (subst (λ n. row.scenario < n) (sym are.scenarios) (slice_get_within s.networks row.scenario is.network is.network_is)) in
     let in_origin : nat_lt row.origin places.origins ≡ true = lt_true _ _ (subst (λ n. row.origin < n) (sym are.origins) (slice_get_within s.origins row.origin is.stop is.stop_is)) in
-    let wide : (length row.cells == places.width) ≡ true = eq_test _ _ (cells_of s _ _ row fits is ∙ sym are.width) in
+    let wide : has_all_cells places row ≡ true = is_whole_row s places _ _ row fits are is in
     let of_study : (row.study == places.study) ≡ true = eq_test _ _ (is.study_is ∙ sym are.study) in
     let there : belongs places row ≡ true = and_true _ _ true of_study (and_true _ _ true in_scenario (and_true _ _ true in_origin wide)) in
     and_true (belongs places row) (place_of places row.scenario row.origin == job) (job_of_row s row == job) there
@@ -118,10 +118,12 @@ fills s kept more places rows fits holds was =
     record {
       places_are = record {
         study = offered_study rows places ∙ are.study;
-        scenarios = sizes.0 ∙ are.scenarios;
-        origins = sizes.1 ∙ are.origins;
-        width = sizes.2 ∙ are.width;
-        count = sizes.3 ∙ are.count;
+        scenarios = sizes.scenarios ∙ are.scenarios;
+        origins = sizes.origins ∙ are.origins;
+        width = sizes.width ∙ are.width;
+        shares = sizes.shares ∙ are.shares;
+        limits = sizes.limits ∙ are.limits;
+        count = offered_length rows places ∙ are.count;
       };
       filled = λ job low.
           subst (IsFilledAs s (kept ++ more) job) (sym (offered_at rows places job size))
@@ -132,7 +134,7 @@ fills s kept more places rows fits holds was =
 -- before the first row
 pub opens : (s : StudyData) → AreFilledAs s [] (places_without_rows s)
 opens s = record {
-  places_are = record { study = refl; scenarios = refl; origins = refl; width = refl; count = length-replicate (jobs_of s) None };
+  places_are = record { study = refl; scenarios = refl; origins = refl; width = refl; shares = refl; limits = refl; count = length-replicate (jobs_of s) None };
   filled = λ job low. subst (IsFilledAs s [] job) (sym (none_at (jobs_of s) job)) refl;
 }
 

@@ -21,5 +21,5 @@ module _ {X : Type 0} (P : X → Type 0) where
 
 -- what the promise of a handle says is about this board and study
 pub kept_for : (board : Board) (s : StudyData) (p : Promised) (w : Worked) → IsPromised board s p
-    → WorkedFor p.board.now (study_by p.terms p.networks.now p.origins.now p.opportunities.now) w → WorkedFor board s w
+    → WorkedFor p.board.now (study_by p.terms p.networks.now p.origins.now p.opportunities.now p.shares.now p.limits.now) w → WorkedFor board s w
 kept_for board s p w is h = subst (λ (z : Board × StudyData). WorkedFor z.0 z.1 w) (λ i. (is.0 i, is.1 i)) h

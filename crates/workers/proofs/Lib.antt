@@ -1,3 +1,4 @@
+pub mod Shares
 pub mod Wide
 pub mod Seat
 pub mod NextJob

@@ -10,13 +10,12 @@ use Rattle.work_book.specs.Book.{BookState, new_book, acts, seat_has, is_marked,
 use Rattle.work_book.specs.Steps.{after}
 use Rattle.work_book.specs.declared.steps.Step.TheVariants.{Draw}
 use Rattle.collector.specs.Row.{RowData}
-use Rattle.collector.specs.Places.{PlacesData, empty_places, place_of, row_at}
-use Rattle.collector.specs.Offers.{belongs, is_open, after_offer}
+use Rattle.collector.specs.Places.{PlacesData, place_of, row_at}
+use Rattle.collector.specs.Offers.{belongs, has_all_cells, is_open, after_offer}
 use Rattle.collector.proofs.Divide.{scenario_below, origin_below, joined}
 use Rattle.workers.specs.Study.{StudyData, StudyFits}
-use Rattle.workers.specs.Matrices.{width_of}
-use Rattle.workers.specs.Jobs.{jobs_of, IsRowOfJob, DoesJob, HasNoJob, ArePlaces, AreFilledBelow, IsUnderWay, AreFilled}
-use Rattle.workers.proofs.Wide.{cells_of}
+use Rattle.workers.specs.Jobs.{jobs_of, IsRowOfJob, DoesJob, HasNoJob, places_without_rows, ArePlaces, AreFilledBelow, IsUnderWay, AreFilled}
+use Rattle.workers.proofs.Wide.{is_whole_row}
 use Rattle.workers.proofs.Seat.{drew, leased, none_left, settled, keeps}
 
 lt_true : (a b : ℕ) → a < b → nat_lt a b ≡ true
@@ -41,7 +40,7 @@ offered s places job row fits are low none is =
     (λ i. is.scenario_is i * are.origins i + is.origin_is i) ∙ joined (length s.origins) job in
     let in_scenario : nat_lt row.scenario places.scenarios ≡ true = lt_true _ _ (subst (λ n. row.scenario < n) (sym are.scenarios) (subst (λ n. n < length s.networks) (sym is.scenario_is) (scenario_below (length s.networks) (length s.origins) job low))) in
     let in_origin : nat_lt row.origin places.origins ≡ true = lt_true _ _ (subst (λ n. row.origin < n) (sym are.origins) (subst (λ n. n < length s.origins) (sym is.origin_is) (origin_below (length s.networks) (length s.origins) job low))) in
-    let wide : (length row.cells == places.width) ≡ true = eq_test _ _ (cells_of s _ _ row fits is ∙ sym are.width) in
+    let wide : has_all_cells places row ≡ true = is_whole_row s places _ _ row fits are is in
     let of_study : (row.study == places.study) ≡ true = eq_test _ _ (is.study_is ∙ sym are.study) in
     let there : belongs places row ≡ true = and_true _ _ of_study (and_true _ _ in_scenario (and_true _ _ in_origin wide)) in
     let gap : is_open places row ≡ true = ap (λ k. not (is_some (row_at places k))) place ∙ ap (λ (o : Option RowData). not (is_some o)) none in
@@ -70,6 +69,8 @@ places_with s places job row are = record {
   scenarios = are.scenarios;
   origins = are.origins;
   width = are.width;
+  shares = are.shares;
+  limits = are.limits;
   count = length-set places.rows job (Some row) ∙ are.count;
 }
 
@@ -137,14 +138,14 @@ open_at (suc n) zero = refl
 open_at (suc n) (suc k) = open_at n k
 
 -- a new book and empty places are on the way
-pub opened : (s : StudyData) → IsUnderWay s (new_book (jobs_of s) 1 1) (empty_places s.number (length s.networks) (length s.origins) (width_of s.networks))
+pub opened : (s : StudyData) → IsUnderWay s (new_book (jobs_of s) 1 1) (places_without_rows s)
 opened s = record {
   jobs = refl;
   tries = refl;
   seat = refl;
   next = omega arith;
   open_jobs = λ job past. open_at (jobs_of s) job;
-  places_are = record { study = refl; scenarios = refl; origins = refl; width = refl; count = length-replicate (jobs_of s) None };
+  places_are = record { study = refl; scenarios = refl; origins = refl; width = refl; shares = refl; limits = refl; count = length-replicate (jobs_of s) None };
   filled = λ job below. absurd (omega arith);
   rest = λ job past. none_at (jobs_of s) job;
 }

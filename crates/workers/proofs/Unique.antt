@@ -1,27 +1,45 @@
 -- Rows and matrices are unique.
-use Rattle.std.proofs.Common.{◌≡◌, ◌<◌, ◌+◌, ◌*◌, ◌/◌, ◌%◌, ℕ, List, Option, Some, length, get_or, refl, sym, ap, ◌∙◌, subst}
-use Rattle.std.specs.List.{slice_get}
+use Rattle.std.proofs.Common.{◌≡◌, ◌<◌, ◌+◌, ◌*◌, ◌/◌, ◌%◌, ℕ, List, [], ◌∷◌, Option, Some, length, get_or, refl, sym, ap, ◌∙◌, subst}
+use Rattle.std.specs.List.{slice_get, AllZip}
 use Rattle.std.proofs.lemmas.List.{same_lists}
 use Rattle.std.proofs.lemmas.Option.{slice_get-get_or}
 use Rattle.timetable.specs.declared.trips.StopNo.{StopNo}
 use Rattle.timetable.specs.Networks.{Net}
 use Rattle.rounds.specs.Table.{Times}
 use Rattle.rounds.proofs.Unique.{durations_unique}
-use Rattle.shares.specs.Percentiles.{AreCells}
-use Rattle.shares.specs.Opportunities.{access_of}
 use Rattle.shares.proofs.Unique.{cells_unique}
-use Rattle.collector.specs.Row.{RowData}
+use Rattle.collector.specs.Row.{CellsData, RowData}
 use Rattle.collector.proofs.Divide.{scenario_below, origin_below, joined}
 use Rattle.workers.specs.Study.{Query, StudyData}
-use Rattle.workers.specs.Rows.{IsRow, IsRowOf}
+use Rattle.workers.specs.Rows.{sums_of, IsOfShare, IsRow, IsRowOf}
 use Rattle.workers.specs.Laws.{RowsAreUnique, RowsDependOnTheirNetwork, MatricesAreUnique}
 
--- the cells and the access of a network are unique
+module _ (times : Times) (opportunities limits : List ℕ) where
+  -- what a share gives is unique
+  share_unique : (share : ℕ) (some other : CellsData) → IsOfShare times opportunities limits share some → IsOfShare times opportunities limits share other → some ≡ other
+  share_unique share some other h g =
+      let cells = cells_unique times share some.cells other.cells h.cells_are g.cells_are in
+      let access = h.access_is ∙ ap (λ (c : List (Option ℕ)). sums_of c opportunities limits) cells ∙ sym g.access_is in
+      λ i. record { cells = cells i; access = access i }
+
+  shares_unique : (shares : List ℕ) (some others : List CellsData) → AllZip (IsOfShare times opportunities limits) shares some
+      → AllZip (IsOfShare times opportunities limits) shares others → some ≡ others
+  shares_unique [] [] [] h g = refl
+  shares_unique [] [] (y ∷ ys) h g = absurd g
+  shares_unique [] (x ∷ xs) ys h g = absurd h
+  shares_unique (share ∷ shares) [] ys h g = absurd h
+  shares_unique (share ∷ shares) (x ∷ xs) [] h g = absurd g
+  shares_unique (share ∷ shares) (x ∷ xs) (y ∷ ys) h g =
+      let first = share_unique share x y h.0 g.0 in
+      let rest = shares_unique shares xs ys h.1 g.1 in
+      λ i. first i ∷ rest i
+
+-- what a network gives is unique
 pub row_unique : RowsAreUnique
-row_unique n origin opportunities q cells others access other h g =
+row_unique n origin opportunities q some other h g =
     let times : g.times ≡ h.times = durations_unique n origin q.window q.rides g.times h.times g.durations h.durations in
-    let same : cells ≡ others = cells_unique h.times q.share cells others h.cells_are (subst (λ (t : Times). AreCells t q.share others) times g.cells_are) in
-    (same, h.access_is ∙ ap (λ (c : List (Option ℕ)). access_of c opportunities q.within) same ∙ sym g.access_is)
+    shares_unique h.times opportunities q.limits q.shares some other h.shares_are
+    (subst (λ (t : Times). AllZip (IsOfShare t opportunities q.limits) q.shares other) times g.shares_are)
 
 inner : {A : Type 0} (x y : A) → Some x ≡ Some y → x ≡ y
 inner x y e = cc
@@ -31,30 +49,32 @@ pub same_row : RowsDependOnTheirNetwork
 same_row s t scenario of_other origin row other same networks h g =
     let network : h.network ≡ g.network = inner h.network g.network (sym h.network_is ∙ networks ∙ g.network_is) in
     let stop : h.stop ≡ g.stop = inner h.stop g.stop (sym h.stop_is ∙ ap (λ (o : List StopNo). slice_get o origin) same.origins ∙ g.stop_is) in
-    let of_network : IsRow g.network h.stop.0 s.opportunities s.query row.cells row.access =
-    subst (λ (n : Net). IsRow n h.stop.0 s.opportunities s.query row.cells row.access) network h.is_row in
-    let of_stop : IsRow g.network g.stop.0 s.opportunities s.query row.cells row.access =
-    subst (λ (p : StopNo). IsRow g.network p.0 s.opportunities s.query row.cells row.access) stop of_network in
-    let of_opportunities : IsRow g.network g.stop.0 t.opportunities s.query row.cells row.access =
-    subst (λ (o : List ℕ). IsRow g.network g.stop.0 o s.query row.cells row.access) same.opportunities of_stop in
-    let of_query : IsRow g.network g.stop.0 t.opportunities t.query row.cells row.access =
-    subst (λ (q : Query). IsRow g.network g.stop.0 t.opportunities q row.cells row.access) same.query of_opportunities in
-    row_unique g.network g.stop.0 t.opportunities t.query row.cells other.cells row.access other.access of_query g.is_row
+    let of_network : IsRow g.network h.stop.0 s.opportunities s.query row.shares =
+    subst (λ (n : Net). IsRow n h.stop.0 s.opportunities s.query row.shares) network h.is_row in
+    let of_stop : IsRow g.network g.stop.0 s.opportunities s.query row.shares =
+    subst (λ (p : StopNo). IsRow g.network p.0 s.opportunities s.query row.shares) stop of_network in
+    let of_opportunities : IsRow g.network g.stop.0 t.opportunities s.query row.shares =
+    subst (λ (o : List ℕ). IsRow g.network g.stop.0 o s.query row.shares) same.opportunities of_stop in
+    let of_query : IsRow g.network g.stop.0 t.opportunities t.query row.shares =
+    subst (λ (q : Query). IsRow g.network g.stop.0 t.opportunities q row.shares) same.query of_opportunities in
+    row_unique g.network g.stop.0 t.opportunities t.query row.shares other.shares of_query g.is_row
 
 -- a place of a study has one row
 place_unique : (s : StudyData) (scenario origin : ℕ) (row other : RowData) → IsRowOf s scenario origin row → IsRowOf s scenario origin other → row ≡ other
 place_unique s scenario origin row other h g =
-    let values = same_row s s scenario scenario origin row other (record { origins = refl; opportunities = refl; query = refl }) refl h g in
+    let shares = same_row s s scenario scenario origin row other (record { origins = refl; opportunities = refl; query = refl }) refl h g in
     let study = h.study_is ∙ sym g.study_is in
     let scenarios = h.scenario_is ∙ sym g.scenario_is in
     let origins = h.origin_is ∙ sym g.origin_is in
-    λ i. record { study = study i; scenario = scenarios i; origin = origins i; cells = values.0 i; access = values.1 i }
+    λ i. record { study = study i; scenario = scenarios i; origin = origins i; shares = shares i }
 
 pub matrix_unique : MatricesAreUnique
 matrix_unique s m w h g =
     let scenarios : m.scenarios ≡ w.scenarios = h.scenarios ∙ sym g.scenarios in
     let origins : m.origins ≡ w.origins = h.origins ∙ sym g.origins in
     let width : m.width ≡ w.width = h.width ∙ sym g.width in
+    let shares : m.shares ≡ w.shares = h.shares ∙ sym g.shares in
+    let limits : m.limits ≡ w.limits = h.limits ∙ sym g.limits in
     let count : length m.rows ≡ length w.rows = h.count ∙ (λ i. scenarios i * origins i) ∙ sym g.count in
     let rows : m.rows ≡ w.rows = same_lists m.rows w.rows count (λ k d below.
     let low : k < m.scenarios * m.origins = subst (λ n. k < n) h.count below in
@@ -68,4 +88,4 @@ matrix_unique s m w h g =
     let of_w = g.rows scenario origin (get_or w.rows k d) (subst (λ n. scenario < n) scenarios in_scenarios) (subst (λ n. origin < n) origins in_origins)
     (ap (λ n. slice_get w.rows (scenario * n + origin)) (sym origins) ∙ ap (λ j. slice_get w.rows j) place ∙ slice_get-get_or w.rows k d (subst (λ n. k < n) count below)) in
     place_unique s scenario origin (get_or m.rows k d) (get_or w.rows k d) of_m of_w) in
-    λ i. record { scenarios = scenarios i; origins = origins i; width = width i; rows = rows i }
+    λ i. record { scenarios = scenarios i; origins = origins i; width = width i; shares = shares i; limits = limits i; rows = rows i }

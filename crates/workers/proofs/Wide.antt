@@ -1,12 +1,27 @@
--- Each row of a study that fits has a cell per stop.
-use Rattle.std.proofs.Common.{◌≡◌, ◌<◌, ℕ, List, [], ◌∷◌, Some, length, get_or, sym, ◌∙◌, subst, arith}
+-- Each row of a study that fits has a cell per stop and a sum per limit for each share.
+use Rattle.std.proofs.Common.{◌≡◌, ◌<◌, ◌==◌, ◌&&◌, ℕ, Bool, true, false, List, [], ◌∷◌, Some, length, get_or, sym, ap, ◌∙◌, subst, arith}
 use Rattle.std.specs.List.{slice_get}
+use Rattle.std.proofs.lemmas.List.{length-map}
+use Rattle.std.proofs.lemmas.List.Sums.{list_all-from_AllPass}
 use Rattle.std.proofs.lemmas.Option.{slice_get_within, get_or_from_slice_get}
+use Rattle.std.proofs.lemmas.Bool.Decides.{nat_tests}
 use Rattle.timetable.specs.Networks.{Net}
-use Rattle.collector.specs.Row.{RowData}
+use Rattle.shares.specs.Opportunities.{access_of}
+use Rattle.collector.specs.Row.{CellsData, RowData}
+use Rattle.collector.specs.Places.{PlacesData}
+use Rattle.collector.specs.Offers.{is_whole, has_all_cells}
 use Rattle.workers.specs.Study.{StudyData, StudyFits}
-use Rattle.workers.specs.Rows.{IsRowOf}
-use Rattle.workers.specs.Matrices.{width_of}
+use Rattle.workers.specs.Rows.{IsOfShare, IsRowOf}
+use Rattle.workers.specs.Matrices.{width_of, HasAllCells}
+use Rattle.workers.specs.Jobs.{ArePlaces}
+use Rattle.workers.proofs.Shares.{zip_length, zip_at}
+
+eq_test : (a b : ℕ) → a ≡ b → (a == b) ≡ true
+eq_test a b h = grind (arith, nat_tests)
+
+and_true : (a b : Bool) → a ≡ true → b ≡ true → (a && b) ≡ true
+and_true true b h k = k
+and_true false b h k = h
 
 -- each network has as many stops as there are opportunities
 pub stops_of : (s : StudyData) (k : ℕ) (n : Net) → StudyFits s → slice_get s.networks k ≡ Some n → n.stops ≡ length s.opportunities
@@ -22,9 +37,28 @@ width_is s fits some = go s.networks fits.stops some
     go [] all h = absurd (omega arith)
     go (n ∷ ns) all h = all 0 n h
 
--- and as many cells of a row
-pub cells_of : (s : StudyData) (scenario origin : ℕ) (row : RowData) → StudyFits s → IsRowOf s scenario origin row → length row.cells ≡ width_of s.networks
+-- and as many cells of a row for each share
+pub cells_of : (s : StudyData) (scenario origin : ℕ) (row : RowData) → StudyFits s → IsRowOf s scenario origin row
+    → HasAllCells (length s.query.shares) (width_of s.networks) (length s.query.limits) row
 cells_of s scenario origin row fits is =
     let within = slice_get_within s.networks scenario is.network is.network_is in
     let some : 0 < length s.networks = omega arith in
-    is.is_row.cells_are.stops ∙ is.is_row.durations.stops ∙ stops_of s scenario is.network fits is.network_is ∙ sym (width_is s fits some)
+    let given = IsOfShare is.is_row.times s.opportunities s.query.limits in
+    let many : length s.query.shares ≡ length row.shares = zip_length given s.query.shares row.shares is.is_row.shares_are in
+    let wide = is.is_row.durations.stops ∙ stops_of s scenario is.network fits is.network_is ∙ sym (width_is s fits some) in
+    let of_share : (k : ℕ) (d : CellsData) → k < length row.shares → given (get_or s.query.shares k 0) (get_or row.shares k d) =
+    λ k d below. zip_at given s.query.shares row.shares k 0 d is.is_row.shares_are (subst (λ n. k < n) (sym many) below) in
+    record {
+      shares_are = sym many;
+      cells = λ k d below. (of_share k d below).cells_are.stops ∙ wide;
+      access = λ k d below. ap length (of_share k d below).access_is ∙ length-map s.query.limits (λ limit. access_of (get_or row.shares k d).cells s.opportunities limit);
+    }
+
+-- so such a row has all the cells that the places of the study ask for
+pub is_whole_row : (s : StudyData) (places : PlacesData) (scenario origin : ℕ) (row : RowData) → StudyFits s → ArePlaces s places → IsRowOf s scenario origin row
+    → has_all_cells places row ≡ true
+is_whole_row s places scenario origin row fits are is =
+    let has = cells_of s scenario origin row fits is in
+    and_true _ _ (eq_test _ _ (has.shares_are ∙ sym are.shares))
+    (list_all-from_AllPass (is_whole places.width places.limits) row.shares
+    (λ k d below. and_true _ _ (eq_test _ _ (has.cells k d below ∙ sym are.width)) (eq_test _ _ (has.access k d below ∙ sym are.limits))))

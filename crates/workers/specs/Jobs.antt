@@ -37,7 +37,8 @@ pub record HasNoJob (old new : BookState) (places offered : PlacesData) : Type 0
 
 -- the places of a study before its first row
 abbrev pub places_without_rows : StudyData → PlacesData
-places_without_rows s = empty_places s.number (length s.networks) (length s.origins) (width_of s.networks)
+places_without_rows s =
+    empty_places s.number (length s.networks) (length s.origins) (width_of s.networks) (length s.query.shares) (length s.query.limits)
 
 -- the places are those of a study, one per job
 pub record ArePlaces (s : StudyData) (places : PlacesData) : Type 0 where
@@ -45,6 +46,8 @@ pub record ArePlaces (s : StudyData) (places : PlacesData) : Type 0 where
   pub scenarios : places.scenarios ≡ length s.networks
   pub origins : places.origins ≡ length s.origins
   pub width : places.width ≡ width_of s.networks
+  pub shares : places.shares ≡ length s.query.shares
+  pub limits : places.limits ≡ length s.query.limits
   pub count : length places.rows ≡ jobs_of s
 
 -- the jobs below n have their rows

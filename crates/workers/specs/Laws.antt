@@ -1,7 +1,7 @@
 -- What follows for rows and matrices.
-use Rattle.std.specs.Prelude.{◌≡◌, ℕ, List, Option, slice_get}
+use Rattle.std.specs.Prelude.{◌≡◌, ℕ, List, slice_get}
 use Rattle.timetable.specs.Networks.{Net}
-use Rattle.collector.specs.Row.{RowData}
+use Rattle.collector.specs.Row.{CellsData, RowData}
 use Rattle.collector.specs.Places.{MatrixData}
 use Rattle.workers.specs.Study.{Query, StudyData}
 use Rattle.workers.specs.Rows.{IsRow, IsRowOf}
@@ -10,9 +10,8 @@ use Rattle.workers.specs.Matrices.{IsMatrix}
 -- a law: a network, an origin, opportunities and a query have one row
 abbrev pub RowsAreUnique : Type 0
 RowsAreUnique =
-    (n : Net) (origin : ℕ) (opportunities : List ℕ) (q : Query) (cells others : List (Option ℕ)) (access other : ℕ) →
-    IsRow n origin opportunities q cells access → IsRow n origin opportunities q others other →
-    (cells ≡ others) × (access ≡ other)
+    (n : Net) (origin : ℕ) (opportunities : List ℕ) (q : Query) (some other : List CellsData) →
+    IsRow n origin opportunities q some → IsRow n origin opportunities q other → some ≡ other
 
 -- two studies ask the same of their networks
 pub record AskTheSame (s t : StudyData) : Type 0 where
@@ -25,8 +24,7 @@ abbrev pub RowsDependOnTheirNetwork : Type 0
 RowsDependOnTheirNetwork =
     (s t : StudyData) (scenario of_other origin : ℕ) (row other : RowData) →
     AskTheSame s t → slice_get s.networks scenario ≡ slice_get t.networks of_other →
-    IsRowOf s scenario origin row → IsRowOf t of_other origin other →
-    (row.cells ≡ other.cells) × (row.access ≡ other.access)
+    IsRowOf s scenario origin row → IsRowOf t of_other origin other → row.shares ≡ other.shares
 
 -- a law: a study has one matrix
 abbrev pub MatricesAreUnique : Type 0

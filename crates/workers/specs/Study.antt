@@ -1,19 +1,21 @@
 -- A study: the networks of its scenarios, the origins, what each stop counts for, and what is asked of every network.
 use Rattle.std.specs.Prelude.{◌≡◌, ℕ, ◌<◌, ◌≤◌, List, length, All}
+use Rattle.std.specs.List.Sorted.{IsStrictlyIncreasing}
 use Rattle.timetable.specs.declared.trips.StopNo.{StopNo}
 use Rattle.timetable.specs.declared.limits.TheConstants.{MOST_STOPS}
 use Rattle.timetable.specs.Networks.{Net}
 use Rattle.rounds.specs.declared.window.Window.{Window}
 use Rattle.rounds.specs.Window.{Fits}
+use Rattle.workers.specs.declared.study.Asked.{Asked}
 use Rattle.workers.specs.declared.study.Study.{Study}
-use Rattle.workers.specs.declared.study.TheConstants.{MOST_SCENARIOS, MOST_RIDES}
+use Rattle.workers.specs.declared.study.TheConstants.{MOST_SCENARIOS, MOST_RIDES, MOST_SHARES, MOST_LIMITS}
 
--- what is asked of a network: the departures, the most rides, the share of minutes, and the limit of reach
+-- what is asked of a network: the departures, the most rides, the shares of minutes, and the limits of reach
 pub record Query : Type 0 where
   pub window : Window
   pub rides : ℕ
-  pub share : ℕ
-  pub within : ℕ
+  pub shares : List ℕ
+  pub limits : List ℕ
 
 -- a study as plain data
 pub record StudyData : Type 0 where
@@ -23,6 +25,10 @@ pub record StudyData : Type 0 where
   pub opportunities : List ℕ
   pub query : Query
 
+-- the data of what is asked
+abbrev pub query_of : Asked → Query
+query_of a = record { window = a.window; rides = a.rides; shares = a.shares.now; limits = a.limits.now }
+
 -- the data of a study
 abbrev pub study_of : Study → StudyData
 study_of s = record {
@@ -30,8 +36,21 @@ study_of s = record {
   networks = s.networks.now;
   origins = s.origins.now;
   opportunities = s.opportunities.now;
-  query = record { window = s.window; rides = s.rides; share = s.share; within = s.within };
+  query = query_of s.asked;
 }
+
+-- shares to ask for: some, few, each above the one before, and all of a hundred minutes
+pub record SharesFit (shares : List ℕ) : Type 0 where
+  pub some : 1 ≤ length shares
+  pub few : length shares ≤ MOST_SHARES
+  pub rising : IsStrictlyIncreasing shares
+  pub each : All (λ share. (1 ≤ share) × (share ≤ 100)) shares
+
+-- limits to ask for: some, few, and each above the one before
+pub record LimitsFit (limits : List ℕ) : Type 0 where
+  pub some : 1 ≤ length limits
+  pub few : length limits ≤ MOST_LIMITS
+  pub rising : IsStrictlyIncreasing limits
 
 -- the study is within the limits, and its networks, origins and opportunities are of the same stops
 pub record StudyFits (s : StudyData) : Type 0 where
@@ -42,5 +61,5 @@ pub record StudyFits (s : StudyData) : Type 0 where
   pub window : Fits s.query.window
   pub some_rides : 1 ≤ s.query.rides
   pub few_rides : s.query.rides ≤ MOST_RIDES
-  pub some_share : 1 ≤ s.query.share
-  pub whole_share : s.query.share ≤ 100
+  pub shares : SharesFit s.query.shares
+  pub limits : LimitsFit s.query.limits

@@ -27,7 +27,7 @@ AreReady board seats = All (λ seat. IsReady board seat) seats
 
 -- the promise is about this board and study
 abbrev pub IsPromised : Board → StudyData → Promised → Type 0
-IsPromised board s p = (p.board.now ≡ board) × (study_by p.terms p.networks.now p.origins.now p.opportunities.now ≡ s)
+IsPromised board s p = (p.board.now ≡ board) × (study_by p.terms p.networks.now p.origins.now p.opportunities.now p.shares.now p.limits.now ≡ s)
 
 abbrev pub ArePromised : Board → StudyData → List (PromisedHandle Worked Promised) → Type 0
 ArePromised board s handles = All (λ handle. IsPromised board s handle.promise) handles

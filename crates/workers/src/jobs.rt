@@ -61,7 +61,17 @@ pub(crate) fn empty_places(alloc: Global, study: &Study) -> Result<Collector, Al
     let scenarios = study.networks.len() as u32;
     let origins = study.origins.len() as u32;
     let width = width_of(study.networks);
-    Collector::new(alloc, study.number, scenarios, origins, width)
+    let shares = study.asked.shares.len() as u32;
+    let limits = study.asked.limits.len() as u32;
+    Collector::new(
+        alloc,
+        study.number,
+        scenarios,
+        origins,
+        width,
+        shares,
+        limits,
+    )
 }
 
 /// How many stops the networks have.

@@ -23,8 +23,8 @@ pub fn rows_are_unique()
 
 /// A law: a scenario's rows depend on its own network alone.
 ///
-/// Two studies that agree on one scenario's network, and on origins, opportunities, window, rides, share and limit of
-/// reach, have the same cells and access in that scenario's rows, whatever their other scenarios are.
+/// Two studies that agree on one scenario's network, and on origins, opportunities, window, rides, shares and limits of
+/// reach, have the same cells and access sums in that scenario's rows, whatever their other scenarios are.
 pub fn rows_depend_on_their_network()
     ensures { RowsDependOnTheirNetwork }
 {}

@@ -1,7 +1,7 @@
 //! A study's rows, and the matrix that they make.
 //! A study asks for one row per scenario and origin; each row depends on its own scenario's network alone.
 //!
-//! - `study`: [`Study`], what is asked for.
+//! - `study`: [`Study`], what is asked for, and [`Asked`], what of it is asked of every network.
 //! - `rows`: [`row_of`], the row of one scenario and origin.
 //! - `jobs`: [`one_thread`], the matrix, row after row.
 //! - `run`: [`run_workers`], the same matrix, by workers in threads of their own that share a board of jobs.
@@ -34,4 +34,7 @@ pub use laws::{
 };
 pub use rows::row_of;
 pub use run::run_workers;
-pub use study::{MOST_RIDES, MOST_SCENARIOS, Study, limits_are_as_stated};
+pub use study::{
+    Asked, MOST_LIMITS, MOST_RIDES, MOST_SCENARIOS, MOST_SHARES, Study, limits_are_as_stated,
+    limits_fit, shares_fit,
+};

@@ -11,8 +11,6 @@ pub(crate) struct Terms {
     pub(crate) number: u64,
     pub(crate) window: Window,
     pub(crate) rides: u32,
-    pub(crate) share: u32,
-    pub(crate) within: u32,
 }
 
 /// The promise that what a worker gives back is of this board and study.
@@ -24,6 +22,8 @@ pub(crate) struct Promised<'a, 'b> {
     pub(crate) networks: &'a [Network],
     pub(crate) origins: &'a [StopNo],
     pub(crate) opportunities: &'a [u32],
+    pub(crate) shares: &'a [u32],
+    pub(crate) limits: &'a [u32],
     pub(crate) board: &'b Board,
 }
 
@@ -31,5 +31,6 @@ impl<'a, 'b> Promise<Worked> for Promised<'a, 'b> {
     ghost use Rattle.workers.specs.Parts.{study_by};
     ghost use Rattle.workers.specs.Held.{WorkedFor};
 
-    ghost kept_by = { λ p w. WorkedFor p.board.now (study_by p.terms p.networks.now p.origins.now p.opportunities.now) w };
+    ghost kept_by = { λ p w.
+        WorkedFor p.board.now (study_by p.terms p.networks.now p.origins.now p.opportunities.now p.shares.now p.limits.now) w };
 }

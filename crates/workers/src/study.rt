@@ -1,6 +1,7 @@
 //! Studies: what is asked of the networks.
 ghost use Rattle.std.specs.Prelude.{◌≡◌, ◌<◌, ◌↔◌, IsTrue, All, length};
-ghost use Rattle.workers.specs.Study.{study_of, StudyFits};
+ghost use Rattle.std.specs.List.Sorted.{IsStrictlyIncreasing};
+ghost use Rattle.workers.specs.Study.{study_of, SharesFit, LimitsFit, StudyFits};
 ghost use Rattle.workers.specs.declared.study.TheConstants as limit;
 
 use rounds::Window;
@@ -12,13 +13,34 @@ pub const MOST_SCENARIOS: usize = 16;
 /// The most rides that a study may allow a journey.
 pub const MOST_RIDES: u32 = 8;
 
+/// The most shares of the minutes that a study may ask for.
+pub const MOST_SHARES: usize = 8;
+
+/// The most limits of reach that a study may ask for.
+pub const MOST_LIMITS: usize = 8;
+
 /// A law: the limits of a study in numbers.
 pub fn limits_are_as_stated()
     ensures scenarios { limit.MOST_SCENARIOS ≡ 16 }
     ensures rides { limit.MOST_RIDES ≡ 8 }
+    ensures shares { limit.MOST_SHARES ≡ 8 }
+    ensures limits { limit.MOST_LIMITS ≡ 8 }
 {}
 
-/// What is asked for: one row per scenario and origin, with one cell per stop.
+/// What is asked of every network.
+#[derive(Clone, Copy)]
+pub struct Asked<'a> {
+    /// The departures.
+    pub window: Window,
+    /// The most rides of a journey.
+    pub rides: u32,
+    /// Of a hundred minutes, how many a cell's duration must suffice for; each share has its own cells.
+    pub shares: &'a [u32],
+    /// The longest travel times, in seconds, at which a stop counts for access; each limit has its own sum.
+    pub limits: &'a [u32],
+}
+
+/// What is asked for: one row per scenario and origin, with, for each share, one cell per stop and one access sum per limit.
 #[derive(Clone, Copy)]
 pub struct Study<'a> {
     /// The study's number, which each of its rows bears.
@@ -29,21 +51,15 @@ pub struct Study<'a> {
     pub origins: &'a [StopNo],
     /// What each stop counts for in the access of a row.
     pub opportunities: &'a [u32],
-    /// The departures.
-    pub window: Window,
-    /// The most rides of a journey.
-    pub rides: u32,
-    /// Of a hundred minutes, how many a cell's duration must suffice for.
-    pub share: u32,
-    /// The longest travel time, in seconds, at which a stop counts for access.
-    pub within: u32,
+    /// What is asked of every network.
+    pub asked: Asked<'a>,
 }
 
 impl Study<'_> {
     /// Whether the study is within the limits.
     ///
     /// There are at most 16 networks, each with as many stops as there are opportunities; at most 65,535 origins,
-    /// each of them one of these stops; the window fits; and there are 1 to 8 rides and a share of 1 to 100.
+    /// each of them one of these stops; the window fits; there are 1 to 8 rides; and the shares and the limits fit.
     pub fn fits(&self) -> bool
         ensures { IsTrue result ↔ StudyFits (study_of self.now) }
     {
@@ -51,12 +67,41 @@ impl Study<'_> {
             && have_stops(self.networks, self.opportunities.len())
             && self.origins.len() <= MOST_STOPS
             && are_stops(self.origins, self.opportunities.len())
-            && self.window.fits()
-            && 1 <= self.rides
-            && self.rides <= MOST_RIDES
-            && 1 <= self.share
-            && self.share <= 100
+            && self.asked.window.fits()
+            && 1 <= self.asked.rides
+            && self.asked.rides <= MOST_RIDES
+            && shares_fit(self.asked.shares)
+            && limits_fit(self.asked.limits)
     }
+}
+
+/// Whether these are shares to ask for: 1 to 8 of them, each above the one before, all 1 to 100.
+pub fn shares_fit(shares: &[u32]) -> bool
+    ensures { IsTrue result ↔ SharesFit shares.now }
+{
+    1 <= shares.len()
+        && shares.len() <= MOST_SHARES
+        && are_rising(shares)
+        && shares.iter().all(|share| 1 <= *share && *share <= 100)
+}
+
+/// Whether these are limits to ask for: 1 to 8 of them, each above the one before.
+pub fn limits_fit(limits: &[u32]) -> bool
+    ensures { IsTrue result ↔ LimitsFit limits.now }
+{
+    1 <= limits.len() && limits.len() <= MOST_LIMITS && are_rising(limits)
+}
+
+/// Whether each number is above the one before.
+fn are_rising(numbers: &[u32]) -> bool
+    ensures { IsTrue result ↔ IsStrictlyIncreasing numbers.now }
+{
+    for k in 1..numbers.len() {
+        if numbers[k] <= numbers[k - 1] {
+            return false;
+        }
+    }
+    true
 }
 
 /// Whether each network has so many stops.

@@ -7,7 +7,7 @@ ghost use Rattle.workers.specs.Threads.{AreOfOneStudy, IsReady, AreReady, AreWor
 
 use crate::gates::Gate;
 use crate::promise::{Promised, Terms};
-use crate::study::Study;
+use crate::study::{Asked, Study};
 use crate::worker::{Worked, work};
 use std::alloc::{AllocError, Global};
 use std::sync::Wait;
@@ -34,25 +34,29 @@ pub(crate) fn run_all<G: Gate + Sync, R: Threads + Wait + Sync>(
         networks,
         origins,
         opportunities,
+        asked,
+    } = *study;
+    let Asked {
         window,
         rides,
-        share,
-        within,
-    } = *study;
+        shares,
+        limits,
+    } = asked;
     let terms = Terms {
         number,
         window,
         rides,
-        share,
-        within,
     };
     thread::scope(
         thread::scope_env(),
         rt,
         move |scope| -> Result<Vec<Worked>, AllocError>
-            requires { AreOfOneStudy board.now (study_by terms networks.now origins.now opportunities.now) × AreReady board.now seats.items }
+            requires { AreOfOneStudy board.now (study_by terms networks.now origins.now opportunities.now shares.now limits.now)
+                × AreReady board.now seats.items }
             ensures { IfOk result (λ all.
-                AreWorked board.entry.now (study_by terms networks.entry.now origins.entry.now opportunities.entry.now) all.items) }
+                AreWorked board.entry.now
+                (study_by terms networks.entry.now origins.entry.now opportunities.entry.now shares.entry.now limits.entry.now)
+                all.items) }
         {
             let done = Vec::with_capacity(alloc, seats.len())?;
             let mut handles = Vec::with_capacity(alloc, seats.len())?;
@@ -61,15 +65,19 @@ pub(crate) fn run_all<G: Gate + Sync, R: Threads + Wait + Sync>(
                 networks,
                 origins,
                 opportunities,
+                shares,
+                limits,
                 board,
             };
             for seat in seats {
                 match scope.spawn_with(
                     promised,
                     move || -> Worked
-                        requires { AreOfOneStudy board.now (study_by terms networks.now origins.now opportunities.now)
+                        requires { AreOfOneStudy board.now (study_by terms networks.now origins.now opportunities.now shares.now limits.now)
                             × IsReady board.now seat }
-                        ensures { WorkedFor board.entry.now (study_by terms networks.entry.now origins.entry.now opportunities.entry.now) result }
+                        ensures { WorkedFor board.entry.now
+                            (study_by terms networks.entry.now origins.entry.now opportunities.entry.now shares.entry.now limits.entry.now)
+                            result }
                     {
                         work_in_parts(
                             alloc,
@@ -77,6 +85,8 @@ pub(crate) fn run_all<G: Gate + Sync, R: Threads + Wait + Sync>(
                             networks,
                             origins,
                             opportunities,
+                            shares,
+                            limits,
                             board,
                             seat,
                             gate,
@@ -99,23 +109,27 @@ fn work_in_parts<G: Gate>(
     networks: &[Network],
     origins: &[StopNo],
     opportunities: &[u32],
+    shares: &[u32],
+    limits: &[u32],
     board: &Board,
     seat: WorkSeat,
     gate: &G,
 ) -> Worked
-    requires study { AreOfOneStudy board.now (study_by terms networks.now origins.now opportunities.now) }
+    requires study { AreOfOneStudy board.now (study_by terms networks.now origins.now opportunities.now shares.now limits.now) }
     requires seat { IsReady board.now seat }
-    ensures { WorkedFor board.now (study_by terms networks.now origins.now opportunities.now) result }
+    ensures { WorkedFor board.now (study_by terms networks.now origins.now opportunities.now shares.now limits.now) result }
 {
     let study = Study {
         number: terms.number,
         networks,
         origins,
         opportunities,
-        window: terms.window,
-        rides: terms.rides,
-        share: terms.share,
-        within: terms.within,
+        asked: Asked {
+            window: terms.window,
+            rides: terms.rides,
+            shares,
+            limits,
+        },
     };
     work(alloc, &study, board, seat, gate)
 }
@@ -129,9 +143,13 @@ fn join_all<'a, 'b, R: Threads>(
 ) -> Vec<Worked>
     requires room { vec_len done + vec_len handles ≤ vec_capacity done }
     requires none { done.items ≡ [] }
-    requires promised { ArePromised promised.board.now (study_by promised.terms promised.networks.now promised.origins.now promised.opportunities.now) handles.items }
+    requires promised { ArePromised promised.board.now
+        (study_by promised.terms promised.networks.now promised.origins.now promised.opportunities.now promised.shares.now promised.limits.now)
+        handles.items }
     ensures worked { AreWorked promised.entry.board.now
-        (study_by promised.entry.terms promised.entry.networks.now promised.entry.origins.now promised.entry.opportunities.now) result.items }
+        (study_by promised.entry.terms promised.entry.networks.now promised.entry.origins.now promised.entry.opportunities.now
+        promised.entry.shares.now promised.entry.limits.now)
+        result.items }
     ensures len { vec_len result ≡ vec_len handles.entry }
 {
     for handle in handles {

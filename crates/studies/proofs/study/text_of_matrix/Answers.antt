@@ -5,6 +5,7 @@ use Rattle.gtfs_tables.specs.Origins.{origins_of}
 use Rattle.timetable.specs.declared.trips.StopNo.{StopNo}
 use Rattle.matrix_text.specs.Text.{LabelData, matrix_text}
 use Rattle.studies.specs.Inputs.{inputs_of}
+use Rattle.studies.specs.Settings.{SettingsData}
 use Rattle.studies.proofs.StudyFacts.{labels_are, labels_with, name_count}
 use Rattle.studies.proofs.study.text_of_matrix.Goals as goal
 
@@ -17,6 +18,8 @@ write_matrix-requires c =
       origins = ap (λ (l : List StopNo). length l) c.as_slice-2.ensures.value ∙ sym c.requires.origins;
       origins_are =
           subst (λ (l : List StopNo). All (λ (o : StopNo). o.0 < length c.args.feed.now.stops) l) (sym c.as_slice-2.ensures.value) c.requires.tables.in_range;
+      shares = ap (λ (l : List ℕ). length l) (c.as_slice-3.ensures.value ∙ ap (λ (s : SettingsData). s.shares) c.settings.view_is) ∙ sym c.requires.shares;
+      limits = ap (λ (l : List ℕ). length l) (c.as_slice-4.ensures.value ∙ ap (λ (s : SettingsData). s.withins) c.settings.view_is) ∙ sym c.requires.limits;
       columns = sym c.requires.width;
     }
 
@@ -27,8 +30,10 @@ returns-in-Ok-write_matrix-clause-text c =
     let names = ap (λ (l : List (Vec ℕ Global)). map (λ v. v.items) l) c.as_slice.ensures.value ∙ c.in-Ok.ensures in
     let origins = c.as_slice-2.ensures.value ∙ c.requires.tables.origins_are ∙ ap (λ (d : FeedData). origins_of i.origins d) c.requires.feed in
     let stops = ap (λ (d : FeedData). d.stops) c.requires.feed in
-    let labels = labels_are i (map (λ v. v.items) c.as_slice.result.now) c.as_slice-2.result.now c.args.feed.now.stops names origins stops in
-    let text : List ℕ = matrix_text (labels_with (map (λ v. v.items) c.as_slice.result.now) c.as_slice-2.result.now c.args.feed.now.stops) matrix in
+    let shares = c.as_slice-3.ensures.value ∙ ap (λ (s : SettingsData). s.shares) c.settings.view_is in
+    let limits = c.as_slice-4.ensures.value ∙ ap (λ (s : SettingsData). s.withins) c.settings.view_is in
+    let labels = labels_are i c.args.settings.now (map (λ v. v.items) c.as_slice.result.now) c.as_slice-2.result.now c.as_slice-3.result.now c.as_slice-4.result.now c.args.feed.now.stops names origins shares limits stops in
+    let text : List ℕ = matrix_text (labels_with (map (λ v. v.items) c.as_slice.result.now) c.as_slice-2.result.now c.as_slice-3.result.now c.as_slice-4.result.now c.args.feed.now.stops) matrix in
     c.in-Ok-write_matrix.ensures.ok
     ∙ ap (λ (l : List ℕ). l ++ text) c.new-text.ensures.items
     ∙ ap (λ (l : LabelData). matrix_text l matrix) labels

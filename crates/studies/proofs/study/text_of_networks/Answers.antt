@@ -3,17 +3,18 @@ use Rattle.gtfs_tables.specs.Feed.{FeedData}
 use Rattle.gtfs_tables.specs.Opportunities.{opportunities_of}
 use Rattle.gtfs_tables.specs.Origins.{origins_of}
 use Rattle.timetable.specs.declared.trips.StopNo.{StopNo}
+use Rattle.workers.specs.Study.{Query, query_of}
 use Rattle.studies.specs.Inputs.{inputs_of}
 use Rattle.studies.proofs.StudyFacts.{network_count, run_told, study_fits, study_is, text_made, text_told}
 use Rattle.studies.proofs.study.text_of_networks.Goals as goal
 
-pub window-requires : goal.window-requires
-window-requires g c = c.requires.settings
+pub asked-requires : goal.asked-requires
+asked-requires g c = c.requires.settings
 
 pub matrix_of-requires-clause-study : goal.matrix_of-requires-clause-study
 matrix_of-requires-clause-study g c = λ _ _.
-    study_fits (inputs_of c.args.inputs.now) c.args.settings.now c.args.feed.now c.args.tables.now c.args.networks.now c.as_slice.result.now c.as_slice-2.result.now c.window.result
-    c.requires.settings c.known.ensures c.requires.feed c.requires.tables c.requires.networks c.as_slice.ensures.value c.as_slice-2.ensures.value c.window.ensures
+    study_fits (inputs_of c.args.inputs.now) c.args.settings.now c.args.feed.now c.args.tables.now c.args.networks.now c.as_slice.result.now c.as_slice-2.result.now (query_of c.asked.result)
+    c.requires.settings c.known.ensures c.requires.feed c.requires.tables c.requires.networks c.as_slice.ensures.value c.as_slice-2.ensures.value c.asked.ensures
 
 pub returns-in-Err-clause-fault : goal.returns-in-Err-clause-fault
 returns-in-Err-clause-fault g c =
@@ -21,7 +22,7 @@ returns-in-Err-clause-fault g c =
     let origins = c.as_slice.ensures.value ∙ c.requires.tables.origins_are ∙ ap (λ (d : FeedData). origins_of i.origins d) c.requires.feed in
     let opportunities = c.as_slice-2.ensures.value ∙ c.requires.tables.opportunities_are ∙ ap (λ (d : FeedData). opportunities_of i.opportunities d) c.requires.feed in
     inl (run_told i c.args.settings.now c.args.networks.now _ c.in-Err.fault c.requires.networks
-    (study_is i c.args.settings.now c.args.networks.now c.as_slice.result.now c.as_slice-2.result.now c.window.result origins opportunities c.window.ensures)
+    (study_is i c.args.settings.now c.args.networks.now c.as_slice.result.now c.as_slice-2.result.now (query_of c.asked.result) origins opportunities c.asked.ensures)
     c.in-Err.ensures.fault)
 
 pub text_of_matrix-requires-clause-feed : goal.text_of_matrix-requires-clause-feed
@@ -43,13 +44,19 @@ text_of_matrix-requires-clause-width g c =
     let some : 0 < length c.args.networks.now = omega (arith, count) in
     c.in-Ok.ensures.shape.width some ∙ ap length c.as_slice-2.ensures.value ∙ c.requires.tables.count
 
+pub text_of_matrix-requires-clause-shares : goal.text_of_matrix-requires-clause-shares
+text_of_matrix-requires-clause-shares g c = c.in-Ok.ensures.shape.shares ∙ ap (λ (q : Query). length q.shares) c.asked.ensures
+
+pub text_of_matrix-requires-clause-limits : goal.text_of_matrix-requires-clause-limits
+text_of_matrix-requires-clause-limits g c = c.in-Ok.ensures.shape.limits ∙ ap (λ (q : Query). length q.limits) c.asked.ensures
+
 pub returns-clause-text : goal.returns-clause-text
 returns-clause-text g c =
     let i = inputs_of c.args.inputs.now in
     let origins = c.as_slice.ensures.value ∙ c.requires.tables.origins_are ∙ ap (λ (d : FeedData). origins_of i.origins d) c.requires.feed in
     let opportunities = c.as_slice-2.ensures.value ∙ c.requires.tables.opportunities_are ∙ ap (λ (d : FeedData). opportunities_of i.opportunities d) c.requires.feed in
     text_made (λ v. v.items) c.text_of_matrix.result i c.args.settings.now c.args.networks.now _ c.in-Ok.matrix c.requires.networks
-    (study_is i c.args.settings.now c.args.networks.now c.as_slice.result.now c.as_slice-2.result.now c.window.result origins opportunities c.window.ensures)
+    (study_is i c.args.settings.now c.args.networks.now c.as_slice.result.now c.as_slice-2.result.now (query_of c.asked.result) origins opportunities c.asked.ensures)
     c.in-Ok.ensures.matrix c.text_of_matrix.ensures.text
 
 pub returns-clause-fault : goal.returns-clause-fault

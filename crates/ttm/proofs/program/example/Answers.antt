@@ -1,4 +1,4 @@
 use Rattle.ttm.proofs.program.example.Goals as goal
 
-pub returns-clause-success : goal.returns-clause-success
-returns-clause-success g c = λ z. (_, _, c.answer.ensures.success z)
+pub returns-in-Ok-clause-success : goal.returns-in-Ok-clause-success
+returns-in-Ok-clause-success g c = λ z. (_, _, c.answer.ensures.success z)

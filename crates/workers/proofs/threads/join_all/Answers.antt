@@ -10,7 +10,7 @@ pub loop-handle-preserved : goal.loop-handle-preserved
 loop-handle-preserved g c =
     let p = c.args.promised in
     let b = p.board.now in
-    let s = study_by p.terms p.networks.now p.origins.now p.opportunities.now in
+    let s = study_by p.terms p.networks.now p.origins.now p.opportunities.now p.shares.now p.limits.now in
     let was = c.loop-handle.invariant in
     let steps = c.in-Some.ensures.steps in
     let all = into_iter_items c.loop-handle.handle-iterator in

@@ -12,5 +12,7 @@ returns-in-None-clause-full c =
       scenarios = ap (λ (p : PlacesData). p.scenarios) c.self.view_is;
       origins = ap (λ (p : PlacesData). p.origins) c.self.view_is;
       width = ap (λ (p : PlacesData). p.width) c.self.view_is;
+      shares = ap (λ (p : PlacesData). p.shares) c.self.view_is;
+      limits = ap (λ (p : PlacesData). p.limits) c.self.view_is;
       rows = sym rows ∙ all_present c.self.inside.places.items full;
     }

@@ -10,5 +10,5 @@ invariant-loop-seat g l = record {
   done : vec_len l.handles + into_iter_len l.seat-iterator ≤ vec_capacity l.done;
   none : vec_items l.done ≡ [];
   ready : AreReady l.board (into_iter_items l.seat-iterator);
-  promised : ArePromised l.board (study_by l.terms l.networks l.origins l.opportunities) (vec_items l.handles);
+  promised : ArePromised l.board (study_by l.terms l.networks l.origins l.opportunities l.shares l.limits) (vec_items l.handles);
 }
