@@ -1,0 +1,62 @@
+//! What comes of a trial.
+
+use std::alloc::AllocError;
+
+/// What comes of the trial of a call.
+#[derive(Clone, Copy, PartialEq, Eq)]
+pub(crate) enum Outcome {
+    /// It gave the right value.
+    Right,
+    /// It told want of memory, and gave the right value when it was made again.
+    RightAgain,
+    /// There was no memory for its inputs, and it wasn't made.
+    Inputs,
+    /// It gave another value, or told another fault.
+    Wrong,
+    /// It told want of memory, and then anything but the right value.
+    WrongAgain,
+}
+
+impl Outcome {
+    /// What comes of a call that gave a value at once.
+    pub(crate) fn at_once(is_right: bool) -> Outcome {
+        if is_right {
+            Outcome::Right
+        } else {
+            Outcome::Wrong
+        }
+    }
+
+    /// What comes of a call that told want of memory, and this when it was made again.
+    pub(crate) fn again(second: Result<bool, AllocError>) -> Outcome {
+        match second {
+            Ok(true) => Outcome::RightAgain,
+            _ => Outcome::WrongAgain,
+        }
+    }
+
+    /// The same in words.
+    pub(crate) fn words(self) -> &'static str {
+        match self {
+            Outcome::Right => "right",
+            Outcome::RightAgain => "refused, and right when asked again",
+            Outcome::Inputs => "inputs",
+            Outcome::Wrong => "wrong",
+            Outcome::WrongAgain => "wrong when asked again",
+        }
+    }
+
+    /// Whether the call is as it should be, as far as it was made.
+    pub(crate) fn is_right(self) -> bool {
+        !matches!(self, Outcome::Wrong | Outcome::WrongAgain)
+    }
+}
+
+/// What a call tells by a fault: want of memory, or anything else, which is wrong.
+pub(crate) fn told(is_memory: bool) -> Result<bool, AllocError> {
+    if is_memory {
+        Err(AllocError)
+    } else {
+        Ok(false)
+    }
+}
