@@ -27,7 +27,7 @@ labels_of l = record {
   stops = l.feed.now.stops;
 }
 
--- one name per scenario, one of the stops per origin, the shares and the limits of the matrix, and as many stops as it has columns
+-- one name per scenario, one of the stops per origin, and as many shares, limits and stops as the matrix has shares, limits and columns
 pub record LabelsFit (l : LabelData) (m : MatrixData) : Type 0 where
   pub scenarios : length l.scenarios ≡ m.scenarios
   pub origins : length l.origins ≡ m.origins

@@ -13,7 +13,8 @@ use timetable::{NEVER, StopNo};
 
 /// The cells of all stops for each of some shares, in the shares' order: one list per share, with one cell per stop.
 ///
-/// Each stop's durations are read once, whatever the number of shares. Want of memory is the only refusal.
+/// The minutes of a stop are put in order once, whatever the number of shares, and not at all for one. Want of memory is the
+/// only refusal.
 pub fn cells_of(
     alloc: Global,
     durations: &Durations,
