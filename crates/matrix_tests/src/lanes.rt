@@ -3,7 +3,7 @@ ghost use Rattle.std.specs.Prelude.{◌≡◌, ℕ, ◌<◌, ◌⊎◌, slice_in
 
 use std::alloc::{AllocError, Global};
 use std::test::Fail;
-use timetable::{Call, Event, Events, Feet, NEVER, StopNo, Trip};
+use timetable::{Call, Event, Events, Feet, NEVER, StopNo, Times, Trip};
 use trip_lanes::{
     Labels, Lanes, LineView, UNFALLEN, carry_trip, falls_of, scan_line, transfer, walk,
 };
@@ -110,15 +110,31 @@ fn call(stop: u32) -> Call
     }
 }
 
+/// A trip that arrives and departs in the same second.
+fn at(time: u32) -> Times {
+    Times {
+        arrive: time,
+        depart: time,
+    }
+}
+
 #[test]
 fn each_lane_takes_the_first_trip_of_a_line(rt: HostRuntime) -> Result<(), Fail> {
     let calls = [call(0), call(1), call(2)];
-    let departures = [100, 200, 300, 110, 210, 310, 120, 220, 320];
-    let arrivals = [100, 110, 120, 200, 210, 220, 300, 310, 320];
+    let times = [
+        at(100),
+        at(110),
+        at(120),
+        at(200),
+        at(210),
+        at(220),
+        at(300),
+        at(310),
+        at(320),
+    ];
     let line = LineView {
         calls: &calls,
-        departures: &departures,
-        arrivals: &arrivals,
+        times: &times,
     };
     let before = [UNREACHED, UNREACHED, UNREACHED];
     let ready = [two(100, 201), UNREACHED, two(NEVER, 215)];

@@ -3,7 +3,7 @@
 ghost use Rattle.std.specs.Prelude.{◌≡◌, IfOk};
 
 use std::alloc::{AllocError, Global};
-use timetable::{Call, Event, Events, Feet, Lines, Network, StopNo, Trip};
+use timetable::{Call, Event, Events, Feet, Lines, Network, StopNo, Times, Trip};
 
 // An event where one may board and alight, at a stop, that arrives and departs at these seconds.
 fn at(stop: u32, arrive: u32, depart: u32) -> Event {
@@ -134,18 +134,19 @@ fn has_line(lines: &Lines, trips: &[u32]) -> bool {
     false
 }
 
-// Whether some line has just these departures, place by place, and these arrivals, trip by trip.
-fn has_times(network: &Network, departures: &[u32], arrivals: &[u32]) -> bool {
+// Whether some line has just these times, trip by trip.
+fn has_times(network: &Network, times: &[Times]) -> bool {
     let lines = network.lines();
     for line in 0..lines.count() {
-        if line < 20
-            && lines.departures_of(line as u32) == departures
-            && lines.arrivals_of(line as u32) == arrivals
-        {
+        if line < 20 && lines.times_of(line as u32) == times {
             return true;
         }
     }
     false
+}
+
+fn times(arrive: u32, depart: u32) -> Times {
+    Times { arrive, depart }
 }
 
 // Whether some line has just these places.
@@ -222,13 +223,16 @@ fn a_trip_that_loops_serves_its_stop_once(rt: HostRuntime) {
 }
 
 #[test]
-fn departures_lie_place_by_place_and_arrivals_trip_by_trip(rt: HostRuntime) {
+fn times_lie_trip_by_trip(rt: HostRuntime) {
     let network = network_of_overtaking(rt.alloc()).expect(&rt, "a network");
+    let first = [times(100, 100), times(200, 210), times(300, 300)];
+    let second = [times(130, 130), times(230, 240), times(330, 330)];
     assert!(rt;
         has_times(
             &network,
-            &[100, 130, 210, 240, 300, 330],
-            &[100, 200, 300, 130, 230, 330]
+            &[
+                first[0], first[1], first[2], second[0], second[1], second[2]
+            ]
         )
     );
 }

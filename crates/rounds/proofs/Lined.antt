@@ -1,10 +1,11 @@
 -- The trips of a line as rows of events, and back.
-use Rattle.std.proofs.Common.{◌≡◌, ℕ, ◌+◌, ◌<◌, ◌≤◌, [], List, length, map, get_or, slice_index, slice_get, Some, All, sym, ◌∙◌, ap, arith}
+use Rattle.std.proofs.Common.{◌≡◌, ℕ, ◌<◌, ◌≤◌, [], List, length, get_or, slice_get, Some, All, sym, ◌∙◌, ap, arith}
 use Rattle.std.proofs.lemmas.Option.{same_Some, slice_get_within, slice_get-get_or, get_or_from_slice_get}
 use Rattle.std.proofs.lemmas.List.{length-map}
 use Rattle.timetable.specs.declared.trips.Event.{Event}
 use Rattle.timetable.specs.declared.trips.Trip.{Trip}
 use Rattle.timetable.specs.declared.views.Call.{Call}
+use Rattle.timetable.specs.declared.views.Times.{Times}
 use Rattle.timetable.specs.Journeys.{IsRide}
 use Rattle.timetable.specs.Lines.{Line, IsLine}
 use Rattle.timetable.specs.LineViews.{events_of, rows_of_line, IsAt as IsLineAt, IsViewOf as IsLineView}
@@ -23,17 +24,16 @@ at_line : {rows : List (List Event)} {r j : ℕ} {e : Event} → IsAt rows r j e
 at_line a = record { row = a.row; trip = a.trip; event = a.event }
 
 -- the view that the timetable keeps is the one that is scanned
-pub as_view : {rows : List (List Event)} {calls : List Call} {departures arrivals : List ℕ} → IsLineView rows calls departures arrivals → IsViewOf rows calls departures arrivals
+pub as_view : {rows : List (List Event)} {calls : List Call} {times : List Times} → IsLineView rows calls times → IsViewOf rows calls times
 as_view v =
     record {
       places = v.places;
-      departures_size = v.departures_size;
-      arrivals_size = v.arrivals_size;
+      size = v.size;
       stop = λ r j e c a b. v.stop r j e c (at_line a) b;
       board = λ r j e c a b. v.board r j e c (at_line a) b;
       alight = λ r j e c a b. v.alight r j e c (at_line a) b;
-      departure = λ r j e a. v.departure r j e (at_line a);
       arrival = λ r j e a. v.arrival r j e (at_line a);
+      departure = λ r j e a. v.departure r j e (at_line a);
     }
 
 module _ (trips : List Trip) (line : Line) (is : IsLine trips line) where
@@ -90,10 +90,10 @@ module _ (trips : List Trip) (line : Line) (is : IsLine trips line) where
       (line_lowers before ready (rows_of_line trips line) from (λ p x l c. settled p x l (line_of_row before p x c)) none falls past)
 
   -- the places of a line are at stops that there are
-  pub call_stops : (stops : ℕ) → All (λ (t : Trip). All (λ (e : Event). e.stop.0 < stops) t.events) trips → (calls : List Call) (departures arrivals : List ℕ) → IsViewOf (rows_of_line trips line) calls departures arrivals → All (λ (c : Call). c.stop.0 < stops) calls
-  call_stops stops within calls departures arrivals view k d l =
+  pub call_stops : (stops : ℕ) → All (λ (t : Trip). All (λ (e : Event). e.stop.0 < stops) t.events) trips → (calls : List Call) (times : List Times) → IsViewOf (rows_of_line trips line) calls times → All (λ (c : Call). c.stop.0 < stops) calls
+  call_stops stops within calls times view k d l =
       let long : 0 < length (rows_of_line trips line) = omega (arith, rows_long, is.some) in
-      let w = at_place (rows_of_line trips line) calls departures arrivals view 0 k long l in
+      let w = at_place (rows_of_line trips line) calls times view 0 k long l in
       let t = row_trip 0 w.1.row w.1.trip in
       let at_e : slice_get t.0.events k ≡ Some w.0 = ap (λ (v : List Event). slice_get v k) t.2 ∙ w.1.event in
       let inside = all_at (λ (t : Trip). All (λ (e : Event). e.stop.0 < stops) t.events) trips t.1.trip t.0 within t.1.runs in

@@ -57,13 +57,8 @@ fn scan_trips(
     let _ = trips;
     let row = lines.trips_of(line);
     let calls = lines.calls_of(line);
-    let departures = lines.departures_of(line);
-    let arrivals = lines.arrivals_of(line);
-    let view = LineView {
-        calls,
-        departures,
-        arrivals,
-    };
+    let times = lines.times_of(line);
+    let view = LineView { calls, times };
     let labels = Labels {
         falls,
         before,

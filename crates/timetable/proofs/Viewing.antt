@@ -3,12 +3,14 @@ use Rattle.std.proofs.Common.{◌≡◌, inl, inr, ℕ, ◌+◌, ◌*◌, ◌<�
 use Rattle.std.proofs.Math.Nat.{mul-le-mul_right}
 use Rattle.std.proofs.lemmas.Bool.{cases_lt}
 use Rattle.std.proofs.lemmas.Option.{same_Some, slice_get-get_or, slice_get_within, get_or_from_slice_get, slice_get_cases}
-use Rattle.std.proofs.lemmas.List.{length-append, length_push, length-map, get_or-map, get_or_append_left, get_or-append-add}
+use Rattle.std.proofs.lemmas.List.{length-append, length_push, length-map, map-append, get_or-map, get_or_append_left, get_or-append-add}
+use Rattle.std.proofs.lemmas.Simd.{map-map}
 use Rattle.timetable.specs.declared.trips.Event.{Event}
 use Rattle.timetable.specs.declared.trips.Trip.{Trip}
 use Rattle.timetable.specs.declared.views.Call.{Call}
 use Rattle.timetable.specs.Lines.{Line, IsLine, AreViews}
-use Rattle.timetable.specs.LineViews.{events_of, rows_of_line, call_of, depart_at, departs, arrives, IsAt, IsViewOf, IsGrid, AreFor, IsCalls, IsDepartures, IsArrivals}
+use Rattle.timetable.specs.declared.views.Times.{Times}
+use Rattle.timetable.specs.LineViews.{events_of, rows_of_line, call_of, times_at, arrives, departs, arrivals_in, departures_in, IsAt, IsViewOf, IsGrid, AreFor, AreTimes, IsCalls, IsTimes}
 use Rattle.timetable.proofs.Known.{all_at}
 use Rattle.timetable.proofs.Adding.{get_cases}
 
@@ -75,27 +77,34 @@ row_long trips line ok t r d l =
     let read : get_or (rows_of_line trips line) r d ≡ events_of trips (get_or line r 0) = get_or-map (events_of trips) line r 0 d within in
     ap length read ∙ (ap length (events_at trips (get_or line r 0) (get_or trips (get_or line r 0) t) other) ∙ (sym same ∙ ap length (sym (events_at trips (get_or line 0 0) (get_or trips (get_or line 0 0) t) first))))
 
--- an event of a row, as the trip has it
-pub place_read : (trips : List Trip) (line : List ℕ) (r place : ℕ) (t : Trip) → r < length line → get_or line r 0 < length trips → All (λ (row : List Event). place < length row) (rows_of_line trips line) → place < length (get_or trips (get_or line r 0) t).events
-place_read trips line r place t l within all =
-    let l' : r < length (rows_of_line trips line) = omega (arith, l, length-map line (events_of trips)) in
-    subst (λ (row : List Event). place < length row) (row_of trips line r l ∙ events_read trips (get_or line r 0) t within) (all r [] l')
-
--- the departures of one more place
-pub departures_more : (trips : List Trip) (line : List ℕ) (place : ℕ) (xs : List ℕ) → IsGrid place (length line) (departs (rows_of_line trips line)) xs → IsGrid (place + 1) (length line) (departs (rows_of_line trips line)) (xs ++ map (depart_at trips place) line)
-departures_more trips line place xs ok =
-    grid_more place (length line) (departs (rows_of_line trips line)) xs (map (depart_at trips place) line) ok (length-map line (depart_at trips place))
-    (λ b l. get_or-map (depart_at trips place) line b 0 0 l ∙ ap (λ (row : List Event). slice_index (map (λ (e : Event). e.depart) row) place) (sym (row_of trips line b l)))
-
--- the arrivals of one more trip
-pub arrivals_more : (trips : List Trip) (line : List ℕ) (r places : ℕ) (t : Trip) (xs : List ℕ) → r < length line → get_or line r 0 < length trips → All (λ (row : List Event). length row ≡ places) (rows_of_line trips line) → IsGrid r places (arrives (rows_of_line trips line)) xs → IsGrid (r + 1) places (arrives (rows_of_line trips line)) (xs ++ map (λ (e : Event). e.arrive) (get_or trips (get_or line r 0) t).events)
-arrivals_more trips line r places t xs l within all ok =
+-- the times of one more trip, by when it arrives or by when it departs
+row_more : (time : Event → ℕ) (trips : List Trip) (line : List ℕ) (r places : ℕ) (t : Trip) (xs : List ℕ) → r < length line → get_or line r 0 < length trips → All (λ (row : List Event). length row ≡ places) (rows_of_line trips line) → IsGrid r places (λ a b. slice_index (map time (get_or (rows_of_line trips line) a [])) b) xs → IsGrid (r + 1) places (λ a b. slice_index (map time (get_or (rows_of_line trips line) a [])) b) (xs ++ map time (get_or trips (get_or line r 0) t).events)
+row_more time trips line r places t xs l within all ok =
     let l' : r < length (rows_of_line trips line) = omega (arith, l, length-map line (events_of trips)) in
     let read = row_of trips line r l ∙ events_read trips (get_or line r 0) t within in
     let events = (get_or trips (get_or line r 0) t).events in
     let long : length events ≡ places = subst (λ (row : List Event). length row ≡ places) read (all r [] l') in
-    grid_more r places (arrives (rows_of_line trips line)) xs (map (λ (e : Event). e.arrive) events) ok (length-map events (λ (e : Event). e.arrive) ∙ long)
-    (λ b k. ap (λ (row : List Event). slice_index (map (λ (e : Event). e.arrive) row) b) (sym read))
+    grid_more r places (λ a b. slice_index (map time (get_or (rows_of_line trips line) a [])) b) xs (map time events) ok (length-map events time ∙ long)
+    (λ b k. ap (λ (row : List Event). slice_index (map time row) b) (sym read))
+
+-- the arrivals of some events' times are theirs, and so are the departures
+arrivals_added : (xs : List Times) (events : List Event) → arrivals_in (xs ++ map times_at events) ≡ arrivals_in xs ++ map (λ (e : Event). e.arrive) events
+arrivals_added xs events = map-append (λ (t : Times). t.arrive) xs (map times_at events) ∙ ap (λ (ys : List ℕ). arrivals_in xs ++ ys) (map-map (λ (t : Times). t.arrive) times_at events)
+
+departures_added : (xs : List Times) (events : List Event) → departures_in (xs ++ map times_at events) ≡ departures_in xs ++ map (λ (e : Event). e.depart) events
+departures_added xs events = map-append (λ (t : Times). t.depart) xs (map times_at events) ∙ ap (λ (ys : List ℕ). departures_in xs ++ ys) (map-map (λ (t : Times). t.depart) times_at events)
+
+-- the times of one more trip
+pub times_more : (trips : List Trip) (line : List ℕ) (r places : ℕ) (t : Trip) (xs : List Times) → r < length line → get_or line r 0 < length trips → All (λ (row : List Event). length row ≡ places) (rows_of_line trips line) → AreTimes r places (rows_of_line trips line) xs → AreTimes (r + 1) places (rows_of_line trips line) (xs ++ map times_at (get_or trips (get_or line r 0) t).events)
+times_more trips line r places t xs l within all ok =
+    let events = (get_or trips (get_or line r 0) t).events in
+    record {
+      arrivals = subst (λ (ns : List ℕ). IsGrid (r + 1) places (arrives (rows_of_line trips line)) ns) (sym (arrivals_added xs events)) (row_more (λ (e : Event). e.arrive) trips line r places t (arrivals_in xs) l within all ok.arrivals);
+      departures = subst (λ (ns : List ℕ). IsGrid (r + 1) places (departs (rows_of_line trips line)) ns) (sym (departures_added xs events)) (row_more (λ (e : Event). e.depart) trips line r places t (departures_in xs) l within all ok.departures);
+    }
+
+pub times_none : (places : ℕ) (rows : List (List Event)) → AreTimes 0 places rows []
+times_none places rows = record { arrivals = grid_none places (arrives rows); departures = grid_none places (departs rows) }
 
 -- a time of an event of the rows
 time_at : (time : Event → ℕ) (rows : List (List Event)) (r j : ℕ) (e : Event) → IsAt rows r j e → slice_index (map time (get_or rows r [])) j ≡ time e
@@ -127,9 +136,9 @@ alike_at trips line ok t none calls is_calls r j e c h g =
     let c_is : c ≡ call_of f = sym (get_or_from_slice_get calls j c c g) ∙ (ap (λ (x : List Call). get_or x j c) (is_calls ∙ ap (λ (x : List Event). map call_of x) first_is) ∙ get_or-map call_of t_one.events j none c j_in) in
     (ap (λ (x : Call). x.stop.0) c_is ∙ fs.stop, ap (λ (x : Call). x.board) c_is ∙ fs.board, ap (λ (x : Call). x.alight) c_is ∙ fs.alight)
 
--- calls, departures and arrivals of one line show its trips
-pub view_of_line : (trips : List Trip) (line : Line) (calls : List Call) (departures arrivals : List ℕ) → IsLine trips line → (t : Trip) (none : Event) → IsCalls trips line calls → IsDepartures trips line departures → IsArrivals trips line arrivals → IsViewOf (rows_of_line trips line) calls departures arrivals
-view_of_line trips line calls departures arrivals ok t none is_calls is_departures is_arrivals =
+-- calls and times of one line show its trips
+pub view_of_line : (trips : List Trip) (line : Line) (calls : List Call) (times : List Times) → IsLine trips line → (t : Trip) (none : Event) → IsCalls trips line calls → IsTimes trips line times → IsViewOf (rows_of_line trips line) calls times
+view_of_line trips line calls times ok t none is_calls is_times =
     let rows = rows_of_line trips line in
     let first = events_of trips (slice_index line 0) in
     let rows_long = length-map line (events_of trips) in
@@ -138,35 +147,29 @@ view_of_line trips line calls departures arrivals ok t none is_calls is_departur
     all_at (λ (x : List Event). length x ≡ length first) rows r row (row_long trips line ok t) h in
     let alike = λ (r j : ℕ) (e : Event) (c : Call) (h : IsAt rows r j e) (g : slice_get calls j ≡ Some c).
     alike_at trips line ok t none calls is_calls r j e c h g in
+    let r_in = λ (r j : ℕ) (e : Event) (h : IsAt rows r j e). let w = slice_get_within rows r h.row h.trip in let inside : r < length line = omega (arith, w, rows_long) in inside in
+    let j_in = λ (r j : ℕ) (e : Event) (h : IsAt rows r j e). let w = slice_get_within h.row j e h.event in let inside : j < length first = omega (arith, w, long r h.row h.trip) in inside in
     record {
       places = λ r row h. long r row h ∙ sym calls_long;
-      departures_size = is_departures.size ∙ (ap (λ n. n * length line) (sym calls_long) ∙ ap (λ n. length calls * n) (sym rows_long));
-      arrivals_size = is_arrivals.size ∙ (ap (λ n. length line * n) (sym calls_long) ∙ ap (λ n. n * length calls) (sym rows_long));
+      size = sym (length-map times (λ (x : Times). x.arrive)) ∙ (is_times.arrivals.size ∙ (ap (λ n. length line * n) (sym calls_long) ∙ ap (λ n. n * length calls) (sym rows_long)));
       stop = λ r j e c h g. (alike r j e c h g).0;
       board = λ r j e c h g. (alike r j e c h g).1;
       alight = λ r j e c h g. (alike r j e c h g).2;
-      departure = λ r j e h.
-          let r_in : r < length line = omega (arith, slice_get_within rows r h.row h.trip, rows_long) in
-          let j_in : j < length first = omega (arith, slice_get_within h.row j e h.event, long r h.row h.trip) in
-          ap (λ n. slice_index departures (j * n + r)) rows_long ∙ (is_departures.at j r j_in r_in ∙ time_at (λ (x : Event). x.depart) rows r j e h);
-      arrival = λ r j e h.
-          let r_in : r < length line = omega (arith, slice_get_within rows r h.row h.trip, rows_long) in
-          let j_in : j < length first = omega (arith, slice_get_within h.row j e h.event, long r h.row h.trip) in
-          ap (λ n. slice_index arrivals (r * n + j)) calls_long ∙ (is_arrivals.at r j r_in j_in ∙ time_at (λ (x : Event). x.arrive) rows r j e h);
+      arrival = λ r j e h. ap (λ n. slice_index (arrivals_in times) (r * n + j)) calls_long ∙ (is_times.arrivals.at r j (r_in r j e h) (j_in r j e h) ∙ time_at (λ (x : Event). x.arrive) rows r j e h);
+      departure = λ r j e h. ap (λ n. slice_index (departures_in times) (r * n + j)) calls_long ∙ (is_times.departures.at r j (r_in r j e h) (j_in r j e h) ∙ time_at (λ (x : Event). x.depart) rows r j e h);
     }
 
 -- those of all lines show theirs
-pub views_of_lines : (trips : List Trip) (lines : List Line) (boarded : List (List (ℕ × ℕ))) (calls : List (List Call)) (departures arrivals : List (List ℕ)) → All (IsLine trips) lines → AreFor (IsCalls trips) (length lines) lines calls → AreFor (IsDepartures trips) (length lines) lines departures → AreFor (IsArrivals trips) (length lines) lines arrivals → AreViews trips (record { lines = lines; boarded = boarded; calls = calls; departures = departures; arrivals = arrivals })
-views_of_lines trips lines boarded calls departures arrivals ok is_calls is_departures is_arrivals =
+pub views_of_lines : (trips : List Trip) (lines : List Line) (boarded : List (List (ℕ × ℕ))) (calls : List (List Call)) (times : List (List Times)) → All (IsLine trips) lines → AreFor (IsCalls trips) (length lines) lines calls → AreFor (IsTimes trips) (length lines) lines times → AreViews trips (record { lines = lines; boarded = boarded; calls = calls; times = times })
+views_of_lines trips lines boarded calls times ok is_calls is_times =
     record {
       calls_size = is_calls.size;
-      departures_size = is_departures.size;
-      arrivals_size = is_arrivals.size;
-      view = λ line row cs ds arrs at_line at_calls at_departures at_arrivals.
+      times_size = is_times.size;
+      view = λ line row cs ts at_line at_calls at_times.
           let its = all_at (IsLine trips) lines line row ok at_line in
           let first = its.in_range 0 0 its.some in
           elim (slice_get_cases trips (get_or row 0 0)).1 [
-            | inl h ↦ view_of_line trips row cs ds arrs its h.0 (record { stop = record { 0 = 0 }; arrive = 0; depart = 0; board = false; alight = false }) (is_calls.each line row cs at_line at_calls) (is_departures.each line row ds at_line at_departures) (is_arrivals.each line row arrs at_line at_arrivals)
+            | inl h ↦ view_of_line trips row cs ts its h.0 (record { stop = record { 0 = 0 }; arrive = 0; depart = 0; board = false; alight = false }) (is_calls.each line row cs at_line at_calls) (is_times.each line row ts at_line at_times)
             | inr h ↦ absurd (let past = h.0 in omega (arith, past, first))
           ];
     }

@@ -1,10 +1,11 @@
--- The events of a line's trips, laid out for a scan: what travellers may do at each place, the departures of all trips at a place
--- side by side, and the arrivals of a trip one after another.
+-- The events of a line's trips, laid out for a scan: what travellers may do at each place, and the times of its trips, one trip
+-- after another.
 -- (The RAPTOR paper lays out its routes so: Delling, Pajor, Werneck, ALENEX 2012.)
 use Rattle.std.specs.Prelude.{◌≡◌, ℕ, ◌+◌, ◌*◌, ◌<◌, List, [], map, length, slice_get, slice_index, slice_index_or, Some}
 use Rattle.timetable.specs.declared.trips.Event.{Event}
 use Rattle.timetable.specs.declared.trips.Trip.{Trip}
 use Rattle.timetable.specs.declared.views.Call.{Call}
+use Rattle.timetable.specs.declared.views.Times.{Times}
 
 -- the events of a trip of the list
 abbrev pub events_of : List Trip → ℕ → List Event
@@ -20,31 +21,37 @@ pub record IsAt (rows : List (List Event)) (r j : ℕ) (e : Event) : Type 0 wher
   pub trip : slice_get rows r ≡ Some row
   pub event : slice_get row j ≡ Some e
 
--- calls, departures and arrivals show these trips
-pub record IsViewOf (rows : List (List Event)) (calls : List Call) (departures arrivals : List ℕ) : Type 0 where
+-- the arrivals among some times, and the departures
+abbrev pub arrivals_in : List Times → List ℕ
+arrivals_in times = map (λ t. t.arrive) times
+
+abbrev pub departures_in : List Times → List ℕ
+departures_in times = map (λ t. t.depart) times
+
+-- calls and times show these trips
+pub record IsViewOf (rows : List (List Event)) (calls : List Call) (times : List Times) : Type 0 where
   pub places : (r : ℕ) (row : List Event) → slice_get rows r ≡ Some row → length row ≡ length calls
-  pub departures_size : length departures ≡ length calls * length rows
-  pub arrivals_size : length arrivals ≡ length rows * length calls
+  pub size : length times ≡ length rows * length calls
   pub stop : (r j : ℕ) (e : Event) (c : Call) → IsAt rows r j e → slice_get calls j ≡ Some c → c.stop.0 ≡ e.stop.0
   pub board : (r j : ℕ) (e : Event) (c : Call) → IsAt rows r j e → slice_get calls j ≡ Some c → c.board ≡ e.board
   pub alight : (r j : ℕ) (e : Event) (c : Call) → IsAt rows r j e → slice_get calls j ≡ Some c → c.alight ≡ e.alight
-  pub departure : (r j : ℕ) (e : Event) → IsAt rows r j e → slice_index departures (j * length rows + r) ≡ e.depart
-  pub arrival : (r j : ℕ) (e : Event) → IsAt rows r j e → slice_index arrivals (r * length calls + j) ≡ e.arrive
+  pub arrival : (r j : ℕ) (e : Event) → IsAt rows r j e → slice_index (arrivals_in times) (r * length calls + j) ≡ e.arrive
+  pub departure : (r j : ℕ) (e : Event) → IsAt rows r j e → slice_index (departures_in times) (r * length calls + j) ≡ e.depart
 
 -- what an event says of its place
 abbrev pub call_of : Event → Call
 call_of e = record { stop = e.stop; board = e.board; alight = e.alight }
 
--- when a trip of the list departs at a place
-abbrev pub depart_at : List Trip → ℕ → ℕ → ℕ
-depart_at trips j i = slice_index (map (λ e. e.depart) (events_of trips i)) j
+-- when it takes place
+abbrev pub times_at : Event → Times
+times_at e = record { arrive = e.arrive; depart = e.depart }
 
--- when the r-th row departs at place j, and when it arrives there
-abbrev pub departs : List (List Event) → ℕ → ℕ → ℕ
-departs rows j r = slice_index (map (λ e. e.depart) (slice_index_or rows r [])) j
-
+-- when the r-th row arrives at place j, and when it departs there
 abbrev pub arrives : List (List Event) → ℕ → ℕ → ℕ
 arrives rows r j = slice_index (map (λ e. e.arrive) (slice_index_or rows r [])) j
+
+abbrev pub departs : List (List Event) → ℕ → ℕ → ℕ
+departs rows r j = slice_index (map (λ e. e.depart) (slice_index_or rows r [])) j
 
 -- m rows of n numbers, one after another
 pub record IsGrid (m n : ℕ) (F : ℕ → ℕ → ℕ) (numbers : List ℕ) : Type 0 where
@@ -56,14 +63,14 @@ pub record AreFor {X : Type 0} (Fits : List ℕ → X → Type 0) (n : ℕ) (lin
   pub size : length made ≡ n
   pub each : (k : ℕ) (line : List ℕ) (x : X) → slice_get lines k ≡ Some line → slice_get made k ≡ Some x → Fits line x
 
--- the places of a line, its departures, and its arrivals, by the events of its first trip
+-- m rows of n times, of which these are the arrivals and the departures
+pub record AreTimes (m n : ℕ) (rows : List (List Event)) (times : List Times) : Type 0 where
+  pub arrivals : IsGrid m n (arrives rows) (arrivals_in times)
+  pub departures : IsGrid m n (departs rows) (departures_in times)
+
+-- the places of a line, and its times trip by trip, by the events of its first trip
 abbrev pub IsCalls : List Trip → List ℕ → List Call → Type 0
 IsCalls trips line calls = calls ≡ map call_of (events_of trips (slice_index line 0))
 
-abbrev pub IsDepartures : List Trip → List ℕ → List ℕ → Type 0
-IsDepartures trips line departures =
-    IsGrid (length (events_of trips (slice_index line 0))) (length line) (departs (rows_of_line trips line)) departures
-
-abbrev pub IsArrivals : List Trip → List ℕ → List ℕ → Type 0
-IsArrivals trips line arrivals =
-    IsGrid (length line) (length (events_of trips (slice_index line 0))) (arrives (rows_of_line trips line)) arrivals
+abbrev pub IsTimes : List Trip → List ℕ → List Times → Type 0
+IsTimes trips line times = AreTimes (length line) (length (events_of trips (slice_index line 0))) (rows_of_line trips line) times

@@ -5,6 +5,7 @@ use Rattle.timetable.specs.declared.trips.Event.{Event}
 use Rattle.timetable.specs.declared.trips.Trip.{Trip}
 use Rattle.timetable.specs.Networks.{IsEvent}
 use Rattle.timetable.specs.declared.views.Call.{Call}
+use Rattle.timetable.specs.declared.views.Times.{Times}
 use Rattle.timetable.specs.FlatLists.{IsIn}
 use Rattle.timetable.specs.LineViews.{IsViewOf, rows_of_line}
 
@@ -76,18 +77,15 @@ pub record LineTable : Type 0 where
   pub lines : List Line
   pub boarded : List (List (ℕ × ℕ))
   pub calls : List (List Call)
-  pub departures : List (List ℕ)
-  pub arrivals : List (List ℕ)
+  pub times : List (List Times)
 
--- each line has its calls, departures and arrivals
+-- each line has its calls and its times
 pub record AreViews (trips : List Trip) (table : LineTable) : Type 0 where
   pub calls_size : length table.calls ≡ length table.lines
-  pub departures_size : length table.departures ≡ length table.lines
-  pub arrivals_size : length table.arrivals ≡ length table.lines
-  pub view : (line : ℕ) (row : Line) (calls : List Call) (departures arrivals : List ℕ) →
-      slice_get table.lines line ≡ Some row → slice_get table.calls line ≡ Some calls →
-      slice_get table.departures line ≡ Some departures → slice_get table.arrivals line ≡ Some arrivals →
-      IsViewOf (rows_of_line trips row) calls departures arrivals
+  pub times_size : length table.times ≡ length table.lines
+  pub view : (line : ℕ) (row : Line) (calls : List Call) (times : List Times) →
+      slice_get table.lines line ≡ Some row → slice_get table.calls line ≡ Some calls → slice_get table.times line ≡ Some times →
+      IsViewOf (rows_of_line trips row) calls times
 
 -- what is true of the lines of a network
 pub record AreLinesOf (stops : ℕ) (trips : List Trip) (table : LineTable) : Type 0 where

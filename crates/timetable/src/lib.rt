@@ -34,4 +34,4 @@ pub use limits::{
 pub use lines::Lines;
 pub use networks::Network;
 pub use trips::{Event, Events, StopNo, Trip};
-pub use views::Call;
+pub use views::{Call, Times};

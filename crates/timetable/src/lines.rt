@@ -10,7 +10,7 @@ ghost use Rattle.timetable.specs.Lines.{IsNoEarlier, Follows, Joins, IsLine, IsI
 use crate::flat_lists::{FlatLists, add, no_lists};
 use crate::limits::{MOST_EVENTS, MOST_TRIPS};
 use crate::trips::{Event, StopNo, Trip};
-use crate::views::{Call, views_of};
+use crate::views::{Call, Times, views_of};
 use std::alloc::{AllocError, Global};
 use std::marker::Model;
 
@@ -23,8 +23,7 @@ pub struct Lines {
     lines: FlatLists<u32>,
     boarded: FlatLists<(u32, u32)>,
     calls: FlatLists<Call>,
-    departures: FlatLists<u32>,
-    arrivals: FlatLists<u32>,
+    times: FlatLists<Times>,
 }
 
 impl Model for Lines {
@@ -32,7 +31,7 @@ impl Model for Lines {
 
     ghost Value = { LineTable };
 
-    ghost view = { λ l. record { lines = l.lines; boarded = l.boarded; calls = l.calls; departures = l.departures; arrivals = l.arrivals } };
+    ghost view = { λ l. record { lines = l.lines; boarded = l.boarded; calls = l.calls; times = l.times } };
 }
 
 impl Lines {
@@ -49,14 +48,12 @@ impl Lines {
         let boarded = FlatLists::new(alloc, &places)?;
         let views = views_of(alloc, trips, &lines)?;
         let calls = FlatLists::new(alloc, &views.0)?;
-        let departures = FlatLists::new(alloc, &views.1)?;
-        let arrivals = FlatLists::new(alloc, &views.2)?;
+        let times = FlatLists::new(alloc, &views.1)?;
         Ok(Lines {
             lines,
             boarded,
             calls,
-            departures,
-            arrivals,
+            times,
         })
     }
 
@@ -91,22 +88,13 @@ impl Lines {
         self.calls.list(line as usize)
     }
 
-    /// The departures of a line in seconds, place by place, and of each place trip by trip: that of the trip at `rank`
-    /// from `place` is at `place * trips + rank`, where `trips` counts the line's trips.
-    pub fn departures_of(&self, line: u32) -> &[u32]
-        requires { line < length self.now.departures }
-        ensures { slice_get self.now.departures line ≡ Some result.now }
+    /// The times of a line, trip by trip, and of each trip place by place: those of the trip at `rank` at `place` are at
+    /// `rank * places + place`, where `places` counts the line's places.
+    pub fn times_of(&self, line: u32) -> &[Times]
+        requires { line < length self.now.times }
+        ensures { slice_get self.now.times line ≡ Some result.now }
     {
-        self.departures.list(line as usize)
-    }
-
-    /// The arrivals of a line in seconds, trip by trip, and of each trip place by place: that of the trip at `rank`
-    /// at `place` is at `rank * places + place`, where `places` counts the line's places.
-    pub fn arrivals_of(&self, line: u32) -> &[u32]
-        requires { line < length self.now.arrivals }
-        ensures { slice_get self.now.arrivals line ≡ Some result.now }
-    {
-        self.arrivals.list(line as usize)
+        self.times.list(line as usize)
     }
 }
 

@@ -3,7 +3,7 @@
 ghost use Rattle.std.specs.Prelude.{◌≡◌, ◌<◌, ◌++◌, ℕ, IfOk, OnOk, All, map, length};
 ghost use Rattle.timetable.specs.FlatLists.{lists_of};
 ghost use Rattle.timetable.specs.Lines.{IsLine};
-ghost use Rattle.timetable.specs.LineViews.{rows_of_line, call_of, depart_at, departs, arrives, IsGrid, AreFor, IsCalls, IsDepartures, IsArrivals};
+ghost use Rattle.timetable.specs.LineViews.{rows_of_line, call_of, times_at, AreFor, AreTimes, IsCalls, IsTimes};
 
 use crate::flat_lists::FlatLists;
 use crate::trips::{Event, StopNo, Trip};
@@ -17,31 +17,34 @@ pub struct Call {
     pub alight: bool,
 }
 
-/// The calls, the departures and the arrivals of each line.
+/// When a trip arrives at a place and departs there, in seconds. Of a line's times the two stand side by side, since who scans
+/// a line at a place looks at both.
+#[derive(Clone, Copy, Debug, PartialEq, Eq)]
+pub struct Times {
+    pub arrive: u32,
+    pub depart: u32,
+}
+
+/// The calls and the times of each line.
 pub(crate) fn views_of(
     alloc: Global,
     trips: &[Trip],
     lines: &FlatLists<u32>,
-) -> Result<(Vec<Vec<Call>>, Vec<Vec<u32>>, Vec<Vec<u32>>), AllocError>
+) -> Result<(Vec<Vec<Call>>, Vec<Vec<Times>>), AllocError>
     requires lines { All (IsLine trips.now) lines.now }
     ensures calls { IfOk result (λ views. AreFor (IsCalls trips.now) (length lines.now) lines.now (lists_of views.0.items)) }
-    ensures departures { IfOk result (λ views. AreFor (IsDepartures trips.now) (length lines.now) lines.now (lists_of views.1.items)) }
-    ensures arrivals { IfOk result (λ views. AreFor (IsArrivals trips.now) (length lines.now) lines.now (lists_of views.2.items)) }
+    ensures times { IfOk result (λ views. AreFor (IsTimes trips.now) (length lines.now) lines.now (lists_of views.1.items)) }
 {
     let mut calls = Vec::with_capacity(alloc, lines.count())?;
-    let mut departures = Vec::with_capacity(alloc, lines.count())?;
-    let mut arrivals = Vec::with_capacity(alloc, lines.count())?;
+    let mut times = Vec::with_capacity(alloc, lines.count())?;
     for number in 0..lines.count() {
         let line = lines.list(number);
-        let events = trips[line[0] as usize].events.as_slice();
-        let line_calls = calls_of(alloc, events)?;
-        let line_departures = departures_of(alloc, trips, line, events.len())?;
-        let line_arrivals = arrivals_of(alloc, trips, line)?;
+        let line_calls = calls_of(alloc, trips[line[0] as usize].events.as_slice())?;
+        let line_times = times_of(alloc, trips, line)?;
         calls.push(line_calls)?;
-        departures.push(line_departures)?;
-        arrivals.push(line_arrivals)?;
+        times.push(line_times)?;
     }
-    Ok((calls, departures, arrivals))
+    Ok((calls, times))
 }
 
 /// The places of a trip.
@@ -59,61 +62,28 @@ fn calls_of(alloc: Global, events: &[Event]) -> Result<Vec<Call>, AllocError>
     Ok(calls)
 }
 
-/// Place by place, the departures of a line's trips, in the order of the line.
-fn departures_of(
-    alloc: Global,
-    trips: &[Trip],
-    line: &[u32],
-    places: usize,
-) -> Result<Vec<u32>, AllocError>
-    requires in_range { All (λ i. i < length trips.now) line.now }
-    requires places { All (λ row. length row ≡ places) (rows_of_line trips.now line.now) }
-    ensures { IfOk result (λ made. IsGrid places (length line.now) (departs (rows_of_line trips.now line.now)) made.items) }
-{
-    let mut departures = Vec::new(alloc);
-    for place in 0..places {
-        add_departures(&mut departures, trips, line, place)?;
-    }
-    Ok(departures)
-}
-
-/// Adds the departures of a line's trips at one place.
-fn add_departures(
-    departures: &mut Vec<u32>,
-    trips: &[Trip],
-    line: &[u32],
-    place: usize,
-) -> Result<(), AllocError>
-    requires in_range { All (λ i. i < length trips.now) line.now }
-    requires place { All (λ row. place < length row) (rows_of_line trips.now line.now) }
-    ensures { OnOk result (departures.new.items ≡ departures.old.items ++ map (depart_at trips.now place) line.now) }
-{
-    for trip in line {
-        let events = trips[*trip as usize].events.as_slice();
-        departures.push(events[place].depart)?;
-    }
-    Ok(())
-}
-
-/// Trip by trip, in the order of the line, its arrivals.
-fn arrivals_of(alloc: Global, trips: &[Trip], line: &[u32]) -> Result<Vec<u32>, AllocError>
+/// Trip by trip, in the order of the line, its times.
+fn times_of(alloc: Global, trips: &[Trip], line: &[u32]) -> Result<Vec<Times>, AllocError>
     requires in_range { All (λ i. i < length trips.now) line.now }
     ensures { IfOk result (λ made. (places : ℕ) → All (λ row. length row ≡ places) (rows_of_line trips.now line.now) →
-        IsGrid (length line.now) places (arrives (rows_of_line trips.now line.now)) made.items) }
+        AreTimes (length line.now) places (rows_of_line trips.now line.now) made.items) }
 {
-    let mut arrivals = Vec::new(alloc);
+    let mut times = Vec::new(alloc);
     for trip in line {
-        add_arrivals(&mut arrivals, trips[*trip as usize].events.as_slice())?;
+        add_times(&mut times, trips[*trip as usize].events.as_slice())?;
     }
-    Ok(arrivals)
+    Ok(times)
 }
 
-/// Adds the arrivals of a trip.
-fn add_arrivals(arrivals: &mut Vec<u32>, events: &[Event]) -> Result<(), AllocError>
-    ensures { OnOk result (arrivals.new.items ≡ arrivals.old.items ++ map (λ e. e.arrive) events.now) }
+/// Adds the times of a trip.
+fn add_times(times: &mut Vec<Times>, events: &[Event]) -> Result<(), AllocError>
+    ensures { OnOk result (times.new.items ≡ times.old.items ++ map times_at events.now) }
 {
     for event in events {
-        arrivals.push(event.arrive)?;
+        times.push(Times {
+            arrive: event.arrive,
+            depart: event.depart,
+        })?;
     }
     Ok(())
 }

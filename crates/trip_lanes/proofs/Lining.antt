@@ -7,6 +7,7 @@ use Rattle.timetable.specs.declared.trips.Trip.{Trip}
 use Rattle.timetable.specs.declared.least.TheConstants.{NEVER}
 use Rattle.timetable.specs.Steps.{Lowers, Carries}
 use Rattle.timetable.specs.declared.views.Call.{Call}
+use Rattle.timetable.specs.declared.views.Times.{Times}
 use Rattle.trip_lanes.specs.Scan.{NothingLower, FallsTo}
 use Rattle.trip_lanes.specs.Rows.{IsAt, NoneOvertakes, IsViewOf, CarriesRow, IsCaught, IsPast, NoneCaughtBefore}
 use Rattle.trip_lanes.proofs.Again.{nothing_changes}
@@ -25,8 +26,8 @@ pub slice_get_row : (rows : List (List Event)) (r j : ℕ) (e : Event) → IsAt 
 slice_get_row rows r j e at = slice_get_within rows r at.row at.trip
 
 -- each trip of the line makes an event at each place
-pub at_place : (rows : List (List Event)) (calls : List Call) (departures arrivals : List ℕ) → IsViewOf rows calls departures arrivals → (r j : ℕ) → r < length rows → j < length calls → (e : Event) × IsAt rows r j e
-at_place rows calls departures arrivals view r j below inside =
+pub at_place : (rows : List (List Event)) (calls : List Call) (times : List Times) → IsViewOf rows calls times → (r j : ℕ) → r < length rows → j < length calls → (e : Event) × IsAt rows r j e
+at_place rows calls times view r j below inside =
     let row = get_or rows r [] in
     let trip : slice_get rows r ≡ Some row = slice_get-get_or rows r [] below in
     let long = view.places r row trip in

@@ -15,15 +15,15 @@ pub record AreRiders (aboard : List (List ℕ)) (span : Span) : Type 0 where
   pub within : span.end ≤ length aboard
   pub masks : (l r : ℕ) → l < 16 → span.first ≤ r → r < span.end → IsMask (slice_index (lane l aboard) r)
 
--- who is ready by the departure of the trip of rank r, and was not before it
-pub record Catches (before ready : ℕ) (departures : List ℕ) (r : ℕ) : Type 0 where
-  pub in_time : ready ≤ slice_index departures r
-  pub fresh : slice_index departures r < before
+-- who is ready by a departure, and was not before it
+pub record Catches (before ready depart : ℕ) : Type 0 where
+  pub in_time : ready ≤ depart
+  pub fresh : depart < before
 
 -- the lane rides the trip of rank r, or an earlier one
 abbrev pub RidesBy : List (List ℕ) → Span → ℕ → ℕ → Type 0
 RidesBy aboard span l r = (q : ℕ) × (q ≤ r) × Rides aboard span l q
 
--- the departures of later trips are no earlier
-abbrev pub Ascend : List ℕ → Type 0
-Ascend departures = (r s : ℕ) → r ≤ s → s < length departures → slice_index departures r ≤ slice_index departures s
+-- of so many trips the later ones depart no earlier
+abbrev pub Ascend : (ℕ → ℕ) → ℕ → Type 0
+Ascend departs trips = (r s : ℕ) → r ≤ s → s < trips → departs r ≤ departs s

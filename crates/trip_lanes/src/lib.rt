@@ -7,11 +7,12 @@
 //!
 //! - `kernels`: [`carry_trip`], one trip as it stands.
 //! - `line_scan`: [`scan_line`], all trips of a line in one pass over its places.
-//! - `riders`: which lanes ride which trips of a line.
+//! - `columns`: when the trips of a line arrive at one of its places, and depart. `riders`: which lanes ride which of them.
 //! - `walks`: [`walk`] and [`transfer`], from every stop or from marked ones.
 //! - `falls`: how far the labels of stops fell since lines were last scanned.
 #![tactic(auto)]
 
+mod columns;
 mod falls;
 mod kernels;
 mod line_scan;

@@ -2,8 +2,10 @@
 ghost use Rattle.std.specs.Prelude.{◌≡◌, ◌+◌, ◌*◌, ℕ, ◌<◌, ◌≤◌, ◌⊎◌, length, slice_index};
 ghost use Rattle.trip_lanes.specs.Lane.{lane};
 ghost use Rattle.trip_lanes.specs.Scan.{Leaves, IsMask, Boards};
+ghost use Rattle.trip_lanes.specs.Columns.{IsColumn, arrives};
 ghost use Rattle.trip_lanes.specs.Riders.{Rides, AreRiders};
 
+use crate::columns::{Column, arrival};
 use crate::kernels::{Lanes, alight, fell, lower_of};
 use std::simd::prelude::*;
 use std::simd::u32x16;
@@ -17,22 +19,16 @@ pub(crate) struct Span {
 }
 
 /// The earliest arrival at a place among the trips that each lane rides, or `NEVER`.
-pub(crate) fn earliest(
-    arrivals: &[u32],
-    places: usize,
-    place: usize,
-    aboard: &[Lanes],
-    span: Span,
-) -> Lanes
+pub(crate) fn earliest(column: Column<'_>, aboard: &[Lanes], span: Span) -> Lanes
     requires riders { AreRiders aboard.now span }
-    requires place { place < places }
-    requires arrivals { span.end * places ≤ length arrivals.now }
-    ensures least { (l r : ℕ) → l < 16 → Rides aboard.now span l r → slice_index result l ≤ slice_index arrivals.now (r * places + place) }
-    ensures some { (l : ℕ) → l < 16 → (slice_index result l ≡ NEVER) ⊎ ((r : ℕ) × Rides aboard.now span l r × (slice_index result l ≡ slice_index arrivals.now (r * places + place))) }
+    requires column { IsColumn column }
+    requires trips { span.end ≤ column.trips }
+    ensures least { (l r : ℕ) → l < 16 → Rides aboard.now span l r → slice_index result l ≤ arrives column.entry r }
+    ensures some { (l : ℕ) → l < 16 → (slice_index result l ≡ NEVER) ⊎ ((r : ℕ) × Rides aboard.now span l r × (slice_index result l ≡ arrives column.entry r)) }
 {
     let mut best = [NEVER; 16];
     for rank in span.first..span.end {
-        let lower = alight(best, aboard[rank], arrivals[rank * places + place]);
+        let lower = alight(best, aboard[rank], arrival(column, rank));
         best = lower;
     }
     best

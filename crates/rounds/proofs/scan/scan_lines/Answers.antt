@@ -1,6 +1,4 @@
-use Rattle.std.proofs.Common.{rules, ◌≡◌, ◌<◌, ◌≤◌, ◌⊎◌, inl, inr, ℕ, List, [], length, slice_index, slice_get, get_or, Some, true, false, arith, sym, ◌∙◌, ap}
-use Rattle.std.proofs.lemmas.Bool.{cases_lt}
-use Rattle.std.proofs.lemmas.List.{length-map, get_or_past, get_or-replicate}
+use Rattle.std.proofs.Common.{rules, ◌≡◌, ℕ, [], length, slice_get, get_or, Some, arith}
 use Rattle.std.proofs.lemmas.Option.{slice_get-get_or, slice_get_within}
 use Rattle.timetable.specs.LineViews.{rows_of_line}
 use Rattle.trip_lanes.specs.Rows.{IsCaught}
@@ -9,7 +7,6 @@ use Rattle.trip_lanes.proofs.Again.{nothing_lowers}
 use Rattle.trip_lanes.proofs.Carry.{lane_falls, marks_then}
 use Rattle.rounds.proofs.Ranked.{boarded_line}
 use Rattle.rounds.proofs.LineScan.{one_line, all_lines, line_settled}
-use Rattle.rounds.proofs.Lined.{as_view}
 use Rattle.rounds.proofs.Choosing.{caught_from, none_caught}
 use Rattle.rounds.proofs.scan.scan_lines.Goals as goal
 use Rattle.rounds.proofs.scan.scan_lines.Goals.{then-first-calls_of, else-first-calls_of}
@@ -52,11 +49,8 @@ loop-i-preserved c =
             let at_x : slice_get lists.lines x ≡ Some line = slice_get-get_or lists.lines x [] (omega arith) in
             let now = lane k c.loop-i.ride in
             let settled = line_settled (lane k c.args.before.now) trips line (lane k c.args.ride.now) now (old.lanes k l).same_length (lane_falls (lane k c.args.ride.now) now (old.lanes k l)) (c.requires.settled k l) in
-            let departures = get_or lists.departures x [] in
-            let arrivals = get_or lists.arrivals x [] in
             let viewed = c.requires.lines.viewed in
-            let view = viewed.view x line c.calls_of.result.now departures arrivals at_x c.calls_of.ensures
-            (slice_get-get_or lists.departures x [] (omega (arith, viewed.departures_size))) (slice_get-get_or lists.arrivals x [] (omega (arith, viewed.arrivals_size))) in
+            let view = viewed.view x line c.calls_of.result.now (get_or lists.times x []) at_x c.calls_of.ensures (slice_get-get_or lists.times x [] (omega (arith, viewed.times_size))) in
             let outside : (r j : ℕ) → IsCaught (lane k c.args.before.now) (lane k c.args.ready.now) (rows_of_line trips line) r j → ⊥ = λ r j g.
             let low = caught_from trips (length c.args.ride.now) lists c.requires.lines x line at_x (lane k c.args.before.now) (lane k c.args.ready.now) c.falls_of.new.falls c.note_lines.new.due (omega arith) (c.falls_of.ensures.falls k l) c.note_lines.ensures r j g in
             let inside = slice_get_within g.from.row j g.on g.from.event in

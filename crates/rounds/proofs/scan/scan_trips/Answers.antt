@@ -1,4 +1,4 @@
-use Rattle.std.proofs.Common.{rules, ◌≡◌, ◌<◌, ◌≤◌, ◌*◌, ℕ, List, length, slice_index, slice_get, Some, arith, sym, ◌∙◌, ap, subst}
+use Rattle.std.proofs.Common.{◌≡◌, ◌≤◌, ◌*◌, ℕ, List, length, sym, ◌∙◌, ap, subst}
 use Rattle.std.proofs.lemmas.Option.{same_Some}
 use Rattle.timetable.specs.Steps.{Lowers}
 use Rattle.rounds.specs.Scan.{CarriesLine}
@@ -9,26 +9,19 @@ use Rattle.rounds.proofs.Ranked.{each_line}
 use Rattle.rounds.proofs.Lined.{as_view, rows_long, none_overtakes, line_scanned, call_stops}
 use Rattle.rounds.proofs.scan.scan_trips.Goals as goal
 
-pub scan_line-requires-clause-departures : goal.scan_line-requires-clause-departures
-scan_line-requires-clause-departures c =
+pub scan_line-requires-clause-times : goal.scan_line-requires-clause-times
+scan_line-requires-clause-times c =
     let are = c.requires.lines in
     let is = each_line (length c.args.ride.now) c.args.trips.now c.args.lines.now are c.args.line c.trips_of-row.result.now c.trips_of-row.ensures in
-    let v = are.viewed.view c.args.line c.trips_of-row.result.now c.calls_of-calls.result.now c.departures_of-departures.result.now c.arrivals_of-arrivals.result.now c.trips_of-row.ensures c.calls_of-calls.ensures c.departures_of-departures.ensures c.arrivals_of-arrivals.ensures in
-    v.departures_size ∙ ap (λ (k : ℕ). length c.calls_of-calls.result.now * k) (rows_long c.args.trips.now c.trips_of-row.result.now is)
-
-pub scan_line-requires-clause-arrivals : goal.scan_line-requires-clause-arrivals
-scan_line-requires-clause-arrivals c =
-    let are = c.requires.lines in
-    let is = each_line (length c.args.ride.now) c.args.trips.now c.args.lines.now are c.args.line c.trips_of-row.result.now c.trips_of-row.ensures in
-    let v = are.viewed.view c.args.line c.trips_of-row.result.now c.calls_of-calls.result.now c.departures_of-departures.result.now c.arrivals_of-arrivals.result.now c.trips_of-row.ensures c.calls_of-calls.ensures c.departures_of-departures.ensures c.arrivals_of-arrivals.ensures in
-    v.arrivals_size ∙ ap (λ (k : ℕ). k * length c.calls_of-calls.result.now) (rows_long c.args.trips.now c.trips_of-row.result.now is)
+    let v = are.viewed.view c.args.line c.trips_of-row.result.now c.calls_of-calls.result.now c.times_of-times.result.now c.trips_of-row.ensures c.calls_of-calls.ensures c.times_of-times.ensures in
+    v.size ∙ ap (λ (k : ℕ). k * length c.calls_of-calls.result.now) (rows_long c.args.trips.now c.trips_of-row.result.now is)
 
 pub scan_line-requires-clause-stops : goal.scan_line-requires-clause-stops
 scan_line-requires-clause-stops c =
     let are = c.requires.lines in
     let is = each_line (length c.args.ride.now) c.args.trips.now c.args.lines.now are c.args.line c.trips_of-row.result.now c.trips_of-row.ensures in
-    let v = are.viewed.view c.args.line c.trips_of-row.result.now c.calls_of-calls.result.now c.departures_of-departures.result.now c.arrivals_of-arrivals.result.now c.trips_of-row.ensures c.calls_of-calls.ensures c.departures_of-departures.ensures c.arrivals_of-arrivals.ensures in
-    call_stops c.args.trips.now c.trips_of-row.result.now is (length c.args.ride.now) c.requires.stops c.calls_of-calls.result.now c.departures_of-departures.result.now c.arrivals_of-arrivals.result.now (as_view v)
+    let v = are.viewed.view c.args.line c.trips_of-row.result.now c.calls_of-calls.result.now c.times_of-times.result.now c.trips_of-row.ensures c.calls_of-calls.ensures c.times_of-times.ensures in
+    call_stops c.args.trips.now c.trips_of-row.result.now is (length c.args.ride.now) c.requires.stops c.calls_of-calls.result.now c.times_of-times.result.now (as_view v)
 
 pub scan_line-requires-clause-aboard : goal.scan_line-requires-clause-aboard
 scan_line-requires-clause-aboard c = all_at (λ (row : List ℕ). length row ≤ length c.args.aboard.now) c.args.lines.now.lines c.args.line c.trips_of-row.result.now c.requires.aboard c.trips_of-row.ensures
@@ -38,7 +31,7 @@ returns-clause-lanes c row at l h =
     let trips = c.args.trips.now in
     let are = c.requires.lines in
     let is = each_line (length c.args.ride.now) trips c.args.lines.now are c.args.line c.trips_of-row.result.now c.trips_of-row.ensures in
-    let v = are.viewed.view c.args.line c.trips_of-row.result.now c.calls_of-calls.result.now c.departures_of-departures.result.now c.arrivals_of-arrivals.result.now c.trips_of-row.ensures c.calls_of-calls.ensures c.departures_of-departures.ensures c.arrivals_of-arrivals.ensures in
+    let v = are.viewed.view c.args.line c.trips_of-row.result.now c.calls_of-calls.result.now c.times_of-times.result.now c.trips_of-row.ensures c.calls_of-calls.ensures c.times_of-times.ensures in
     let rows = rows_of_line trips c.trips_of-row.result.now in
     let long = rows_long trips c.trips_of-row.result.now is in
     let order = none_overtakes trips c.trips_of-row.result.now is in

@@ -1,4 +1,4 @@
-use Rattle.std.proofs.Common.{rules, true, false, ◌≡◌, ◌≢◌, ◌<◌, ℕ, inl, inr, [], List, length, get_or, set, slice_get, slice_index, Some, arith, sym, ◌∙◌, ap, subst}
+use Rattle.std.proofs.Common.{rules, true, false, ◌≡◌, ◌<◌, ℕ, inl, inr, [], List, length, get_or, set, slice_get, slice_index, Some, arith, sym, ◌∙◌, ap, subst}
 use Rattle.std.proofs.lemmas.Bool.{cases_lt, false≢true}
 use Rattle.std.proofs.lemmas.List.{get_or-set_same, get_or-set_other, length-set}
 use Rattle.std.proofs.lemmas.Option.{slice_get_within, get_or_from_slice_get, slice_get-get_or}

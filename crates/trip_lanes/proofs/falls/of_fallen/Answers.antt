@@ -1,4 +1,4 @@
-use Rattle.std.proofs.Common.{◌≡◌, ◌<◌, ltb, cond, true, length, get_or, replicate, refl, ap, arith, ◌∙◌}
+use Rattle.std.proofs.Common.{◌≡◌, ltb, cond, true, length, get_or, replicate, refl, ap, arith, ◌∙◌}
 use Rattle.std.proofs.lemmas.Bool.{lt-ltb}
 use Rattle.trip_lanes.proofs.Select.{sel_at}
 use Rattle.trip_lanes.proofs.falls.of_fallen.Goals as goal

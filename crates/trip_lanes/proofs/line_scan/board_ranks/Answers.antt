@@ -47,20 +47,20 @@ loop-rank-preserved c =
       ];
       riders = riders;
       ends = elim c.if-fell.branch [
-        | then-fell w ↦ rw w.now-is (w.widen-wide.ensures.end (length c.args.departures.now) (omega arith) old.ends)
+        | then-fell w ↦ rw w.now-is (w.widen-wide.ensures.end c.args.column.trips (omega arith) old.ends)
         | else-fell w ↦ rw w.now-is old.ends
       ];
       sound = λ k r h on. elim ((step k h).sound r on) [
         | inl o ↦ old.sound k r h o
         | inr e ↦
             let s = c.catching-caught.ensures.sound k h e.1 in
-            inr (rw e.0 (record { in_time = s.0; fresh = s.1 }))
+            inr (rw e.0 (record { in_time = omega (arith, s.0, c.departure.ensures); fresh = omega (arith, s.1, c.departure.ensures) }))
       ];
       kept = λ k r h on. still k r h (old.kept k r h on);
       caught = λ k r h low below catches. elim (cases_eq r x) [
         | inl e ↦
             let here = rw e at catches in
-            elim (c.catching-caught.ensures.complete k h here.in_time here.fresh) [
+            elim (c.catching-caught.ensures.complete k h (omega (arith, here.in_time, c.departure.ensures)) (omega (arith, here.fresh, c.departure.ensures))) [
               | inl z ↦ (x, omega (arith, e), (step k h).boards z)
               | inr z ↦ let o = old.rides k h z in (o.0, omega (arith, o.1, e), (step k h).earlier o.0 (omega (arith, o.1)) o.2)
             ]

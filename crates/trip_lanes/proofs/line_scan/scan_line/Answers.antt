@@ -1,10 +1,11 @@
-use Rattle.std.proofs.Common.{rules, ◌≡◌, ◌+◌, ◌*◌, ℕ, ◌<◌, ◌≤◌, inl, inr, List, [], length, get_or, slice_index, slice_get, Some, false, IsTrue, arith, sym, ◌∙◌, ap, subst}
+use Rattle.std.proofs.Common.{rules, ◌≡◌, ◌+◌, ◌*◌, ℕ, ◌<◌, ◌≤◌, inl, inr, List, [], length, get_or, slice_index, slice_get, Some, false, IsTrue, arith, sym, ◌∙◌, subst}
 use Rattle.std.proofs.lemmas.Bool.{false≢true}
 use Rattle.std.proofs.lemmas.List.{length-map}
 use Rattle.std.proofs.lemmas.Option.{slice_get-get_or}
 use Rattle.timetable.specs.declared.trips.Event.{Event}
 use Rattle.trip_lanes.specs.declared.falls.Fall.{Fall}
 use Rattle.timetable.specs.declared.views.Call.{Call}
+use Rattle.timetable.specs.LineViews.{departures_in}
 use Rattle.trip_lanes.specs.Falls.{HasFallen}
 use Rattle.trip_lanes.specs.Lane.{lane}
 use Rattle.trip_lanes.specs.Riders.{Rides, Ascend}
@@ -26,8 +27,7 @@ pub loop-place-preserved : goal.loop-place-preserved
 loop-place-preserved c =
     let x = c.loop-place.place in
     let calls = c.args.line.calls.now in
-    let departures = c.args.line.departures.now in
-    let arrivals = c.args.line.arrivals.now in
+    let times = c.args.line.times.now in
     let here = get_or calls x no_call in
     let at_x : slice_get calls x ≡ Some here = slice_get-get_or calls x no_call c.loop-place-test.true in
     let old = c.loop-place.invariant in
@@ -36,7 +36,7 @@ loop-place-preserved c =
     let at_fall : slice_get c.args.labels.falls.now here.stop.0 ≡ Some fall = slice_get-get_or c.args.labels.falls.now here.stop.0 no_fall (omega (arith, c.requires.falls)) in
     let read_ready : (k : ℕ) → slice_index (lane k c.args.labels.ready.now) here.stop.0 ≡ slice_index (get_or c.args.labels.ready.now here.stop.0 []) k = λ k. lane_old c.args.labels.ready.now here.stop.0 k (omega (arith, c.requires.ready)) in
     let read_before : (k : ℕ) → slice_index (lane k c.args.labels.before.now) here.stop.0 ≡ slice_index (get_or c.args.labels.before.now here.stop.0 []) k = λ k. lane_old c.args.labels.before.now here.stop.0 k (omega (arith, c.requires.before)) in
-    let got_off : (rows : List (List Event)) → IsViewOf rows calls departures arrivals → length rows ≡ c.args.trips → NoneOvertakes rows → (k : ℕ) → k < 16 → LineAt (lane k c.args.labels.before.now) (lane k c.args.labels.ready.now) rows c.args.from x (x + 1) (lane k c.args.ride.now) (lane k c.if-call.ride) (Rides c.loop-place.aboard c.loop-place.span k) =
+    let got_off : (rows : List (List Event)) → IsViewOf rows calls times → length rows ≡ c.args.trips → NoneOvertakes rows → (k : ℕ) → k < 16 → LineAt (lane k c.args.labels.before.now) (lane k c.args.labels.ready.now) rows c.args.from x (x + 1) (lane k c.args.ride.now) (lane k c.if-call.ride) (Rides c.loop-place.aboard c.loop-place.span k) =
     λ rows view size order k h.
     let before = lane k c.args.labels.before.now in
     let ready = lane k c.args.labels.ready.now in
@@ -46,7 +46,7 @@ loop-place-preserved c =
           (λ r e at. subst IsTrue (view.alight r x e here at at_x) w.if-call.true)
           (omega (arith, stop, old.stops, length-map c.loop-place.ride (λ v. slice_index v k)))
           (λ r on.
-          let e = at_place rows calls departures arrivals view r x (omega (arith, on.below, old.ends, size)) c.loop-place-test.true in
+          let e = at_place rows calls times view r x (omega (arith, on.below, old.ends, size)) c.loop-place-test.true in
           let least = w.earliest-best.ensures.least k r h on in
           let is = view.arrival r x e.0 e.1 in
           (e.0, e.1, omega (arith, least, is)))
@@ -59,7 +59,7 @@ loop-place-preserved c =
       ])
     ] in
     -- nobody gets on where nobody may, or where the labels of the stop did not fall
-    let nobody : (rows : List (List Event)) → IsViewOf rows calls departures arrivals → (k : ℕ) → k < 16 → (IsTrue here.board → fall.low < fall.top → ⊥) → (r : ℕ) → IsCaught (lane k c.args.labels.before.now) (lane k c.args.labels.ready.now) rows r x → ⊥ =
+    let nobody : (rows : List (List Event)) → IsViewOf rows calls times → (k : ℕ) → k < 16 → (IsTrue here.board → fall.low < fall.top → ⊥) → (r : ℕ) → IsCaught (lane k c.args.labels.before.now) (lane k c.args.labels.ready.now) rows r x → ⊥ =
     λ rows view k h out r g.
     let at_stop = view.stop r x g.on here g.from at_x in
     let soon = rw (← at_stop) at g.in_time in
@@ -79,7 +79,7 @@ loop-place-preserved c =
         | else-call-2 w ↦ rw (w.aboard-is, w.span-is) old.riders
       ];
       ends = elim c.if-call-2.branch [
-        | then-call-2+then-fall w ↦ rw w.span-is (let e = w.board_place-boarded.ensures.end in omega (arith, w.departures_at-departures.ensures.same))
+        | then-call-2+then-fall w ↦ rw w.span-is w.board_place-boarded.ensures.end
         | else-call-2 w ↦ rw w.span-is old.ends
       ];
       fell = λ k p h. elim c.if-call.branch [
@@ -101,16 +101,12 @@ loop-place-preserved c =
           let ready = lane k c.args.labels.ready.now in
           elim c.if-call-2.branch [
             | then-call-2+then-fall w ↦
-                let deps = w.departures_at-departures.result.now in
-                let long : length deps ≡ length rows = omega (arith, w.departures_at-departures.ensures.same, size) in
-                let departs : (r : ℕ) (e : Event) → r < length rows → IsAt rows r x e → slice_index deps r ≡ e.depart = λ r e below at.
-                w.departures_at-departures.ensures.each r (omega (arith, size)) ∙ (ap (λ (n : ℕ). slice_index departures (x * n + r)) (sym size) ∙ view.departure r x e at) in
-                let event : (r : ℕ) → r < length rows → (e : Event) × IsAt rows r x e = λ r below. at_place rows calls departures arrivals view r x below c.loop-place-test.true in
-                let up : Ascend deps = λ r s le below.
-                let e = event r (omega (arith, long)) in
-                let f = event s (omega (arith, long)) in
-                let d = departs r e.0 (omega (arith, long)) e.1 in
-                let d' = departs s f.0 (omega (arith, long)) f.1 in
+                let event : (r : ℕ) → r < length rows → (e : Event) × IsAt rows r x e = λ r below. at_place rows calls times view r x below c.loop-place-test.true in
+                let up : Ascend (λ r. slice_index (departures_in times) (r * length calls + x)) c.args.trips = λ r s le below.
+                let e = event r (omega (arith, size)) in
+                let f = event s (omega (arith, size)) in
+                let d = view.departure r x e.0 e.1 in
+                let d' = view.departure s x f.0 f.1 in
                 let o = order.depart r s x e.0 f.0 le e.1 f.1 in
                 omega arith in
                 let fallen : HasFallen (slice_index (get_or c.args.labels.before.now here.stop.0 []) k) (slice_index (get_or c.args.labels.ready.now here.stop.0 []) k) fall = rw (read_ready k, read_before k) at ((c.requires.fallen k h).fall here.stop.0 fall at_fall) in
@@ -118,9 +114,9 @@ loop-place-preserved c =
                 (λ r on. elim (w.board_place-boarded.ensures.sound k r h on) [
                   | inl o ↦ inl o
                   | inr g ↦
-                      let below : r < length rows = let e = w.board_place-boarded.ensures.end in omega (arith, on.below, long) in
+                      let below : r < length rows = let e = w.board_place-boarded.ensures.end in omega (arith, on.below, size) in
                       let e = event r below in
-                      let d = departs r e.0 below e.1 in
+                      let d = view.departure r x e.0 e.1 in
                       let soon : slice_index ready here.stop.0 ≤ e.0.depart = let i = g.in_time in omega (arith, read_ready k) in
                       inr (record {
                         j = x;
@@ -134,11 +130,11 @@ loop-place-preserved c =
                 (λ r on. w.board_place-boarded.ensures.kept k r h on)
                 (λ r g.
                 let w' = slice_get_row rows r x g.on g.from in
-                let d = departs r g.on w' g.from in
+                let d = view.departure r x g.on g.from in
                 let at_stop = view.stop r x g.on here g.from at_x in
                 let soon = rw (← at_stop) at g.in_time in
                 let fresh = rw (← at_stop) at g.fresh in
-                w.board_place-boarded.ensures.caught k r h up fallen (omega (arith, long, w')) (record { in_time = omega (arith, soon, d, read_ready k); fresh = omega (arith, fresh, d, read_before k) }))
+                w.board_place-boarded.ensures.caught k r h up fallen (omega (arith, size, w')) (record { in_time = omega (arith, soon, d, read_ready k); fresh = omega (arith, fresh, d, read_before k) }))
                 (got_off rows view size order k h))
             | else-call-2 w ↦ rw (w.aboard-is, w.span-is) (line_stay before ready rows c.args.from x (nobody rows view k h (elim w.else-call-2.branch [
               | else-call-2-via-then-call-2+else-fall w' ↦ (λ may low. let n = w'.if-fall.false in omega arith)

@@ -1,7 +1,8 @@
-use Rattle.std.proofs.Common.{◌≡◌, ◌+◌, ◌*◌, ℕ, ◌<◌, inl, inr, length, slice_index, get_or, min, max, [], arith, sym, ◌∙◌}
+use Rattle.std.proofs.Common.{◌≡◌, ℕ, ◌<◌, inl, inr, length, slice_index, get_or, min, max, [], arith, sym, ◌∙◌, ap}
 use Rattle.std.proofs.lemmas.Bool.{cases_eq, cases_lt}
 use Rattle.std.proofs.lemmas.List.{get_or-replicate}
 use Rattle.timetable.specs.declared.least.TheConstants.{NEVER}
+use Rattle.trip_lanes.specs.Columns.{arrives}
 use Rattle.trip_lanes.specs.Lane.{lane}
 use Rattle.trip_lanes.proofs.Lower.{lane_old}
 use Rattle.trip_lanes.proofs.riders.earliest.Goals as goal
@@ -11,10 +12,10 @@ loop-rank-preserved c =
     let xs = c.args.aboard.now in
     let x = c.loop-rank.rank in
     let old = c.loop-rank.invariant in
-    let here = slice_index c.args.arrivals.now (x * c.args.places + c.args.place) in
+    let here = arrives c.args.column x in
     let within : x < length xs = omega (arith, c.requires.riders.within) in
     let read : (k : ℕ) → slice_index (lane k xs) x ≡ slice_index (get_or xs x []) k = λ k. lane_old xs x k within in
-    let new : (k : ℕ) → k < 16 → slice_index c.alight-lower.result k ≡ min (slice_index c.loop-rank.best k) (max (slice_index (get_or xs x []) k) here) = λ k h. c.alight-lower.ensures k h in
+    let new : (k : ℕ) → k < 16 → slice_index c.alight-lower.result k ≡ min (slice_index c.loop-rank.best k) (max (slice_index (get_or xs x []) k) here) = λ k h. c.alight-lower.ensures k h ∙ ap (λ (n : ℕ). min (slice_index c.loop-rank.best k) (max (slice_index (get_or xs x []) k) n)) c.arrival.ensures in
     record {
       least = λ k r h below rides. elim (cases_eq r x) [
         | inl e ↦

@@ -19,10 +19,9 @@ returns c =
     record {
       lines = lined;
       boarded = rw (c.in_ok-boarded.ensures ∙ ap lists_of c.deref-3.ensures.value) c.in_ok-places.ensures;
-      viewed = views_of_lines trips c.in_ok-lines.lines c.in_ok-boarded.boarded c.in_ok-calls.calls c.in_ok-departures.departures c.in_ok-arrivals.arrivals lined.line
+      viewed = views_of_lines trips c.in_ok-lines.lines c.in_ok-boarded.boarded c.in_ok-calls.calls c.in_ok-times.times lined.line
           (rw (c.in_ok-calls.ensures ∙ ap lists_of c.deref-4.ensures.value) c.in_ok-views.ensures.calls)
-          (rw (c.in_ok-departures.ensures ∙ ap lists_of c.deref-5.ensures.value) c.in_ok-views.ensures.departures)
-          (rw (c.in_ok-arrivals.ensures ∙ ap lists_of c.deref-6.ensures.value) c.in_ok-views.ensures.arrivals);
+          (rw (c.in_ok-times.ensures ∙ ap lists_of c.deref-5.ensures.value) c.in_ok-views.ensures.times);
     }
 
 pub grouped-requires-clause-all : goal.grouped-requires-clause-all

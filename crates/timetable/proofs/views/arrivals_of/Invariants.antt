@@ -1,7 +1,0 @@
-use Rattle.std.proofs.Common.{◌≡◌, ℕ, List, length, All}
-use Rattle.timetable.specs.declared.trips.Event.{Event}
-use Rattle.timetable.specs.LineViews.{rows_of_line, arrives, IsGrid}
-use Rattle.timetable.proofs.views.arrivals_of.Given as goal
-
-abbrev pub invariant-loop-trip : goal.invariant-loop-trip
-invariant-loop-trip l = (places : ℕ) → All (λ (row : List Event). length row ≡ places) (rows_of_line l.trips l.line) → IsGrid l.trip-index places (arrives (rows_of_line l.trips l.line)) l.arrivals.items
