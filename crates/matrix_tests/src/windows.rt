@@ -200,7 +200,7 @@ fn same_at(found: &Durations, other: &Durations, stop: u32) -> bool {
     if stop >= found.stops() || stop >= other.stops() {
         return false;
     }
-    found.labels_of(StopNo(stop)) == other.labels_of(StopNo(stop))
+    found.lanes_of(StopNo(stop)) == other.lanes_of(StopNo(stop))
 }
 
 /// Whether two tables have the same durations.

@@ -2,6 +2,7 @@ pub mod Carrying
 pub mod Walking
 pub mod Reaching
 pub mod Filling
+pub mod Tabled
 pub mod Unique
 pub mod Ranked
 pub mod LineScan

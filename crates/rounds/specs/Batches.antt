@@ -1,19 +1,21 @@
 -- Batches of a window: sixteen of its minutes, side by side.
-use Rattle.std.specs.Prelude.{◌≡◌, ℕ, ◌+◌, ◌*◌, ◌<◌, ◌≤◌, List, length, slice_index}
+use Rattle.std.specs.Prelude.{◌≡◌, ℕ, ◌+◌, ◌*◌, ◌<◌, ◌≤◌, List, length}
 use Rattle.timetable.specs.declared.least.TheConstants.{NEVER}
 use Rattle.timetable.specs.Networks.{Net}
 use Rattle.timetable.specs.Least.{IsLeastOrNever}
 use Rattle.timetable.specs.Journeys.{IsDuration}
 use Rattle.rounds.specs.declared.window.Window.{Window}
 use Rattle.rounds.specs.Window.{departure}
+use Rattle.rounds.specs.Table.{batches_of, label_of}
 
 -- the departure of a lane of a batch: that of its minute, or NEVER past the window
 pub record IsDeparture (w : Window) (batch l time : ℕ) : Type 0 where
   pub live : 16 * batch + l < w.minutes → time ≡ departure w (16 * batch + l)
   pub dead : w.minutes ≤ 16 * batch + l → time ≡ NEVER
 
--- stop by stop, the least duration for each minute of a window, or NEVER where there is none
-pub record AreLabels (n : Net) (origin : ℕ) (w : Window) (k : ℕ) (labels : List ℕ) : Type 0 where
-  pub size : length labels ≡ n.stops * w.minutes
+-- stop by stop, the least duration for each minute of a window, or NEVER where there is none; lanes past the window are dead
+pub record AreLabels (n : Net) (origin : ℕ) (w : Window) (k : ℕ) (labels : List (List ℕ)) : Type 0 where
+  pub size : length labels ≡ n.stops * batches_of w.minutes
   pub each : (p m : ℕ) → p < n.stops → m < w.minutes →
-      IsLeastOrNever (IsDuration n origin (departure w m) k p) (slice_index labels (p * w.minutes + m))
+      IsLeastOrNever (IsDuration n origin (departure w m) k p) (label_of w.minutes labels p m)
+  pub dead : (p m : ℕ) → p < n.stops → w.minutes ≤ m → m < 16 * batches_of w.minutes → label_of w.minutes labels p m ≡ NEVER

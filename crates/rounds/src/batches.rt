@@ -1,5 +1,5 @@
 //! The minutes of a window, sixteen at a time and from the last to the first.
-ghost use Rattle.std.specs.Prelude.{◌≡◌, ◌≢◌, ℕ, ◌+◌, ◌*◌, ◌<◌, ◌≤◌, ◌⊎◌, length, slice_index, replicate, All};
+ghost use Rattle.std.specs.Prelude.{◌≡◌, ◌≢◌, ℕ, ◌+◌, ◌*◌, ◌<◌, ◌≤◌, [], length, slice_index, slice_index_or, replicate, All};
 ghost use Rattle.timetable.specs.Lines.{AreLinesOf};
 ghost use Rattle.timetable.specs.Least.{IsLeastOrNever};
 ghost use Rattle.timetable.specs.Journeys.{IsDuration};
@@ -9,6 +9,7 @@ ghost use Rattle.rounds.specs.Minutes.{IsSince};
 ghost use Rattle.rounds.specs.Window.{Fits, departure};
 ghost use Rattle.rounds.specs.State.{arrival};
 ghost use Rattle.rounds.specs.Batches.{IsDeparture};
+ghost use Rattle.rounds.specs.Table.{batches_of, label_of};
 
 use crate::bounded::{Kept, run_bounded};
 use crate::scan::clear;
@@ -54,48 +55,29 @@ fn since(labels: Lanes, departs: Lanes) -> Lanes
         .to_array()
 }
 
-/// Writes the first of some times from a place on.
-fn write_row(labels: &mut [u32], at: usize, times: Lanes, count: usize)
-    requires count { count ≤ 16 }
-    requires room { at + count ≤ length labels.old }
-    ensures same { length labels.new ≡ length labels.old }
-    ensures written { (l : ℕ) → l < count → slice_index labels.new (at + l) ≡ slice_index times l }
-    ensures kept { (i : ℕ) → (i < at) ⊎ (at + count ≤ i) → slice_index labels.new i ≡ slice_index labels.old i }
-{
-    for l in 0..count {
-        labels[at + l] = times[l];
-    }
-}
-
-/// Writes by when stops are reached, by a ride or by a walk, among the labels of all minutes, where the minutes of a stop
-/// stand side by side.
+/// Writes by when stops are reached in a batch, by a ride or by a walk, among the lanes of all batches, where those of a
+/// stop stand side by side.
 fn write_batch(
-    labels: &mut [u32],
+    labels: &mut [Lanes],
     ride: &[Lanes],
     ready: &[Lanes],
     departs: Lanes,
-    base: usize,
-    minutes: usize,
+    batch: usize,
+    batches: usize,
 )
-    requires base { base < minutes }
+    requires batch { batch < batches }
     requires same { length ride.now ≡ length ready.now }
-    requires room { length labels.old ≡ length ready.now * minutes }
+    requires room { length labels.old ≡ length ready.now * batches }
     requires fits { (l p : ℕ) → l < 16 → slice_index (lane l ready.now) p ≤ NEVER_VALUE }
-    requires since { (l p : ℕ) → l < 16 → base + l < minutes → p < length ready.now → arrival (lane l ride.now) (lane l ready.now) p ≢ NEVER_VALUE → slice_index departs l ≤ arrival (lane l ride.now) (lane l ready.now) p }
+    requires since { (l p : ℕ) → l < 16 → p < length ready.now → arrival (lane l ride.now) (lane l ready.now) p ≢ NEVER_VALUE → slice_index departs l ≤ arrival (lane l ride.now) (lane l ready.now) p }
     ensures same { length labels.new ≡ length labels.old }
-    ensures written { (l p : ℕ) → l < 16 → base + l < minutes → p < length ready.now → IsSince (slice_index departs l) (arrival (lane l ride.now) (lane l ready.now) p) (slice_index labels.new (p * minutes + (base + l))) }
-    ensures kept { (p m : ℕ) → m < minutes → (m < base) ⊎ (base + 16 ≤ m) → slice_index labels.new (p * minutes + m) ≡ slice_index labels.old (p * minutes + m) }
+    ensures written { (l p : ℕ) → l < 16 → p < length ready.now → IsSince (slice_index departs l) (arrival (lane l ride.now) (lane l ready.now) p) (slice_index (slice_index_or labels.new (p * batches + batch) []) l) }
+    ensures kept { (p b : ℕ) → b < batches → b ≢ batch → slice_index_or labels.new (p * batches + b) [] ≡ slice_index_or labels.old (p * batches + b) [] }
 {
-    let left = minutes - base;
-    let count = if left < 16 { left } else { 16 };
     for stop in 0..ready.len() {
         let arrived = lower_of(ride[stop], ready[stop]);
-        write_row(
-            labels,
-            stop * minutes + base,
-            since(arrived, departs),
-            count,
-        );
+        let times = since(arrived, departs);
+        labels[stop * batches + batch] = times;
     }
 }
 
@@ -107,7 +89,7 @@ pub(crate) fn run_window(
     origin: StopNo,
     window: Window,
     rides: u32,
-    labels: &mut [u32],
+    labels: &mut [Lanes],
     bound_ride: &mut [Kept],
     bound_ready: &mut [Kept],
     ride: &mut [Lanes],
@@ -123,7 +105,7 @@ pub(crate) fn run_window(
     requires rides { rides ≤ 8 }
     requires fits { Fits window }
     requires lines { AreLinesOf network.now.stops network.now.trips lines.now }
-    requires labels { length labels.old ≡ network.now.stops * window.minutes }
+    requires labels { length labels.old ≡ network.now.stops * batches_of window.minutes }
     requires bound_ride { length bound_ride.old ≡ network.now.stops }
     requires bound_ready { length bound_ready.old ≡ network.now.stops }
     requires ride { length ride.old ≡ network.now.stops }
@@ -136,7 +118,8 @@ pub(crate) fn run_window(
     requires fallen { length fallen.old ≡ network.now.stops }
     ensures same { length labels.new ≡ length labels.old }
     ensures each { (p m : ℕ) → p < network.now.stops → m < window.minutes →
-        IsLeastOrNever (IsDuration network.now origin.0 (departure window m) rides p) (slice_index labels.new (p * window.minutes + m)) }
+        IsLeastOrNever (IsDuration network.now origin.0 (departure window m) rides p) (label_of window.minutes labels.new p m) }
+    ensures dead { (p m : ℕ) → p < network.now.stops → window.minutes ≤ m → m < 16 * batches_of window.minutes → label_of window.minutes labels.new p m ≡ NEVER_VALUE }
 {
     network.known();
     let batches = (window.minutes + 15) / 16;
@@ -172,8 +155,8 @@ pub(crate) fn run_window(
             ride,
             ready,
             departs,
-            batch as usize * 16,
-            window.minutes as usize,
+            batch as usize,
+            batches as usize,
         );
     }
 }

@@ -85,7 +85,7 @@ impl Search {
         origin: StopNo,
         window: Window,
         rides: u32,
-    ) -> Result<Vec<u32>, AllocError>
+    ) -> Result<Vec<Lanes>, AllocError>
         requires origin { origin.0 < network.now.stops }
         requires fits { Fits window }
         ensures { IfOk result (λ labels. AreLabels network.now origin.0 window rides labels.items) }
@@ -104,7 +104,7 @@ impl Search {
         origin: StopNo,
         window: Window,
         rides: u32,
-    ) -> Result<Vec<u32>, AllocError>
+    ) -> Result<Vec<Lanes>, AllocError>
         requires origin { origin.0 < network.now.stops }
         requires fits { Fits window }
         requires rides { rides ≤ 8 }
@@ -113,7 +113,8 @@ impl Search {
         network.known();
         let lines = network.lines();
         let stops = network.stops() as usize;
-        let mut labels = vec![in alloc; NEVER; stops * window.minutes as usize]?;
+        let batches = (window.minutes as usize + 15) / 16;
+        let mut labels = vec![in alloc; [NEVER; 16]; stops * batches]?;
         make_lanes(alloc, &mut self.ride, stops)?;
         make_lanes(alloc, &mut self.ready, stops)?;
         make_lanes(alloc, &mut self.before, stops)?;

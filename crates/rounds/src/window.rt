@@ -2,6 +2,7 @@
 ghost use Rattle.std.specs.Prelude.{◌≡◌, ◌≢◌, ℕ, ◌+◌, ◌*◌, ◌<◌, ◌≤◌, ◌↔◌, IsTrue, length, slice_index, All, IfOk};
 ghost use Rattle.timetable.specs.declared.limits.TheConstants.{MOST_TRIPS};
 ghost use Rattle.rounds.specs.Batches.{AreLabels};
+ghost use Rattle.rounds.specs.Table.{batches_of, label_of};
 ghost use Rattle.rounds.specs.Window.{Fits, AreDurations};
 ghost use Rattle.rounds.specs.declared.window.TheConstants as limit;
 
@@ -10,6 +11,7 @@ use crate::search::Search;
 use crate::table::Durations;
 use std::alloc::{AllocError, Global};
 use timetable::{END_OF_AXIS, Lines, NEVER, Network, StopNo};
+use trip_lanes::Lanes;
 
 /// The most minutes of a window: a day.
 pub const MOST_MINUTES: u32 = 1_440;
@@ -81,35 +83,41 @@ pub(crate) fn labels_by_minute(
     origin: StopNo,
     window: Window,
     rides: u32,
-) -> Result<Vec<u32>, AllocError>
+) -> Result<Vec<Lanes>, AllocError>
     requires origin { origin.0 < network.now.stops }
     requires fits { Fits window }
     ensures { IfOk result (λ labels. AreLabels network.now origin.0 window rides labels.items) }
 {
     network.known();
     let stops = network.stops() as usize;
-    let minutes = window.minutes as usize;
-    let mut labels = vec![in alloc; NEVER; stops * minutes]?;
+    let batches = (window.minutes as usize + 15) / 16;
+    let mut labels = vec![in alloc; [NEVER; 16]; stops * batches]?;
     for minute in 0..window.minutes {
         let depart = window.first + 60 * minute;
         let of_minute = one_minute(alloc, network, origin, depart, rides)?;
-        write_minute(&mut labels, of_minute.as_slice(), minute as usize, minutes);
+        write_minute(
+            &mut labels,
+            of_minute.as_slice(),
+            minute as usize,
+            window.minutes as usize,
+        );
     }
     Ok(labels)
 }
 
-/// Writes the labels of a minute, one per stop, among those of all minutes, where the minutes of a stop stand side by
-/// side.
-fn write_minute(labels: &mut [u32], of_minute: &[u32], minute: usize, minutes: usize)
-    requires room { length labels.old ≡ length of_minute.now * minutes }
+/// Writes the labels of a minute, one per stop, among the lanes of all minutes, where those of a stop stand side by side.
+fn write_minute(labels: &mut [Lanes], of_minute: &[u32], minute: usize, minutes: usize)
+    requires few { minutes ≤ limit.MOST_MINUTES }
+    requires room { length labels.old ≡ length of_minute.now * batches_of minutes }
     requires minute { minute < minutes }
     ensures same { length labels.new ≡ length labels.old }
     ensures written { (p : ℕ) → p < length of_minute.now →
-        slice_index labels.new (p * minutes + minute) ≡ slice_index of_minute.now p }
-    ensures kept { (p m : ℕ) → m < minutes → m ≢ minute →
-        slice_index labels.new (p * minutes + m) ≡ slice_index labels.old (p * minutes + m) }
+        label_of minutes labels.new p minute ≡ slice_index of_minute.now p }
+    ensures kept { (p m : ℕ) → m < 16 * batches_of minutes → m ≢ minute →
+        label_of minutes labels.new p m ≡ label_of minutes labels.old p m }
 {
+    let batches = (minutes + 15) / 16;
     for stop in 0..of_minute.len() {
-        labels[stop * minutes + minute] = of_minute[stop];
+        labels[stop * batches + minute / 16][minute % 16] = of_minute[stop];
     }
 }

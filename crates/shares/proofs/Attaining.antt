@@ -13,7 +13,7 @@ pub differs : (x : ℕ) → (x ≡ NEVER → ⊥) → (x == NEVER) ≡ false
 differs x d = grind (arith, d)
 
 -- a label is within a duration just where the duration that it tells is
-within_label : (x d : ℕ) → d < NEVER → is_within d (known_of x) ≡ nat_le x d
+pub within_label : (x d : ℕ) → d < NEVER → is_within d (known_of x) ≡ nat_le x d
 within_label x d l = elim (cases_eq x NEVER) [
   | inl e ↦ rw e (grind (arith, nat_tests, l))
   | inr n ↦ rw (differs x n) refl
@@ -57,12 +57,6 @@ cells_more t share cs c n same before last p h = elim (cases_lt p n) [
       let row : c ≡ get_or (cs ++ c ∷ []) p None = subst (λ (k : ℕ). c ≡ get_or (cs ++ c ∷ []) k None) here (sym (get_or-append_seam cs c [] None)) in
       subst (λ (o : Option ℕ). IsCell t share p o) row (subst (λ (k : ℕ). IsCell t share k c) there last)
 ]
-
--- one more minute, whose label is looked at
-pub count_next : (ds : ℕ → Option ℕ) (d n x : ℕ) → d < NEVER → ds n ≡ known_of x → minutes_within ds d (n + 1) ≡ minutes_within ds d n + (if nat_le x d then 1 else 0)
-count_next ds d n x l e =
-    let one : n + 1 ≡ suc n = omega arith in
-    rw (one, e, within_label x d l) refl
 
 -- minutes that are alike count alike
 pub count_alike : (some others : ℕ → Option ℕ) (d n : ℕ) → ((m : ℕ) → m < n → some m ≡ others m) → minutes_within some d n ≡ minutes_within others d n

@@ -1,4 +1,5 @@
 mod Attaining
+mod Counting
 mod Ranking
 mod Summing
 pub mod Unique

@@ -1,8 +1,10 @@
 -- A cell: the least duration that a share of a window's minutes attains (the nearest-rank percentile of their durations,
 -- where a minute without a journey has none, and so lies beyond all).
-use Rattle.std.specs.Prelude.{◌≡◌, ◌<◌, ◌≤◌, ◌+◌, ◌*◌, ℕ, zero, suc, Bool, false, List, Option, Some, None, Vec, length, slice_get, slice_index_or, nat_le, if◌then◌else◌}
+use Rattle.std.specs.Prelude.{◌≡◌, ◌==◌, ◌<◌, ◌≤◌, ◌+◌, ◌*◌, ℕ, zero, suc, Bool, false, List, Option, Some, None, Vec, length, slice_get, slice_index_or, nat_le, if◌then◌else◌}
 use Rattle.std.specs.Global.{Global}
-use Rattle.rounds.specs.Table.{Times, at, IsLeastOrNone}
+use Rattle.timetable.specs.declared.least.TheConstants.{NEVER}
+use Rattle.rounds.specs.declared.window.TheConstants.{MOST_MINUTES}
+use Rattle.rounds.specs.Table.{Times, at, batches_of, label_in, IsLeastOrNone}
 
 -- a minute without a duration has none that is at most d
 abbrev pub is_within : ℕ → Option ℕ → Bool
@@ -32,3 +34,13 @@ pub record AreCellsOf (t : Times) (shares : List ℕ) (lists : List (Vec (Option
   pub count : length lists ≡ length shares
   pub each : (k share : ℕ) (cells : Vec (Option ℕ) Global) → slice_get shares k ≡ Some share → slice_get lists k ≡ Some cells →
       AreCells t share cells.items
+
+-- the lanes of a stop: as many as its minutes take, and those past the window hold NEVER
+pub record HoldMinutes (lanes : List (List ℕ)) (minutes : ℕ) : Type 0 where
+  pub few : minutes ≤ MOST_MINUTES
+  pub batches : length lanes ≡ batches_of minutes
+  pub dead : (m : ℕ) → minutes ≤ m → m < 16 * batches_of minutes → label_in lanes m ≡ NEVER
+
+-- the label of a lane, and 0 where it is NEVER
+abbrev pub known_label : ℕ → ℕ
+known_label label = if label == NEVER then 0 else label

@@ -1,12 +1,14 @@
 //! Cells: the least duration that a share of a window's minutes attains.
-ghost use Rattle.std.specs.Prelude.{◌≡◌, ◌<◌, ◌≤◌, ◌*◌, ℕ, Some, length, slice_index, IfOk, IsTrue, ◌↔◌};
-ghost use Rattle.rounds.specs.Table.{known_of, IsLeastOrNone};
-ghost use Rattle.rounds.specs.declared.window.TheConstants.{MOST_MINUTES};
-ghost use Rattle.shares.specs.Percentiles.{minutes_within, Attains, IsCell, AreCells};
+ghost use Rattle.std.specs.Prelude.{◌≡◌, ◌≢◌, ◌<◌, ◌≤◌, ◌*◌, ℕ, Some, length, max, slice_index, IfOk, IsTrue, ◌↔◌};
+ghost use Rattle.rounds.specs.Table.{known_of, label_in, IsLeastOrNone};
+ghost use Rattle.shares.specs.Percentiles.{minutes_within, Attains, IsCell, AreCells, HoldMinutes, known_label};
 
 use rounds::Durations;
 use std::alloc::{AllocError, Global};
+use std::simd::prelude::*;
+use std::simd::u32x16;
 use timetable::{NEVER, StopNo};
+use trip_lanes::Lanes;
 
 /// The least duration to a stop, in seconds, that so many of a hundred minutes attain; none where too few minutes have
 /// a journey to it. A minute attains each duration that isn't below its own.
@@ -16,7 +18,7 @@ pub fn cell(durations: &Durations, stop: StopNo, share: u32) -> Option<u32>
     ensures { IsCell durations.now share stop.0 result }
 {
     durations.known();
-    least_attained(durations.labels_of(stop), share)
+    least_attained(durations.lanes_of(stop), durations.minutes(), share)
 }
 
 /// The cell of each stop. Want of memory is the only refusal.
@@ -35,21 +37,21 @@ pub fn cells(
     Ok(cells)
 }
 
-/// The least duration that the share of these minutes attains, by halving the range in which it lies, which ends with the
+/// The least duration that the share of so many minutes attains, by halving the range in which it lies, which ends with the
 /// greatest of them.
-fn least_attained(labels: &[u32], share: u32) -> Option<u32>
-    requires few { length labels.now ≤ MOST_MINUTES }
+fn least_attained(lanes: &[Lanes], minutes: u32, share: u32) -> Option<u32>
+    requires lanes { HoldMinutes lanes.now minutes }
     requires share { share ≤ 100 }
-    ensures { IsLeastOrNone (Attains (λ m. known_of (slice_index labels.now m)) (length labels.now) share) result }
+    ensures { IsLeastOrNone (Attains (λ m. known_of (label_in lanes.now m)) minutes share) result }
 {
     let mut low = 0;
-    let mut high = greatest(labels);
-    if !attains(labels, share, high) {
+    let mut high = greatest(lanes);
+    if !attains(lanes, minutes, share, high) {
         return None;
     }
     while low < high {
         let middle = low + (high - low) / 2;
-        if attains(labels, share, middle) {
+        if attains(lanes, minutes, share, middle) {
             high = middle;
         } else {
             low = middle + 1;
@@ -59,41 +61,75 @@ fn least_attained(labels: &[u32], share: u32) -> Option<u32>
 }
 
 /// The greatest duration of these minutes; 0 where none has one.
-fn greatest(labels: &[u32]) -> u32
+fn greatest(lanes: &[Lanes]) -> u32
     ensures below { result < NEVER }
-    ensures greatest { (m d : ℕ) → m < length labels.now → known_of (slice_index labels.now m) ≡ Some d → d ≤ result }
+    ensures greatest { (m d : ℕ) → m < 16 * length lanes.now → known_of (label_in lanes.now m) ≡ Some d → d ≤ result }
+{
+    let mut high = [0; 16];
+    for batch in lanes {
+        let higher = higher_of(high, *batch);
+        high = higher;
+    }
+    greatest_lane(high)
+}
+
+/// In each lane the greater one, where the label is known.
+fn higher_of(high: Lanes, labels: Lanes) -> Lanes
+    ensures { (l : ℕ) → l < 16 → slice_index result l ≡ max (slice_index high l) (known_label (slice_index labels l)) }
+{
+    let known = u32x16::from_array(labels)
+        .simd_eq(u32x16::splat(NEVER))
+        .select(u32x16::splat(0), u32x16::from_array(labels));
+    u32x16::from_array(high).simd_max(known).to_array()
+}
+
+/// The greatest of sixteen lanes.
+fn greatest_lane(lanes: Lanes) -> u32
+    requires { (l : ℕ) → l < 16 → slice_index lanes l ≢ NEVER }
+    ensures below { result < NEVER }
+    ensures greatest { (l : ℕ) → l < 16 → slice_index lanes l ≤ result }
 {
     let mut greatest = 0;
-    for label in labels {
-        if *label != NEVER && greatest < *label {
-            greatest = *label;
+    for l in 0..16 {
+        if greatest < lanes[l] {
+            greatest = lanes[l];
         }
     }
     greatest
 }
 
-/// Whether the share of these minutes attains a duration.
-fn attains(labels: &[u32], share: u32, duration: u32) -> bool
-    requires few { length labels.now ≤ MOST_MINUTES }
+/// Whether the share of so many minutes attains a duration.
+fn attains(lanes: &[Lanes], minutes: u32, share: u32, duration: u32) -> bool
+    requires lanes { HoldMinutes lanes.now minutes }
     requires share { share ≤ 100 }
     requires duration { duration < NEVER }
-    ensures { IsTrue result ↔ Attains (λ m. known_of (slice_index labels.now m)) (length labels.now) share duration }
+    ensures { IsTrue result ↔ Attains (λ m. known_of (label_in lanes.now m)) minutes share duration }
 {
-    100 * count_within(labels, duration) >= share * labels.len() as u32
+    100 * count_within(lanes, duration) >= share * minutes
 }
 
-/// In how many of these minutes the duration is at most this one.
-fn count_within(labels: &[u32], duration: u32) -> u32
-    requires few { length labels.now ≤ MOST_MINUTES }
+/// In how many of these minutes the duration is at most this one. A dead lane holds `NEVER`, and so is never counted.
+fn count_within(lanes: &[Lanes], duration: u32) -> u32
+    requires few { length lanes.now ≤ 90 }
     requires duration { duration < NEVER }
-    ensures count { result ≡ minutes_within (λ m. known_of (slice_index labels.now m)) duration (length labels.now) }
-    ensures bound { result ≤ length labels.now }
+    ensures count { result ≡ minutes_within (λ m. known_of (label_in lanes.now m)) duration (16 * length lanes.now) }
+    ensures bound { result ≤ 16 * length lanes.now }
 {
     let mut minutes = 0;
-    for label in labels {
-        if *label <= duration {
-            minutes += 1;
-        }
+    for batch in lanes {
+        minutes += count_batch(*batch, duration);
     }
     minutes
+}
+
+/// In how many of sixteen minutes the duration is at most this one.
+fn count_batch(batch: Lanes, duration: u32) -> u32
+    requires { duration < NEVER }
+    ensures count { result ≡ minutes_within (λ l. known_of (slice_index batch l)) duration 16 }
+    ensures bound { result ≤ 16 }
+{
+    u32x16::from_array(batch)
+        .simd_le(u32x16::splat(duration))
+        .to_bitmask()
+        .count_ones()
 }

@@ -1,7 +1,7 @@
 //! The cells of several shares: the minutes of a stop are put in order once, and each share looks up its rank. A single share
 //! is quicker by halving.
 ghost use Rattle.std.specs.Prelude.{◌≡◌, ◌<◌, ◌≤◌, ◌+◌, ◌∷◌, [], ℕ, All, length, slice_index, IfOk, OnOk};
-ghost use Rattle.rounds.specs.Table.{known_of, at, IsLeastOrNone};
+ghost use Rattle.rounds.specs.Table.{known_of, at, batches_of, label_in, IsLeastOrNone};
 ghost use Rattle.rounds.specs.declared.window.TheConstants.{MOST_MINUTES};
 ghost use Rattle.shares.specs.Percentiles.{minutes_within, Attains, AreCellsOf};
 ghost use Rattle.shares.specs.Ranks.{AreInOrder, AreEmpty, AreLonger};
@@ -10,6 +10,7 @@ use crate::percentiles::cells;
 use rounds::Durations;
 use std::alloc::{AllocError, Global};
 use timetable::{NEVER, StopNo};
+use trip_lanes::Lanes;
 
 /// The cells of all stops for each of some shares, in the shares' order: one list per share, with one cell per stop.
 ///
@@ -86,8 +87,19 @@ fn read_minutes(durations: &Durations, stop: StopNo, minutes: &mut [u32])
     ensures counts { (d : ℕ) → minutes_within (λ m. known_of (slice_index minutes.new m)) d durations.now.minutes
         ≡ minutes_within (λ m. at durations.now stop.0 m) d durations.now.minutes }
 {
-    minutes.copy_from_slice(durations.labels_of(stop));
+    copy_minutes(durations.lanes_of(stop), minutes);
     minutes.sort_unstable();
+}
+
+/// The labels of the minutes that these lanes hold, one by one.
+fn copy_minutes(lanes: &[Lanes], minutes: &mut [u32])
+    requires { length lanes.now ≡ batches_of (length minutes.old) }
+    ensures same { length minutes.new ≡ length minutes.old }
+    ensures labels { (m : ℕ) → m < length minutes.old → slice_index minutes.new m ≡ label_in lanes.now m }
+{
+    for m in 0..minutes.len() {
+        minutes[m] = lanes[m / 16][m % 16];
+    }
 }
 
 /// Puts a stop's cell last in the list of each share.

@@ -1,9 +1,10 @@
-use Rattle.std.proofs.Common.{◌≡◌, ℕ, ◌+◌, ◌*◌, ◌<◌, ◌≤◌, length, slice_index, All}
+use Rattle.std.proofs.Common.{◌≡◌, ℕ, ◌+◌, ◌*◌, ◌<◌, ◌≤◌, length}
 use Rattle.timetable.specs.declared.least.TheConstants.{NEVER}
 use Rattle.timetable.specs.Least.{IsLeastOrNever}
 use Rattle.timetable.specs.Journeys.{IsDuration}
 use Rattle.trip_lanes.specs.Lane.{lane}
 use Rattle.rounds.specs.Window.{departure}
+use Rattle.rounds.specs.Table.{batches_of, label_of}
 use Rattle.rounds.specs.State.{LaneState}
 use Rattle.rounds.proofs.batches.run_window.Given as goal
 
@@ -20,10 +21,12 @@ invariant-loop-i v =
       aboard : length v.aboard ≡ length v.initial.aboard;
       marked : length v.marked ≡ v.network.stops;
       fallen : length v.fallen ≡ v.network.stops;
-      labels : length v.labels ≡ v.network.stops * v.fn.window.minutes;
+      labels : length v.labels ≡ v.network.stops * batches_of v.fn.window.minutes;
       last : v.i ≡ 0 → v.later ≡ NEVER;
       next : (batch : ℕ) → batch + v.i ≡ v.batches → 0 < v.i → v.later ≡ departure v.fn.window (16 * batch);
       bounds : (k : ℕ) → k ≤ v.fn.rides → LaneState v.network (record { stop = v.fn.origin.0; time = v.later }) k (lane k v.bound_ride) (lane k v.bound_ready);
       each : (batch p m : ℕ) → batch + v.i ≡ v.batches → p < v.network.stops → m < v.fn.window.minutes → 16 * batch ≤ m →
-          IsLeastOrNever (IsDuration v.network v.fn.origin.0 (departure v.fn.window m) v.fn.rides p) (slice_index v.labels (p * v.fn.window.minutes + m));
+          IsLeastOrNever (IsDuration v.network v.fn.origin.0 (departure v.fn.window m) v.fn.rides p) (label_of v.fn.window.minutes v.labels p m);
+      dead : (batch p m : ℕ) → batch + v.i ≡ v.batches → p < v.network.stops → v.fn.window.minutes ≤ m → m < 16 * batches_of v.fn.window.minutes → 16 * batch ≤ m →
+          label_of v.fn.window.minutes v.labels p m ≡ NEVER;
     }

@@ -1,7 +1,6 @@
-use Rattle.std.proofs.Common.{◌≡◌, ◌∙◌, ap, ℕ, length, slice_index, List, arith}
+use Rattle.std.proofs.Common.{◌≡◌, ◌∙◌, length, slice_index, ap, arith}
 use Rattle.std.proofs.lemmas.List.Sorted.{IsNonDecreasingBy-from_sort}
 use Rattle.rounds.specs.Table.{at, known_of}
-use Rattle.shares.specs.Percentiles.{minutes_within}
 use Rattle.shares.proofs.Attaining.{count_alike}
 use Rattle.shares.proofs.Ranking.{count_permuted}
 use Rattle.shares.proofs.ranks.read_minutes.Goals as goal
@@ -16,9 +15,8 @@ pub returns-clause-counts : goal.returns-clause-counts
 returns-clause-counts c = λ d.
     let t = c.args.durations.now in
     let n = t.minutes in
-    let labels = c.labels_of.result.now in
-    let copied : c.copy_from_slice.new.self ≡ labels = c.copy_from_slice.ensures.after in
-    let long : length c.copy_from_slice.new.self ≡ n = ap (λ (xs : List ℕ). length xs) copied ∙ c.labels_of.ensures.minutes in
-    count_permuted c.copy_from_slice.new.self c.sort_unstable.new.self d n c.sort_unstable.ensures.permutation long (c.sort_unstable.ensures.len ∙ long)
-    ∙ ap (λ (xs : List ℕ). minutes_within (λ m. known_of (slice_index xs m)) d n) copied
-    ∙ count_alike (λ m. known_of (slice_index labels m)) (λ m. at t c.args.stop.0 m) d n c.labels_of.ensures.labels
+    let copied = c.copy_minutes.new.minutes in
+    let long : length copied ≡ n = c.copy_minutes.ensures.same ∙ c.requires.room in
+    count_permuted copied c.sort_unstable.new.self d n c.sort_unstable.ensures.permutation long (c.sort_unstable.ensures.len ∙ long)
+    ∙ count_alike (λ m. known_of (slice_index copied m)) (λ m. at t c.args.stop.0 m) d n (λ m l.
+    ap known_of (c.copy_minutes.ensures.labels m (omega (arith, l, c.requires.room))) ∙ c.lanes_of.ensures.minutes m l)
