@@ -35,15 +35,15 @@ count_split ds d n (suc k) =
     omega (arith, more, rest)
 
 -- the minutes of a batch are its lanes
-lane_label : (lanes : List (List ℕ)) (b l : ℕ) → l < 16 → label_in lanes (16 * b + l) ≡ slice_index (slice_index_or lanes b []) l
+pub lane_label : (lanes : List (List ℕ)) (b l : ℕ) → l < 16 → label_in lanes (16 * b + l) ≡ slice_index (slice_index_or lanes b []) l
 lane_label lanes b l h =
     let q : (16 * b + l) / 16 ≡ b = omega arith in
     let r : (16 * b + l) % 16 ≡ l = omega arith in
     ap (λ (i : ℕ). slice_index (slice_index_or lanes i []) ((16 * b + l) % 16)) q ∙ ap (λ (i : ℕ). slice_index (slice_index_or lanes b []) i) r
 
 -- one more batch
-pub count_more : (lanes : List (List ℕ)) (d b : ℕ) → minutes_within (λ m. known_of (label_in lanes m)) d (16 * (b + 1)) ≡ minutes_within (λ m. known_of (label_in lanes m)) d (16 * b) + minutes_within (λ l. known_of (slice_index (slice_index_or lanes b []) l)) d 16
-count_more lanes d b =
+pub count_batches : (lanes : List (List ℕ)) (d b : ℕ) → minutes_within (λ m. known_of (label_in lanes m)) d (16 * (b + 1)) ≡ minutes_within (λ m. known_of (label_in lanes m)) d (16 * b) + minutes_within (λ l. known_of (slice_index (slice_index_or lanes b []) l)) d 16
+count_batches lanes d b =
     let e : 16 * (b + 1) ≡ 16 * b + 16 = omega arith in
     let more = ap (λ (j : ℕ). minutes_within (λ m. known_of (label_in lanes m)) d j) e in
     let split = count_split (λ m. known_of (label_in lanes m)) d (16 * b) 16 in

@@ -1,5 +1,8 @@
 mod Attaining
 mod Counting
+mod Masks
+mod Narrowing
 mod Ranking
+mod Planed
 mod Summing
 pub mod Unique

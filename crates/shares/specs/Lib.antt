@@ -1,4 +1,5 @@
 pub mod Percentiles
+pub mod Planes
 pub mod Ranks
 pub mod Opportunities
 pub mod Laws

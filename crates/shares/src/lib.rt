@@ -3,7 +3,7 @@
 //! at the stops whose cell is within a limit.
 //!
 //! - `percentiles`: [`cell`] and [`cells`].
-//! - `ranks`: [`cells_of`], the cells of several shares at once.
+//! - `ranks`: [`cells_of`], the cells of several shares at once; `planes` finds the label of a rank, bit by bit.
 //! - `opportunities`: [`access`], over the cells of all stops.
 //! - `laws`: [`cells_are_unique`], that a share of durations has one list of cells.
 //!
@@ -13,6 +13,7 @@
 mod laws;
 mod opportunities;
 mod percentiles;
+mod planes;
 mod ranks;
 
 pub use laws::cells_are_unique;

@@ -1,7 +1,7 @@
 //! Cells: the least duration that a share of a window's minutes attains.
-ghost use Rattle.std.specs.Prelude.{◌≡◌, ◌≢◌, ◌<◌, ◌≤◌, ◌*◌, ℕ, Some, length, max, slice_index, IfOk, IsTrue, ◌↔◌};
+ghost use Rattle.std.specs.Prelude.{◌≡◌, ◌≢◌, ◌<◌, ◌≤◌, ◌*◌, ℕ, length, max, slice_index, IfOk, IsTrue, ◌↔◌};
 ghost use Rattle.rounds.specs.Table.{known_of, label_in, IsLeastOrNone};
-ghost use Rattle.shares.specs.Percentiles.{minutes_within, Attains, IsCell, AreCells, HoldMinutes, known_label};
+ghost use Rattle.shares.specs.Percentiles.{minutes_within, Attains, IsCell, AreCells, HoldMinutes, IsTop, known_label};
 
 use rounds::Durations;
 use std::alloc::{AllocError, Global};
@@ -61,9 +61,9 @@ fn least_attained(lanes: &[Lanes], minutes: u32, share: u32) -> Option<u32>
 }
 
 /// The greatest duration of these minutes; 0 where none has one.
-fn greatest(lanes: &[Lanes]) -> u32
+pub(crate) fn greatest(lanes: &[Lanes]) -> u32
     ensures below { result < NEVER }
-    ensures greatest { (m d : ℕ) → m < 16 * length lanes.now → known_of (label_in lanes.now m) ≡ Some d → d ≤ result }
+    ensures greatest { IsTop lanes.now result }
 {
     let mut high = [0; 16];
     for batch in lanes {

@@ -1,12 +1,13 @@
-//! The cells of several shares: the minutes of a stop are put in order once, and each share looks up its rank. A single share
-//! is quicker by halving.
-ghost use Rattle.std.specs.Prelude.{◌≡◌, ◌<◌, ◌≤◌, ◌+◌, ◌∷◌, [], ℕ, All, length, slice_index, IfOk, OnOk};
-ghost use Rattle.rounds.specs.Table.{known_of, at, batches_of, label_in, IsLeastOrNone};
-ghost use Rattle.rounds.specs.declared.window.TheConstants.{MOST_MINUTES};
-ghost use Rattle.shares.specs.Percentiles.{minutes_within, Attains, AreCellsOf};
-ghost use Rattle.shares.specs.Ranks.{AreInOrder, AreEmpty, AreLonger};
+//! The cells of several shares: the labels of a stop are laid out bit by bit once, and each share looks up its rank there. A
+//! single share is quicker by halving.
+ghost use Rattle.std.specs.Prelude.{◌≡◌, ◌<◌, ◌≤◌, ◌+◌, ◌^◌, ◌∷◌, [], ℕ, All, length, IfOk, OnOk};
+ghost use Rattle.rounds.specs.Table.{known_of, label_in, IsLeastOrNone};
+ghost use Rattle.shares.specs.Percentiles.{Attains, AreCellsOf, HoldMinutes, IsTop};
+ghost use Rattle.shares.specs.Planes.{ArePlanes};
+ghost use Rattle.shares.specs.Ranks.{AreEmpty, AreLonger};
 
-use crate::percentiles::cells;
+use crate::percentiles::{cells, greatest};
+use crate::planes::{PLANES, Plane, bits_of, fill_planes, value_at};
 use rounds::Durations;
 use std::alloc::{AllocError, Global};
 use timetable::{NEVER, StopNo};
@@ -14,8 +15,8 @@ use trip_lanes::Lanes;
 
 /// The cells of all stops for each of some shares, in the shares' order: one list per share, with one cell per stop.
 ///
-/// The minutes of a stop are put in order once, whatever the number of shares, and not at all for one. Want of memory is the
-/// only refusal.
+/// Of several shares each stop's labels are laid out bit by bit once, whatever their number. Want of memory is the only
+/// refusal.
 pub fn cells_of(
     alloc: Global,
     durations: &Durations,
@@ -30,7 +31,7 @@ pub fn cells_of(
     }
 }
 
-/// The cells of a single share, for which the minutes needn't be put in order.
+/// The cells of a single share.
 fn cells_of_one(
     alloc: Global,
     durations: &Durations,
@@ -44,7 +45,7 @@ fn cells_of_one(
     Ok(lists)
 }
 
-/// The cells of several shares: the minutes of a stop are put in order once, for all of them.
+/// The cells of several shares: a stop's labels are looked at bit by bit once, for all of them.
 fn cells_of_many(
     alloc: Global,
     durations: &Durations,
@@ -54,11 +55,12 @@ fn cells_of_many(
     ensures { IfOk result (λ lists. AreCellsOf durations.now shares.now lists.items) }
 {
     durations.known();
+    let minutes = durations.minutes();
     let mut lists = empty_lists(alloc, shares.len(), durations.stops() as usize)?;
-    let mut minutes = vec![in alloc; NEVER; durations.minutes() as usize]?;
+    let mut planes = vec![in alloc; [0; 23]; PLANES]?;
     for stop in 0..durations.stops() {
-        read_minutes(durations, StopNo(stop), &mut minutes);
-        push_cells(&mut lists, &minutes, shares)?;
+        let lanes = durations.lanes_of(StopNo(stop));
+        push_cells(&mut lists, lanes, minutes, &mut planes, shares)?;
     }
     Ok(lists)
 }
@@ -78,59 +80,53 @@ fn empty_lists(
     Ok(lists)
 }
 
-/// The minutes of a stop, least duration first and `NEVER` for none last.
-fn read_minutes(durations: &Durations, stop: StopNo, minutes: &mut [u32])
-    requires stop { stop.0 < durations.now.stops }
-    requires room { length minutes.old ≡ durations.now.minutes }
-    ensures same { length minutes.new ≡ length minutes.old }
-    ensures order { AreInOrder minutes.new }
-    ensures counts { (d : ℕ) → minutes_within (λ m. known_of (slice_index minutes.new m)) d durations.now.minutes
-        ≡ minutes_within (λ m. at durations.now stop.0 m) d durations.now.minutes }
-{
-    copy_minutes(durations.lanes_of(stop), minutes);
-    minutes.sort_unstable();
-}
-
-/// The labels of the minutes that these lanes hold, one by one.
-fn copy_minutes(lanes: &[Lanes], minutes: &mut [u32])
-    requires { length lanes.now ≡ batches_of (length minutes.old) }
-    ensures same { length minutes.new ≡ length minutes.old }
-    ensures labels { (m : ℕ) → m < length minutes.old → slice_index minutes.new m ≡ label_in lanes.now m }
-{
-    for m in 0..minutes.len() {
-        minutes[m] = lanes[m / 16][m % 16];
-    }
-}
-
 /// Puts a stop's cell last in the list of each share.
 fn push_cells(
     lists: &mut [Vec<Option<u32>>],
-    minutes: &[u32],
+    lanes: &[Lanes],
+    minutes: u32,
+    planes: &mut [Plane],
     shares: &[u32],
 ) -> Result<(), AllocError>
     requires count { length lists.old ≡ length shares.now }
     requires shares { All (λ share. share ≤ 100) shares.now }
-    requires few { length minutes.now ≤ MOST_MINUTES }
-    requires order { AreInOrder minutes.now }
-    ensures { OnOk result (AreLonger minutes.now shares.now lists.old lists.new) }
+    requires lanes { HoldMinutes lanes.now minutes }
+    requires rows { length planes.old ≡ 33 }
+    ensures same { length planes.new ≡ 33 }
+    ensures longer { OnOk result (AreLonger lanes.now minutes shares.now lists.old lists.new) }
 {
+    let top = greatest(lanes);
+    let bits = bits_of(top);
+    fill_planes(lanes, bits, planes);
     for k in 0..shares.len() {
-        lists[k].push(at_rank(minutes, shares[k]))?;
+        lists[k].push(at_rank(lanes, minutes, planes, bits, top, shares[k]))?;
     }
     Ok(())
 }
 
-/// The least duration that the share of these minutes attains: that of the minute whose rank is the share's.
-fn at_rank(minutes: &[u32], share: u32) -> Option<u32>
-    requires few { length minutes.now ≤ MOST_MINUTES }
+/// The least duration that the share of so many minutes attains: that of the share's rank, where it isn't past the greatest.
+fn at_rank(
+    lanes: &[Lanes],
+    minutes: u32,
+    planes: &[Plane],
+    bits: u32,
+    top: u32,
+    share: u32,
+) -> Option<u32>
+    requires lanes { HoldMinutes lanes.now minutes }
     requires share { share ≤ 100 }
-    requires order { AreInOrder minutes.now }
-    ensures { IsLeastOrNone (Attains (λ m. known_of (slice_index minutes.now m)) (length minutes.now) share) result }
+    requires rows { length planes.now ≡ 33 }
+    requires planes { ArePlanes lanes.now bits planes.now }
+    requires top { IsTop lanes.now top }
+    requires known { top < NEVER }
+    requires few { bits ≤ 32 }
+    requires bits { top + 1 < 2 ^ bits }
+    ensures { IsLeastOrNone (Attains (λ m. known_of (label_in lanes.now m)) minutes share) result }
 {
-    let rank = (share as usize * minutes.len() + 99) / 100;
+    let rank = (share * minutes + 99) / 100;
     if rank == 0 {
         return Some(0);
     }
-    let label = minutes[rank - 1];
-    if label < NEVER { Some(label) } else { None }
+    let value = value_at(lanes, planes, bits, rank);
+    if value <= top { Some(value) } else { None }
 }

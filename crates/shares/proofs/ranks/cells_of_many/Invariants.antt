@@ -4,6 +4,6 @@ use Rattle.shares.proofs.ranks.cells_of_many.Given as goal
 
 abbrev pub invariant-loop-stop : goal.invariant-loop-stop
 invariant-loop-stop l = record {
-  room : length l.minutes.items ≡ l.durations.minutes;
+  rows : length l.planes.items ≡ 33;
   begun : AreBegun l.durations l.shares l.stop l.lists.items;
 }

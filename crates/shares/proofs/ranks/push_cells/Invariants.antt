@@ -2,4 +2,4 @@ use Rattle.shares.proofs.Ranking.{AreLongerBelow}
 use Rattle.shares.proofs.ranks.push_cells.Given as goal
 
 abbrev pub invariant-loop-k : goal.invariant-loop-k
-invariant-loop-k l = AreLongerBelow l.minutes l.shares l.fn.lists l.k l.lists
+invariant-loop-k l = AreLongerBelow l.lanes l.minutes l.shares l.fn.lists l.k l.lists

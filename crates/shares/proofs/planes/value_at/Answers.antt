@@ -1,0 +1,74 @@
+use Rattle.std.proofs.Common.{◌≡◌, ◌+◌, ◌*◌, ◌-◌, ◌^◌, ◌<◌, ◌&&◌, ℕ, Bool, [], cond, not, eqb, slice_index_or, sym, subst, arith}
+use Rattle.std.proofs.lemmas.Bool.{lt-ltb, le-ltb}
+use Rattle.std.proofs.lemmas.Grind.{pow_more}
+use Rattle.shares.specs.Planes.{AreMasks, has, words_of}
+use Rattle.shares.proofs.Narrowing.{Narrowed, high, ones_few, step_ones, step_zeros, narrowed_first, narrowed_last}
+use Rattle.shares.proofs.planes.value_at.Goals as goal
+use Rattle.shares.proofs.planes.value_at.Goals.{then-zeros-left, else-zeros-left}
+
+pub loop-k-init : goal.loop-k-init
+loop-k-init c =
+    let lanes = c.args.lanes.now in
+    let all = c.requires.planes.all in
+    let e : c.args.bits - 0 ≡ c.args.bits = omega arith in
+    record {
+      long = c.told-planes 32 (omega (arith, c.requires.rows));
+      low = omega arith;
+      narrowed = subst (λ (j : ℕ). Narrowed lanes c.args.bits j 0 c.args.rank c.count_both-size.result c.args.rank (slice_index_or c.args.planes.now 32 [])) (sym e)
+          (narrowed_first lanes c.args.bits c.count_both-size.result c.args.rank (slice_index_or c.args.planes.now 32 []) all (c.count_both-size.ensures lanes (has 0) (has 0) all all) c.requires.some c.requires.rank);
+    }
+
+pub overflow_sub-zeros : goal.overflow_sub-zeros
+overflow_sub-zeros c =
+    let lanes = c.args.lanes.now in
+    let bits = c.args.bits in
+    let l = c.loop-k in
+    let j : ℕ = bits - 1 - l.k in
+    let e : bits - l.k ≡ j + 1 = omega arith in
+    let in_bits : j < bits = omega arith in
+    let old = subst (λ (i : ℕ). Narrowed lanes bits i l.value l.left l.size c.args.rank l.among) e l.invariant.narrowed in
+    ones_few lanes bits j l.value l.left l.size c.args.rank l.among in_bits old c.count_both-ones.result
+    (c.count_both-ones.ensures lanes (λ x. eqb (high bits (j + 1) x) l.value) (has (2 ^ j)) old.masks (c.requires.planes.plane j in_bits))
+
+pub loop-k-preserved : goal.loop-k-preserved
+loop-k-preserved c =
+    let lanes = c.args.lanes.now in
+    let bits = c.args.bits in
+    let l = c.loop-k in
+    let j : ℕ = bits - 1 - l.k in
+    let e : bits - l.k ≡ j + 1 = omega arith in
+    let next : j ≡ bits - (l.k + 1) = omega arith in
+    let in_bits : j < bits = omega arith in
+    let old = subst (λ (i : ℕ). Narrowed lanes bits i l.value l.left l.size c.args.rank l.among) e l.invariant.narrowed in
+    let plane = c.requires.planes.plane j in_bits in
+    let ones = c.count_both-ones.result in
+    let counted = c.count_both-ones.ensures lanes (λ x. eqb (high bits (j + 1) x) l.value) (has (2 ^ j)) old.masks plane in
+    let kept = c.keep.new.among in
+    let masks = c.keep.ensures lanes (λ x. eqb (high bits (j + 1) x) l.value) (has (2 ^ j)) c.told-lanes old.masks plane in
+    let power = pow_more 2 l.k in
+    let family = λ (b : Bool). AreMasks (λ x. eqb (high bits (j + 1) x) l.value && cond b (has (2 ^ j) x) (not (has (2 ^ j) x))) lanes (words_of lanes) kept in
+    elim c.if-zeros-left.branch [
+      | then-zeros-left w ↦
+          let up = w.if-zeros-left.true in
+          let new = step_ones lanes bits j l.value l.left l.size c.args.rank l.among in_bits old ones kept counted up (subst family (lt-ltb (l.size - ones) l.left up) masks) in
+          rw (w.size-is, w.left-is, w.value-is) (record {
+            long = c.keep.array_long;
+            low = omega (arith, power, l.invariant.low);
+            narrowed = subst (λ (i : ℕ). Narrowed lanes bits i (2 * l.value + 1) (l.left - (l.size - ones)) ones c.args.rank kept) next new;
+          })
+      | else-zeros-left w ↦
+          let down = w.if-zeros-left.false in
+          let new = step_zeros lanes bits j l.value l.left l.size c.args.rank l.among in_bits old ones kept counted down (subst family (le-ltb (l.size - ones) l.left down) masks) in
+          rw (w.size-is, w.left-is, w.value-is) (record {
+            long = c.keep.array_long;
+            low = omega (arith, power, l.invariant.low);
+            narrowed = subst (λ (i : ℕ). Narrowed lanes bits i (2 * l.value) l.left (l.size - ones) c.args.rank kept) next new;
+          })
+    ]
+
+pub returns : goal.returns
+returns c =
+    let lanes = c.args.lanes.now in
+    let l = c.loop-k in
+    let e : c.args.bits - l.k ≡ 0 = omega arith in
+    narrowed_last lanes c.args.bits l.value l.left l.size c.args.rank l.among (subst (λ (i : ℕ). Narrowed lanes c.args.bits i l.value l.left l.size c.args.rank l.among) e l.invariant.narrowed)

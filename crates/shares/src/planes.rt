@@ -1,0 +1,151 @@
+//! Planes: the labels of a stop, bit by bit. A plane has one bit for each lane, which says whether the lane's label has the
+//! plane's bit; so a rank is found from the highest bit to the lowest, sixty-four lanes at a time.
+ghost use Rattle.std.specs.Prelude.{◌≡◌, ◌≢◌, ◌&&◌, ◌<◌, ◌≤◌, ◌+◌, ◌*◌, ◌^◌, [], ℕ, Bool, List, cond, not, length, slice_index, slice_index_or};
+ghost use Rattle.shares.specs.Planes.{AreMasks, ArePlanes, IsRanked, block, count_of, has, mask, words_of};
+
+use std::simd::prelude::*;
+use std::simd::u32x16;
+use timetable::NEVER;
+use trip_lanes::Lanes;
+
+/// One bit for each lane of a stop, with room for those of a day.
+pub(crate) type Plane = [u64; 23];
+
+/// The row of the planes that shows all lanes.
+const ALL: usize = 32;
+
+/// How many planes there are: one for each bit of a label, and that of all lanes.
+pub(crate) const PLANES: usize = 33;
+
+/// How many bits hold each number up to one more than the greatest duration.
+pub(crate) fn bits_of(greatest: u32) -> u32
+    requires { greatest < NEVER }
+    ensures few { result ≤ 32 }
+    ensures below { greatest + 1 < 2 ^ result }
+{
+    32 - (greatest + 1).leading_zeros()
+}
+
+/// Fills in the planes of the lowest bits, and that of all lanes.
+pub(crate) fn fill_planes(lanes: &[Lanes], bits: u32, planes: &mut [Plane])
+    requires few { length lanes.now ≤ 90 }
+    requires bits { bits ≤ 32 }
+    requires rows { length planes.old ≡ 33 }
+    ensures same { length planes.new ≡ 33 }
+    ensures planes { ArePlanes lanes.now bits planes.new }
+{
+    for word in 0..(lanes.len() + 3) / 4 {
+        fill_word(lanes, word, bits, planes);
+    }
+}
+
+/// Fills in one word of each plane.
+fn fill_word(lanes: &[Lanes], word: usize, bits: u32, planes: &mut [Plane])
+    requires word { word < 23 }
+    requires bits { bits ≤ 32 }
+    requires rows { length planes.old ≡ 33 }
+    ensures same { length planes.new ≡ 33 }
+    ensures plane { (b : ℕ) → b < bits → slice_index (slice_index_or planes.new b []) word ≡ mask (has (2 ^ b)) (block lanes.now word) }
+    ensures all { slice_index (slice_index_or planes.new 32 []) word ≡ mask (has 0) (block lanes.now word) }
+    ensures kept { (b w : ℕ) → w ≢ word → slice_index (slice_index_or planes.new b []) w ≡ slice_index (slice_index_or planes.old b []) w }
+{
+    let whole = word_of(lanes, word, 0);
+    planes[ALL][word] = whole;
+    for b in 0..bits as usize {
+        let mask = word_of(lanes, word, 1 << b);
+        planes[b][word] = mask;
+    }
+}
+
+/// In which lanes of four batches the label has a bit.
+fn word_of(lanes: &[Lanes], word: usize, bit: u32) -> u64
+    requires { word < 23 }
+    ensures { result ≡ mask (has bit) (block lanes.now word) }
+{
+    let first = mask_at(lanes, 4 * word, bit);
+    let second = mask_at(lanes, 4 * word + 1, bit);
+    let third = mask_at(lanes, 4 * word + 2, bit);
+    let fourth = mask_at(lanes, 4 * word + 3, bit);
+    first + 65_536 * (second + 65_536 * (third + 65_536 * fourth))
+}
+
+/// In which lanes of a batch the label has a bit; in none past the last batch.
+fn mask_at(lanes: &[Lanes], batch: usize, bit: u32) -> u64
+    ensures mask { result ≡ mask (has bit) (slice_index_or lanes.now batch []) }
+    ensures bound { result < 65536 }
+{
+    if batch < lanes.len() {
+        mask_of(lanes[batch], bit)
+    } else {
+        0
+    }
+}
+
+/// In which of sixteen lanes the label has a bit.
+fn mask_of(batch: Lanes, bit: u32) -> u64
+    ensures mask { result ≡ mask (has bit) batch }
+    ensures bound { result < 65536 }
+{
+    (u32x16::from_array(batch) & u32x16::splat(bit))
+        .simd_eq(u32x16::splat(bit))
+        .to_bitmask()
+}
+
+/// The label of a rank, counted from 1, among labels that are cut to so many bits: bit by bit from the highest, those are
+/// left that agree so far.
+pub(crate) fn value_at(lanes: &[Lanes], planes: &[Plane], bits: u32, rank: u32) -> u32
+    requires few { length lanes.now ≤ 90 }
+    requires bits { bits ≤ 32 }
+    requires rows { length planes.now ≡ 33 }
+    requires planes { ArePlanes lanes.now bits planes.now }
+    requires some { 1 ≤ rank }
+    requires rank { rank ≤ count_of (has 0) lanes.now (words_of lanes.now) }
+    ensures { IsRanked lanes.now bits rank result }
+{
+    let words = (lanes.len() + 3) / 4;
+    let mut among = planes[ALL];
+    let mut size = count_both(&among, &planes[ALL], words);
+    let mut left = rank;
+    let mut value = 0;
+    for k in 0..bits {
+        let plane = &planes[(bits - 1 - k) as usize];
+        let ones = count_both(&among, plane, words);
+        let zeros = size - ones;
+        keep(&mut among, plane, words, zeros < left);
+        if zeros < left {
+            size = ones;
+            left -= zeros;
+            value = 2 * value + 1;
+        } else {
+            size = zeros;
+            value = 2 * value;
+        }
+    }
+    value
+}
+
+/// How many lanes two planes both show.
+fn count_both(among: &Plane, plane: &Plane, words: usize) -> u32
+    requires { words ≤ 23 }
+    ensures { (lanes : List (List ℕ)) (Is Has : ℕ → Bool) → AreMasks Is lanes words among.now → AreMasks Has lanes words plane.now →
+        result ≡ count_of (λ x. Is x && Has x) lanes words }
+{
+    let mut count = 0;
+    for word in 0..words {
+        count += (among[word] & plane[word]).count_ones();
+    }
+    count
+}
+
+/// Keeps those lanes that a plane shows, or those that it doesn't show.
+fn keep(among: &mut Plane, plane: &Plane, words: usize, with: bool)
+    requires { words ≤ 23 }
+    ensures { (lanes : List (List ℕ)) (Is Has : ℕ → Bool) → ((i : ℕ) → i < length lanes → length (slice_index_or lanes i []) ≡ 16) →
+        AreMasks Is lanes words among.old → AreMasks Has lanes words plane.now →
+        AreMasks (λ x. Is x && cond with (Has x) (not (Has x))) lanes words among.new }
+{
+    let side = if with { 0 } else { u64::MAX };
+    for word in 0..words {
+        among[word] = among[word] & (plane[word] ^ side);
+    }
+}
