@@ -14,7 +14,7 @@ use Rattle.command_line.specs.declared.option_text.OptionText.{OptionText}
 use Rattle.command_line.specs.declared.task.Opt.{Opt}
 use Rattle.command_line.specs.declared.task.Task.{Task}
 use Rattle.command_line.proofs.Required.{is_fit}
-use Rattle.command_line.specs.Words.{study_app, needed, rule_in, with_rules, IsAsked, NamesFiles, bad_options}
+use Rattle.command_line.specs.Words.{study_app, needed, rule_in, with_rules, is_reported, IsAsked, NamesFiles, bad_options}
 
 pub study_simple : is_simple study_app ≡ true
 unfolding clap_on_literals
@@ -71,6 +71,9 @@ same_settings a b s is h = subst (λ rows. IsAsked rows s) is h
 
 pub same_paths : (a b : List Row) (t : Task) → a ≡ b → NamesFiles a t → NamesFiles b t
 same_paths a b t is h = subst (λ rows. NamesFiles rows t) is h
+
+pub same_report : (a b : List Row) (t : Task) → a ≡ b → t.report ≡ is_reported a → t.report ≡ is_reported b
+same_report a b t is h = h ∙ ap is_reported is
 
 pub same_bad : (a b : List Row) (o : Opt) → a ≡ b → IsFirst o (bad_options a) → IsFirst o (bad_options b)
 same_bad a b o is h = subst (λ rows. IsFirst o (bad_options rows)) is h

@@ -1,14 +1,16 @@
 -- The command line of a study: its options, and what their texts ask for.
--- "Options have one text each. A date is YYYYMMDD, a window two times of the day, the shares and the limits of access are lists
+-- "Options have one text each; the flag of a report has none. A date is YYYYMMDD, a window two times of the day, the shares and the limits of access are lists
 -- of numbers, all else is a number within its limits; spaces around a number or a date don't count. The first option that is bad is told." (The program's own rules; how
 -- words are split into options is the rule of the `clap` crate.)
 use Rattle.std.specs.Prelude.{◌≡◌, ◌&&◌, ◌++◌, ℕ, ℤ, Bool, true, false, nat_le, List, [], ◌∷◌, map, Option, Some, None, option_map, option_and_then, unwrap_or, codes, ⊤, string_bytes, if◌then◌else◌}
 use Rattle.std.specs.List.{list_all}
+use Rattle.std.specs.Option.{option_map_or}
+use Rattle.std.specs.Str.{bytes_eq}
 use Rattle.clap.specs.Words.{App, Rule, Row, Text, new_app, new_rule, with_rule, matches_of, first_of, all_of, kind_of, HasKind, fault_of, takes}
 use Rattle.clap.specs.Lexer.{usize_max}
-use Rattle.clap.specs.declared.builder.action.ArgAction.TheVariants.{Set, Append}
+use Rattle.clap.specs.declared.builder.action.ArgAction.TheVariants.{Set, SetTrue, Append}
 use Rattle.clap.specs.declared.error.kind.ErrorKind.{ErrorKind}
-use Rattle.clap.specs.declared.error.kind.ErrorKind.TheVariants.{DisplayHelp}
+use Rattle.clap.specs.declared.error.kind.ErrorKind.TheVariants.{DisplayHelp, DisplayVersion}
 use Rattle.jiff.specs.Words.{epoch_day}
 use Rattle.table_records.specs.Fields.{trimmed, number_of, day_of}
 use Rattle.table_records.specs.Faults.{IsFirst}
@@ -40,9 +42,17 @@ optional name = option_rule false name
 abbrev pub rule_in : OptionText → Rule
 rule_in option = option_rule option.is_needed option.name.now
 
+-- the flag that asks for a report
+abbrev pub report_rule : Rule
+report_rule = record (new_rule (codes "report")) { long = Some (codes "report"); action = Some SetTrue }
+
 -- the scenario files: the words that belong to no option
 abbrev pub scenario_rule : Rule
 scenario_rule = record (new_rule (codes "scenario")) { action = Some Append; range = Some (record { start_inclusive = 0; end_inclusive = usize_max }); value_names = 1 }
+
+-- a command that has a version to tell
+abbrev pub with_version : App → App
+with_version a = record a { top = record a.top { has_version = true } }
 
 -- a command with more rules, one after another
 abbrev pub with_rules : App → List Rule → App
@@ -58,7 +68,7 @@ option_rules =
     ∷ optional (codes "ahead") ∷ optional (codes "origins") ∷ optional (codes "opportunities") ∷ optional (codes "footpaths") ∷ []
 
 abbrev pub study_app : App
-study_app = with_rule (with_rules (new_app (codes "ttm")) option_rules) scenario_rule
+study_app = with_rule (with_rule (with_rules (with_version (new_app (codes "ttm"))) option_rules) report_rule) scenario_rule
 
 -- what the words give each option, by `clap`
 abbrev pub rows_of_words : List Text → List Row
@@ -73,6 +83,10 @@ text_at rows id = first_of id rows
 -- the texts of all words that belong to no option
 abbrev pub scenarios_at : List Row → List Text
 scenarios_at rows = unwrap_or (all_of (codes "scenario") rows) []
+
+-- whether a report is asked for: `clap` gives the flag the text "true" where the words have it, and else "false"
+abbrev pub is_reported : List Row → Bool
+is_reported rows = option_map_or (λ t. bytes_eq t (codes "true")) (text_at rows (codes "report")) false
 
 -- the day of a text
 abbrev pub day_in : Option Text → Option ℤ
@@ -170,7 +184,7 @@ bad_options rows =
     ++ unless opt.Share (shares_of rows) ++ unless opt.Within (withins_of rows) ++ unless opt.Workers (workers_of rows) ++ unless opt.Tries (tries_of rows)
     ++ unless opt.Back (back_of rows) ++ unless opt.Ahead (ahead_of rows)
 
--- what a fault says of the words: they aren't the command's or ask for its help, or they are and this option is the first bad one
+-- what a fault says of the words: they aren't the command's or ask for its help or version, or they are and this option is the first bad one
 abbrev pub Tells : WordFault → List Text → Type 0
 Tells (fault.Words e) words = (takes study_app words ≡ false) × HasKind (fault_of study_app words) e
 Tells (fault.Bad o) words = (fault_of study_app words ≡ []) × IsFirst o (bad_options (rows_of_words words))
@@ -178,9 +192,10 @@ Tells fault.Memory words = ⊤
 
 -- ---- what the program ends with
 
--- help is no fault
+-- help and the version are no fault
 abbrev pub words_status : ErrorKind → ℕ
 words_status DisplayHelp = DONE
+words_status DisplayVersion = DONE
 words_status _ = REFUSED
 
 abbrev pub word_status_of : WordFault → ℕ

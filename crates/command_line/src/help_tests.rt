@@ -1,4 +1,4 @@
-//! What the help says of each option: the name of its value, its unit and its limits.
+//! What the help says of each option: the name of its value, its unit and its limits; and what is told of the version.
 
 use crate::task::WordFault;
 use crate::words::task_of;
@@ -29,9 +29,16 @@ Options:
       --origins <F>        File of the stops where journeys begin [default: all stops]
       --opportunities <F>  File of the opportunities at stops [default: 1 at each]
       --footpaths <F>      File of further footpaths, in seconds [default: none]
+      --report             Tell on standard error what was read, what seems wrong, and how far the rows are
   -h, --help               Print help
+  -V, --version            Print version
 
 Example: ttm --feed town --date 20260504 --from 08:00 --to 08:59 --trips 3 --walk 600 --share 50 --within 1800 --workers 4 --tries 2 cut.csv
+";
+
+/// The whole text of the version.
+const VERSION_TEXT: &str = "ttm 2.0.0
+proved with rattle-kit-13f logic dac8208d650f15bf
 ";
 
 /// The text that words give in place of a study, if `clap` has one for them.
@@ -51,6 +58,17 @@ fn names_each_option_with_its_limits(rt: HostRuntime) -> Result<(), Fail> {
     match told(rt.alloc(), &["ttm", "--help"])? {
         Some(text) => assert_eq!(rt; text.as_str(), HELP),
         None => panic!(rt; "no help"),
+    }
+    Ok(())
+}
+
+#[test]
+fn tells_the_version_and_the_toolchain(rt: HostRuntime) -> Result<(), Fail> {
+    for word in &["--version", "-V"] {
+        match told(rt.alloc(), &["ttm", *word])? {
+            Some(text) => assert_eq!(rt; text.as_str(), VERSION_TEXT),
+            None => panic!(rt; "no version"),
+        }
     }
     Ok(())
 }

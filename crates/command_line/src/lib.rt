@@ -1,6 +1,6 @@
 //! The command line of a study: what its words ask for, the bytes of a file that they name, and the lines that tell a fault.
 //!
-//! - `options`: the command that the words are taken by.
+//! - `options`: the command that the words are taken by. `version`: what it tells of its version.
 //! - `words`: [`task_of`] reads the words into a [`Task`], or tells why they ask for no study ([`WordFault`]). `window`: [`window_of`],
 //!   the departures that two times name. `numbers`: [`numbers_of`], the numbers that a text lists.
 //! - `paths`: the path of a file of the feed, and the name of a scenario. `files`: [`read_all`], a file read whole.
@@ -26,6 +26,7 @@ mod paths;
 mod statuses;
 mod task;
 mod telling;
+mod version;
 mod window;
 #[cfg(test)]
 mod word_tests;
@@ -38,5 +39,6 @@ pub use paths::{path_in, scenario_of};
 pub use statuses::{DONE, NO_ROOM, NOT_MOVED, REFUSED, UNFINISHED, statuses_are_as_stated};
 pub use task::{Opt, Task, WordFault};
 pub use telling::{tell, tell_made, tell_short};
+pub use version::VERSION;
 pub use window::window_of;
 pub use words::{task_of, word_status};

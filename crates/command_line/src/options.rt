@@ -5,6 +5,7 @@ ghost use Rattle.clap.specs.Words.{app_of, rule_of};
 ghost use Rattle.command_line.specs.Words as spec;
 
 use crate::option_text::OptionText;
+use crate::version::VERSION;
 use clap::{Arg, ArgAction, Command};
 use std::alloc::{AllocError, Global};
 
@@ -113,8 +114,13 @@ const OPTIONS: &[OptionText] = &[
 pub(crate) fn command<'a>(alloc: Global) -> Result<Command<'a>, AllocError>
     ensures { IfOk result (λ c. app_of c ≡ spec.study_app) }
 {
-    let command = Command::new(alloc, "ttm").about(ABOUT).after_help(EXAMPLE);
-    with_options(alloc, command, OPTIONS)?.arg(scenario_files(alloc))
+    let command = Command::new(alloc, "ttm")
+        .version(VERSION)
+        .about(ABOUT)
+        .after_help(EXAMPLE);
+    with_options(alloc, command, OPTIONS)?
+        .arg(report_flag(alloc))?
+        .arg(scenario_files(alloc))
 }
 
 /// The command with more options.
@@ -143,6 +149,17 @@ fn argument<'a>(alloc: Global, option: &OptionText) -> Arg<'a>
         .value_name(option.value)
         .help(option.help)
         .required(option.is_needed)
+}
+
+/// The flag that asks for a report. It has no text.
+fn report_flag<'a>(alloc: Global) -> Arg<'a>
+    ensures rule { rule_of result ≡ spec.report_rule }
+    ensures local { result.global ≡ false }
+{
+    Arg::new(alloc, "report")
+        .long("report")
+        .action(ArgAction::SetTrue)
+        .help("Tell on standard error what was read, what seems wrong, and how far the rows are")
 }
 
 /// The scenario files: the words that belong to no option.

@@ -3,7 +3,7 @@
 ghost use Rattle.std.specs.Prelude.{◌≡◌};
 ghost use Rattle.command_line.specs.declared.statuses.TheConstants as status;
 
-/// The whole matrix is out, or the help that was asked for.
+/// The whole matrix is out, or the help or the version that was asked for.
 pub const DONE: u8 = 0;
 
 /// Refused input, or words that aren't the command's.

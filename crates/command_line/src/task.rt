@@ -18,7 +18,7 @@ pub enum Opt {
     Ahead,
 }
 
-/// A study that the words ask for: its settings, and the paths of its files.
+/// A study that the words ask for: its settings, the paths of its files, and whether it is reported.
 #[derive(Drop)]
 pub struct Task {
     /// The folder of the feed's files.
@@ -29,12 +29,14 @@ pub struct Task {
     pub opportunities: Option<String>,
     /// The scenario files, in their order.
     pub scenarios: Vec<String>,
+    /// Whether the standard error is to tell what was read and how far the rows are. The matrix doesn't depend on it.
+    pub report: bool,
 }
 
 /// Why the words ask for no study.
 #[derive(Drop)]
 pub enum WordFault {
-    /// The words aren't those of the command, or they ask for its help; the error has the text to show.
+    /// The words aren't those of the command, or they ask for its help or its version; the error has the text to show.
     Words(clap::Error),
     /// The words are the command's; this is the first option whose text isn't of its kind or within its limits.
     Bad(Opt),

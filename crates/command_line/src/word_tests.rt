@@ -128,13 +128,45 @@ fn wrong_words_are_no_study(rt: HostRuntime) {
         bad: None,
         status: 2,
     };
-    let help = Refusal {
+    let told = Refusal {
         bad: None,
         status: 0,
     };
     assert!(rt; why_not(rt.alloc(), 0, "ttm", "--nope") == Some(wrong));
     assert!(rt; why_not(rt.alloc(), 3, "cut.csv", "late.csv") == Some(wrong));
-    assert!(rt; why_not(rt.alloc(), 0, "ttm", "--help") == Some(help));
+    assert!(rt; why_not(rt.alloc(), 0, "ttm", "--help") == Some(told));
+    assert!(rt; why_not(rt.alloc(), 0, "ttm", "--version") == Some(told));
+    assert!(rt; why_not(rt.alloc(), 0, "ttm", "-V") == Some(told));
+}
+
+/// The words of the study, and more.
+fn with_more(alloc: Global, more: &[&str]) -> Result<Vec<String>, AllocError> {
+    let mut words = Vec::new(alloc);
+    for word in STUDY.iter().chain(more.iter()) {
+        words.push(String::from_str(alloc, word)?)?;
+    }
+    Ok(words)
+}
+
+/// Whether the words of the study, and more, ask for a report; or the exit status where they ask for no study.
+fn reports(alloc: Global, more: &[&str]) -> Result<bool, u8> {
+    let Ok(words) = with_more(alloc, more) else {
+        return Err(3);
+    };
+    match task_of(alloc, &words) {
+        Ok(task) => Ok(task.report),
+        Err(fault) => Err(word_status(&fault)),
+    }
+}
+
+#[test]
+fn a_report_is_asked_for_by_a_flag_without_text(rt: HostRuntime) {
+    assert!(rt; reports(rt.alloc(), &[]) == Ok(false));
+    assert!(rt; reports(rt.alloc(), &["--report"]) == Ok(true));
+    assert!(rt; reports(rt.alloc(), &["--report", "cut.csv"]) == Ok(true));
+    assert!(rt; reports(rt.alloc(), &["--", "--report"]) == Ok(false));
+    assert!(rt; reports(rt.alloc(), &["--report", "--report"]) == Err(2));
+    assert!(rt; reports(rt.alloc(), &["--report=yes"]) == Err(2));
 }
 
 /// Whether the changed words are refused for this option.

@@ -1,7 +1,7 @@
 //! The words of the command line, and the study that they ask for.
 //!
-//! How words are split into options is `clap`'s rule, of one simple command: each option has one text, and the words
-//! that belong to no option are scenario files. What the texts say is read here.
+//! How words are split into options is `clap`'s rule, of one simple command: each option has one text, but for the flag
+//! of a report, which has none; and the words that belong to no option are scenario files. What the texts say is read here.
 
 ghost use Rattle.std.specs.Prelude.{◌≡◌, ◌≤◌, ◌+◌, ℕ, [], ◌∷◌, All, map, Some, None, is_some, IfOk, IfErr, IfSome, IsTrue, option_map, string_bytes, codes, true, false};
 ghost use Rattle.std.specs.List.{list_all};
@@ -33,6 +33,7 @@ pub fn task_of(alloc: Global, words: &[String]) -> Result<Task, WordFault>
     ensures asked { IfOk result (λ task. spec.IsAsked (spec.rows_of_words (map string_bytes words.now)) task.settings) }
     ensures fits { IfOk result (λ task. SettingsFit task.settings) }
     ensures paths { IfOk result (λ task. spec.NamesFiles (spec.rows_of_words (map string_bytes words.now)) task) }
+    ensures reported { IfOk result (λ task. task.report ≡ spec.is_reported (spec.rows_of_words (map string_bytes words.now))) }
     ensures fault { IfErr result (λ fault. spec.Tells fault (map string_bytes words.now)) }
 {
     let matches = matched(alloc, words)?;
@@ -47,13 +48,13 @@ pub fn task_of(alloc: Global, words: &[String]) -> Result<Task, WordFault>
     }
 }
 
-/// The exit status where the words ask for no study; help is no fault.
+/// The exit status where the words ask for no study; help and the version are no fault.
 pub fn word_status(fault: &WordFault) -> u8
     ensures { result ≡ spec.word_status_of fault.now }
 {
     match fault {
         WordFault::Words(error) => match error.kind() {
-            ErrorKind::DisplayHelp => DONE,
+            ErrorKind::DisplayHelp | ErrorKind::DisplayVersion => DONE,
             _ => REFUSED,
         },
         WordFault::Bad(_) => REFUSED,
@@ -286,6 +287,16 @@ fn scenarios_at(alloc: Global, matches: &ArgMatches<'_>) -> Result<Vec<String>, 
     }
 }
 
+/// Whether a report is asked for.
+fn report_at(matches: &ArgMatches<'_>) -> bool
+    ensures { result ≡ spec.is_reported (rows_of (found_of matches.now)) }
+{
+    match text_at(matches, "report") {
+        Some(text) => text == "true",
+        None => false,
+    }
+}
+
 /// The task of some settings, with copies of the paths.
 fn with_paths(
     alloc: Global,
@@ -295,6 +306,7 @@ fn with_paths(
     requires { is_some (spec.text_at (rows_of (found_of matches.now)) (codes "feed")) ≡ true }
     ensures settings { IfOk result (λ task. task.settings ≡ settings) }
     ensures paths { IfOk result (λ task. spec.NamesFiles (rows_of (found_of matches.now)) task) }
+    ensures reported { IfOk result (λ task. task.report ≡ spec.is_reported (rows_of (found_of matches.now))) }
 {
     let Some(feed) = text_at(matches, "feed") else {
         unreachable!();
@@ -306,5 +318,6 @@ fn with_paths(
         origins: path_at(alloc, matches, "origins")?,
         opportunities: path_at(alloc, matches, "opportunities")?,
         scenarios: scenarios_at(alloc, matches)?,
+        report: report_at(matches),
     })
 }

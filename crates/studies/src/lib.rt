@@ -3,6 +3,7 @@
 //! - `study`: [`run_study`], the text of the matrix that the files ([`Inputs`], [`NamedFile`]) and the [`Settings`] mean, or the
 //!   first [`StudyFault`]. Its parts, each handing what it made to the next: `names`, `tables` (with `parts`), `scenario_files`,
 //!   `networks`, `matrix`.
+//! - `watch`: [`watch_study`] is [`run_study`] with a [`Watch`], who is told what each stage has made.
 //! - `inputs`, `named_file`, `settings`: what a study is made of; `fault`: why there is none.
 //! - `laws`: a study has one text, and no files are both refused and accepted.
 //! - `feed_files`: [`FeedFiles`], the files of a feed as a program holds them.
@@ -27,6 +28,7 @@ mod scenario_files;
 mod settings;
 mod study;
 mod tables;
+mod watch;
 
 pub use fault::StudyFault;
 pub use feed_files::{FeedFiles, bytes_of};
@@ -35,4 +37,5 @@ pub use laws::{refused_have_no_meaning, texts_are_unique};
 pub use minute::minute_line;
 pub use named_file::NamedFile;
 pub use settings::Settings;
-pub use study::run_study;
+pub use study::{run_study, watch_study};
+pub use watch::{Unwatched, Watch};

@@ -6,6 +6,7 @@ ghost use Rattle.studies.specs.Settings.{SettingsFit};
 ghost use Rattle.studies.specs.Stages.{TellsRun};
 
 use crate::settings::Settings;
+use crate::watch::Watch;
 use collector::Matrix;
 use std::alloc::Global;
 use std::sync::Wait;
@@ -14,12 +15,13 @@ use work_book::Board;
 use workers::{Gate, RunFault, Study, run_workers};
 
 /// The matrix of a study, by as many workers as the settings say, who begin each row as often as they say at most.
-pub(crate) fn matrix_of<G: Gate + Sync, R: Threads + Wait + Sync>(
+pub(crate) fn matrix_of<G: Gate + Sync, W: Watch, R: Threads + Wait + Sync>(
     rt: &R,
     alloc: Global,
     study: &Study<'_>,
     settings: &Settings,
     gate: &G,
+    watch: &W,
 ) -> Result<Matrix, RunFault>
     requires study { StudyFits (study_of study.now) }
     requires settings { SettingsFit settings.now }
@@ -31,5 +33,8 @@ pub(crate) fn matrix_of<G: Gate + Sync, R: Threads + Wait + Sync>(
     let Ok((board, mut seat)) = Board::new(alloc, jobs, settings.tries) else {
         return Err(RunFault::Memory);
     };
-    run_workers(rt, alloc, study, &board, &mut seat, settings.workers, gate)
+    watch.rows_begin(study);
+    let matrix = run_workers(rt, alloc, study, &board, &mut seat, settings.workers, gate);
+    watch.rows_end();
+    matrix
 }

@@ -11,6 +11,7 @@ use crate::fault::StudyFault;
 use crate::inputs::Inputs;
 use crate::scenario_files::read_scenarios;
 use crate::settings::Settings;
+use crate::watch::Watch;
 use footpaths::{Direct, close};
 use gtfs_tables::Feed;
 use scenarios::{Scenario, network_of};
@@ -19,12 +20,13 @@ use std::alloc::Global;
 use timetable::{Feet, Network};
 
 /// The networks of all scenarios, once the scenario files are read; else the first fault.
-pub(crate) fn make_networks(
+pub(crate) fn make_networks<W: Watch>(
     alloc: Global,
     inputs: &Inputs<'_>,
     settings: &Settings,
     feed: &Feed,
     direct: &Direct,
+    watch: &W,
 ) -> Result<Vec<Network>, StudyFault>
     requires files { AreWithinLimit (inputs_of inputs.now) }
     requires settings { SettingsFit settings.now }
@@ -38,17 +40,18 @@ pub(crate) fn make_networks(
         Ok(scenarios) => scenarios,
         Err(fault) => return Err(fault),
     };
-    networks_for(alloc, inputs, settings, feed, direct, &scenarios)
+    networks_for(alloc, inputs, settings, feed, direct, &scenarios, watch)
 }
 
 /// The networks of these scenarios: the runs of the study's days are listed, and then the footpaths are closed.
-fn networks_for(
+fn networks_for<W: Watch>(
     alloc: Global,
     inputs: &Inputs<'_>,
     settings: &Settings,
     feed: &Feed,
     direct: &Direct,
     scenarios: &[Scenario],
+    watch: &W,
 ) -> Result<Vec<Network>, StudyFault>
     requires settings { SettingsFit settings.now }
     requires edited { AreEdited (inputs_of inputs.now) }
@@ -66,6 +69,7 @@ fn networks_for(
         Ok(feet) => feet,
         Err(fault) => return Err(StudyFault::Feet(fault)),
     };
+    watch.days_listed(feed, settings, scenarios, &runs, &feet);
     all_networks(alloc, feed, scenarios, &runs, &feet)
 }
 

@@ -18,6 +18,7 @@ use crate::networks::make_networks;
 use crate::parts::Tables;
 use crate::settings::Settings;
 use crate::tables::read_tables;
+use crate::watch::{Unwatched, Watch};
 use collector::Matrix;
 use gtfs_tables::{Feed, read_feed};
 use matrix_text::{Labels, TextFault, write_matrix};
@@ -45,19 +46,42 @@ pub fn run_study<G: Gate + Sync, R: Threads + Wait + Sync>(
     ensures text { IfOk result (λ text. IsStudyText (inputs_of inputs.now) settings.now text.items) }
     ensures fault { IfErr result (λ e. Tells e (inputs_of inputs.now) settings.now) }
 {
-    match check_names(inputs.scenarios) {
-        Ok(()) => text_of_files(rt, alloc, inputs, settings, gate),
-        Err(fault) => Err(fault),
-    }
+    watch_study(rt, alloc, inputs, settings, gate, &Unwatched)
 }
 
-/// The text, once the names are accepted: the feed is read.
-fn text_of_files<G: Gate + Sync, R: Threads + Wait + Sync>(
+/// The text of the matrix of the study that the files mean, or why there is none.
+///
+/// Of what is refused the first is told, in the order of [`StudyFault`]; want of memory may be told in its place. The
+/// condition is that the files and the settings fit ([`Inputs::fits`], [`Settings::fits`]). The rows are computed by as many
+/// worker threads as the settings say, and the gate decides what becomes of each lease. The text is the same for every
+/// number of workers, every gate and every watch, which is told what each stage has made.
+pub fn watch_study<G: Gate + Sync, W: Watch, R: Threads + Wait + Sync>(
     rt: &R,
     alloc: Global,
     inputs: &Inputs<'_>,
     settings: &Settings,
     gate: &G,
+    watch: &W,
+) -> Result<Vec<u8>, StudyFault>
+    requires files { AreWithinLimit (inputs_of inputs.now) }
+    requires settings { SettingsFit settings.now }
+    ensures text { IfOk result (λ text. IsStudyText (inputs_of inputs.now) settings.now text.items) }
+    ensures fault { IfErr result (λ e. Tells e (inputs_of inputs.now) settings.now) }
+{
+    match check_names(inputs.scenarios) {
+        Ok(()) => text_of_files(rt, alloc, inputs, settings, gate, watch),
+        Err(fault) => Err(fault),
+    }
+}
+
+/// The text, once the names are accepted: the feed is read.
+fn text_of_files<G: Gate + Sync, W: Watch, R: Threads + Wait + Sync>(
+    rt: &R,
+    alloc: Global,
+    inputs: &Inputs<'_>,
+    settings: &Settings,
+    gate: &G,
+    watch: &W,
 ) -> Result<Vec<u8>, StudyFault>
     requires files { AreWithinLimit (inputs_of inputs.now) }
     requires settings { SettingsFit settings.now }
@@ -69,19 +93,20 @@ fn text_of_files<G: Gate + Sync, R: Threads + Wait + Sync>(
         Ok(feed) => feed,
         Err(fault) => return Err(StudyFault::Feed(fault)),
     };
-    let text = text_of_feed(rt, alloc, inputs, settings, &feed, gate);
+    let text = text_of_feed(rt, alloc, inputs, settings, &feed, gate, watch);
     drop(feed);
     text
 }
 
 /// The text, once the feed is read: the analyst's own tables are.
-fn text_of_feed<G: Gate + Sync, R: Threads + Wait + Sync>(
+fn text_of_feed<G: Gate + Sync, W: Watch, R: Threads + Wait + Sync>(
     rt: &R,
     alloc: Global,
     inputs: &Inputs<'_>,
     settings: &Settings,
     feed: &Feed,
     gate: &G,
+    watch: &W,
 ) -> Result<Vec<u8>, StudyFault>
     requires files { AreWithinLimit (inputs_of inputs.now) }
     requires settings { SettingsFit settings.now }
@@ -94,11 +119,12 @@ fn text_of_feed<G: Gate + Sync, R: Threads + Wait + Sync>(
         Ok(tables) => tables,
         Err(fault) => return Err(StudyFault::Feed(fault)),
     };
-    text_of_tables(rt, alloc, inputs, settings, feed, &tables, gate)
+    watch.tables_read(feed, &tables.direct, &tables.origins);
+    text_of_tables(rt, alloc, inputs, settings, feed, &tables, gate, watch)
 }
 
 /// The text, once all tables are read: the networks are made.
-fn text_of_tables<G: Gate + Sync, R: Threads + Wait + Sync>(
+fn text_of_tables<G: Gate + Sync, W: Watch, R: Threads + Wait + Sync>(
     rt: &R,
     alloc: Global,
     inputs: &Inputs<'_>,
@@ -106,6 +132,7 @@ fn text_of_tables<G: Gate + Sync, R: Threads + Wait + Sync>(
     feed: &Feed,
     tables: &Tables,
     gate: &G,
+    watch: &W,
 ) -> Result<Vec<u8>, StudyFault>
     requires files { AreWithinLimit (inputs_of inputs.now) }
     requires settings { SettingsFit settings.now }
@@ -115,15 +142,17 @@ fn text_of_tables<G: Gate + Sync, R: Threads + Wait + Sync>(
     ensures text { IfOk result (λ text. IsStudyText (inputs_of inputs.now) settings.now text.items) }
     ensures fault { IfErr result (λ e. Tells e (inputs_of inputs.now) settings.now) }
 {
-    let networks = match make_networks(alloc, inputs, settings, feed, &tables.direct) {
+    let networks = match make_networks(alloc, inputs, settings, feed, &tables.direct, watch) {
         Ok(networks) => networks,
         Err(fault) => return Err(fault),
     };
-    text_of_networks(rt, alloc, inputs, settings, feed, tables, &networks, gate)
+    text_of_networks(
+        rt, alloc, inputs, settings, feed, tables, &networks, gate, watch,
+    )
 }
 
 /// The text, once the networks are made: the matrix is computed.
-fn text_of_networks<G: Gate + Sync, R: Threads + Wait + Sync>(
+fn text_of_networks<G: Gate + Sync, W: Watch, R: Threads + Wait + Sync>(
     rt: &R,
     alloc: Global,
     inputs: &Inputs<'_>,
@@ -132,6 +161,7 @@ fn text_of_networks<G: Gate + Sync, R: Threads + Wait + Sync>(
     tables: &Tables,
     networks: &[Network],
     gate: &G,
+    watch: &W,
 ) -> Result<Vec<u8>, StudyFault>
     requires settings { SettingsFit settings.now }
     requires feed { feed.now ≡ feed_in (inputs_of inputs.now) }
@@ -148,7 +178,7 @@ fn text_of_networks<G: Gate + Sync, R: Threads + Wait + Sync>(
         opportunities: tables.opportunities.as_slice(),
         asked: settings.asked(),
     };
-    let matrix = match matrix_of(rt, alloc, &study, settings, gate) {
+    let matrix = match matrix_of(rt, alloc, &study, settings, gate, watch) {
         Ok(matrix) => matrix,
         Err(fault) => return Err(StudyFault::Run(fault)),
     };

@@ -4,4 +4,4 @@ use Rattle.studies.proofs.StudyFacts.{run_fault}
 use Rattle.studies.proofs.matrix.matrix_of.Goals as goal
 
 pub returns-clause-fault : goal.returns-clause-fault
-returns-clause-fault g c = run_fault c.run_workers.result (study_of c.args.study.now) (seen_by c.run_workers.new.seat) c.run_workers.ensures.fault
+returns-clause-fault g c = run_fault c.run_workers-matrix.result (study_of c.args.study.now) (seen_by c.run_workers-matrix.new.seat) c.run_workers-matrix.ensures.fault

@@ -1,6 +1,6 @@
 use Rattle.studies.specs.Inputs.{inputs_of}
 use Rattle.studies.proofs.StudyFacts.{names_told}
-use Rattle.studies.proofs.study.run_study.Goals as goal
+use Rattle.studies.proofs.study.watch_study.Goals as goal
 
 pub text_of_files-requires-clause-named : goal.text_of_files-requires-clause-named
 text_of_files-requires-clause-named g c = λ _ _. record { few = c.in-Ok.ensures.good.0; names = c.in-Ok.ensures.good.1 }

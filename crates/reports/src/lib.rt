@@ -1,0 +1,35 @@
+//! Reports: what a study is made of and how far it is, told while it runs.
+//!
+//! - `report`: [`Report`] is told by a study what each stage has made (`studies::Watch`) and which rows are kept
+//!   (`workers::Gate`), and tells it in lines. It changes nothing: each lease is worked at.
+//! - `console`: [`Console`], where the lines go, and what the machine says of itself; `memory` reads that ([`Memory`]).
+//! - `lines`: how a line is made; `table_lines`, `day_lines` and `row_lines` make those of each stage.
+//! - `progress`: how many rows are done, and when it is time to tell so; `measures`: shares and times in numbers.
+//! - `explain`: what the line of a fault can't say, by a second look at the file (`records`): the field that a check (`checks`)
+//!   refused, and what is allowed there (`rules`); `advice`: what to do about faults of no field.
+//!
+//! A line tells one fact. Where memory is short for a line it is left out.
+#![tactic(auto)]
+
+mod advice;
+mod checks;
+mod console;
+mod day_lines;
+mod explain;
+#[cfg(test)]
+mod explain_tests;
+mod lines;
+mod measures;
+mod memory;
+mod progress;
+mod records;
+mod report;
+mod row_lines;
+mod rules;
+mod table_lines;
+#[cfg(test)]
+mod tests;
+
+pub use console::Console;
+pub use memory::{Memory, memory_of};
+pub use report::Report;

@@ -1,0 +1,74 @@
+//! Records of a file that are looked at once more.
+
+use csv::ByteRecord;
+use std::alloc::Global;
+use table_records::{Rows, column, field};
+
+/// The header of a file, and one of its records.
+#[derive(Drop)]
+pub(crate) struct Found {
+    pub(crate) header: ByteRecord,
+    pub(crate) row: ByteRecord,
+}
+
+impl Found {
+    /// The field of the record in the column of a name; empty where there is none.
+    pub(crate) fn text(&self, name: &str) -> &[u8] {
+        field(&self.row, column(&self.header, name.as_bytes()))
+    }
+}
+
+/// The header of a file, and the record with a number, which counts the header as 1; none where there is no such record, or
+/// no memory to read it. Of record 1 there is the header alone.
+pub(crate) fn record_at(alloc: Global, bytes: &[u8], at: u64) -> Option<Found> {
+    let mut rows = Rows::new(alloc, bytes);
+    let mut header = ByteRecord::new(alloc);
+    let mut row = ByteRecord::new(alloc);
+    if !is_next(&mut rows, &mut header) {
+        return None;
+    }
+    for _ in 1..at {
+        if !is_next(&mut rows, &mut row) {
+            return None;
+        }
+    }
+    Some(Found { header, row })
+}
+
+/// Puts the next record into `row`, and says whether there was one.
+fn is_next(rows: &mut Rows<'_>, row: &mut ByteRecord) -> bool {
+    matches!(rows.next(row), Ok(true))
+}
+
+/// How many records the bytes of a file have, the header among them, if there is memory to read them.
+pub(crate) fn record_count(alloc: Global, bytes: &[u8]) -> Option<u64> {
+    let mut rows = Rows::new(alloc, bytes);
+    let mut row = ByteRecord::new(alloc);
+    for count in 0..u64::MAX {
+        match rows.next(&mut row) {
+            Ok(true) => {}
+            Ok(false) => return Some(count),
+            Err(_) => return None,
+        }
+    }
+    None
+}
+
+/// Whether a record of a file has this text in the column of a name, if there is memory to read them.
+pub(crate) fn is_named(alloc: Global, bytes: &[u8], name: &str, text: &[u8]) -> Option<bool> {
+    let mut rows = Rows::new(alloc, bytes);
+    let mut row = ByteRecord::new(alloc);
+    if !is_next(&mut rows, &mut row) {
+        return Some(false);
+    }
+    let place = column(&row, name.as_bytes());
+    for _ in 0..u64::MAX {
+        match rows.next(&mut row) {
+            Ok(true) if field(&row, place) == text => return Some(true),
+            Ok(true) => {}
+            Ok(false) => return Some(false),
+            Err(_) => return None,
+        }
+    }
+    None
+}
