@@ -7,6 +7,7 @@ and arrives at C at 08:30, on Mondays.
 """
 
 import os
+import re
 import shutil
 import subprocess
 import sys
@@ -80,6 +81,50 @@ RUNS = [
     ("a folder without permission", ("feed", 0), f"--feed feed {ASKED} 0", "", "ttm: feed/stops.txt: read fault\n", 5),
     ("a folder for a file", None, f"--feed feed {ASKED} 0 --origins feed", "", "ttm: feed: read fault\n", 5),
     ("a file for the folder", None, f"--feed cut.csv {ASKED} 0", "", "ttm: cut.csv/stops.txt: read fault\n", 5),
+]
+
+# the lines of a report in which the clock and the machine speak, and what is compared in their place
+VARYING = [
+    (re.compile(r"^(ttm: bytes that the machine has free: )\d+$", re.MULTILINE), r"\1N"),
+    (re.compile(r"^(ttm: time: )\d+:\d\d:\d\d$", re.MULTILINE), r"\1H:MM:SS"),
+    (re.compile(r"^(ttm: bytes taken at most: )\d+$", re.MULTILINE), r"\1N"),
+]
+TABLES_READ = "ttm: stops: 3\nttm: routes: 2\nttm: trips: 2\nttm: trips set aside: 0\nttm: transfers not used: 0\n"
+NO_WALKS = (
+    "ttm: warning: no walk leads anywhere, so changes are at one stop alone; tools/walks.py makes a file for --footpaths, "
+    "and --walk says how long a walk may be\n"
+)
+
+
+def rows_done(rows, cells, about):
+    """The lines of the rows of a report: how many there are, and that all are done."""
+    return (
+        f"ttm: rows: {rows}\nttm: cells: {cells}\nttm: bytes of the matrix and its text, about: {about}\nttm: bytes that the machine has free: N\n"
+        f"ttm: rows done: {rows} of {rows}\nttm: time: H:MM:SS\nttm: bytes taken at most: N\n"
+    )
+
+
+# what is done to the folder, the words, and what the report tells on the standard error; all else is as without a report
+REPORTS = [
+    (
+        "all own files and two scenarios",
+        None,
+        f"--feed feed {ASKED} 300 {OWN_WORDS} cut.csv late.csv",
+        TABLES_READ + "ttm: direct footpaths: 1\nttm: origins: 2\nttm: closed footpaths: 1\n"
+        "ttm: runs on 2026-05-03: 0\nttm: runs on 2026-05-04: 2\nttm: runs on 2026-05-05: 0\n"
+        "ttm: runs in scenario base: 2\nttm: runs in scenario cut: 1\nttm: runs in scenario late: 2\n" + rows_done(6, 18, 252),
+    ),
+    (
+        "a date on which nothing runs",
+        None,
+        f"--feed feed {ASKED} 0 --origins a.csv".replace("20260504", "20260505"),
+        TABLES_READ + "ttm: direct footpaths: 0\nttm: origins: 1\nttm: closed footpaths: 0\n" + NO_WALKS + "ttm: runs on 2026-05-04: 2\n"
+        "ttm: runs on 2026-05-05: 0\nttm: warning: no trip runs on the date itself; is it a date of the feed's calendar?\n"
+        "ttm: runs on 2026-05-06: 0\nttm: runs in scenario base: 2\n" + rows_done(1, 3, 42),
+    ),
+    ("a feed that isn't there", None, f"--feed nowhere {ASKED} 0", "ttm: stops.txt: missing file\n"),
+    ("a file for the folder", None, f"--feed cut.csv {ASKED} 0", "ttm: cut.csv/stops.txt: read fault\n"),
+    ("a bad setting", None, f"--feed feed {ASKED} 7201", "ttm: bad walk\n"),
 ]
 
 
@@ -178,6 +223,26 @@ def help_text(program):
     return (out.splitlines()[:1], err, status), (["Travel time matrices over a GTFS feed, for a base network and for scenarios."], "", 0)
 
 
+def version_text(program):
+    """The version is the program's, and names the toolchain that proves it."""
+    toolchain = subprocess.run(["rt", "version"], stdout=subprocess.PIPE, text=True, check=True).stdout
+    return in_a_room(None, lambda room: left(start(program, ["--version"], room))), (f"ttm 2.0.0\nproved with {toolchain}", "", 0)
+
+
+def steady(told):
+    """What a report tells, without what varies from run to run."""
+    for varies, stays in VARYING:
+        told = varies.sub(stays, told)
+    return told
+
+
+def reported(program, changes, words):
+    """What a run leaves with a report and what it should leave, but for what is told: all else is as without one."""
+    out, err, status = in_a_room(changes, lambda room: left(start(program, [*words.split(), "--report"], room)))
+    plain = in_a_room(changes, lambda room: left(start(program, words.split(), room)))
+    return (out, steady(err), status), (plain[0], plain[2])
+
+
 def wrong_word(program):
     """Words that aren't the program's are told on the standard error; only the first line is compared here."""
     out, err, status = in_a_room(None, lambda room: left(start(program, ["--nope"], room)))
@@ -195,7 +260,10 @@ def tried(program):
         yield name, in_a_room(changes, lambda room: left(start(program, words.split(), room))), (out, err, status)
     for changes, line in REFUSED:
         yield line, in_a_room(changes, lambda room: left(start(program, f"--feed feed {ASKED} 0".split(), room))), ("", f"ttm: {line}\n", 2)
-    for special in (full_disk, closed_pipe, help_text, wrong_word, no_text):
+    for name, changes, words, told in REPORTS:
+        was, (out, status) = reported(program, changes, words)
+        yield f"a report of {name}", was, (out, told, status)
+    for special in (full_disk, closed_pipe, help_text, version_text, wrong_word, no_text):
         yield special.__doc__.split(":")[0].rstrip("."), *special(program)
 
 

@@ -67,7 +67,7 @@ pub record IsStudied (finds : Finds) (words : List Text) (out printed : Option (
   pub paths : NamesFiles (rows_of_words words) task
   pub made : IsMade finds task out printed
 
--- the words ask for no study, and that is no fault: they ask for help, and the whole of a text is out
+-- the words ask for no study, and that is no fault: they ask for help or the version, and the whole of a text is out
 pub record IsHelped (words : List Text) (out printed : Option (List ℕ)) : Type 0 where
   pub fault : WordFault
   pub told : TellsWords fault words
@@ -75,7 +75,7 @@ pub record IsHelped (words : List Text) (out printed : Option (List ℕ)) : Type
   pub text : List ℕ
   pub whole : Appends out printed text
 
--- the whole matrix that the words ask for is out, or the help that they ask for
+-- the whole matrix that the words ask for is out, or the help or the version that they ask for
 abbrev pub Succeeds : Finds → List Text → Option (List ℕ) → Option (List ℕ) → Type 0
 Succeeds finds words out printed = IsStudied finds words out printed ⊎ IsHelped words out printed
 

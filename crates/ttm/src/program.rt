@@ -1,26 +1,29 @@
 //! The program: words name files, the files and settings are a study, and its matrix goes to the standard output.
 //!
+//! A report, where the words ask for one, goes to a console, which is another way to the standard error: so what is promised of
+//! the two outputs is said of every run, reported or not.
+//!
 //! A fault is told by one line on the standard error, and by the exit status. Nothing but the whole matrix, or the
-//! help that was asked for, is a success.
+//! help or the version that was asked for, is a success.
 
-ghost use Rattle.std.specs.Prelude.{◌≡◌, ◌≤◌, ℕ, List, [], map, string_bytes};
+ghost use Rattle.std.specs.Prelude.{◌≡◌, ℕ, List, [], map, string_bytes};
 ghost use Rattle.std.specs.Io.KnownBytes.{Appends};
 ghost use Rattle.std.specs.Process.{exit_status};
 ghost use Rattle.clap.specs.Words.{Text};
-ghost use Rattle.studies.specs.Inputs.{AreWithinLimit, inputs_of};
 ghost use Rattle.studies.specs.Settings.{SettingsFit};
 ghost use Rattle.ttm.specs.Answers as spec;
 
+use crate::answers::{answer, answer_task};
 use crate::disk::Disk;
 use crate::example::{EXAMPLE_ORIGINS, example_feed, example_settings};
 use crate::reading::read_files;
 use crate::study_files::StudyFiles;
 use clap::Error;
 use command_line::{
-    DONE, NOT_MOVED, REFUSED, Task, WordFault, bad_line, fault_line, status, task_of, tell,
-    tell_made, tell_short, word_status,
+    DONE, NOT_MOVED, REFUSED, Task, WordFault, bad_line, task_of, tell, tell_short, word_status,
 };
 use matrix_text::put_all;
+use reports::Console;
 use std::alloc::Global;
 use std::env;
 use std::io::{ErrorKind, Write};
@@ -28,15 +31,14 @@ use std::process::ExitCode;
 use std::rt::Env;
 use std::sync::Wait;
 use std::thread::Threads;
-use studies::{Inputs, Settings, StudyFault, run_study};
-use workers::Open;
+use studies::Inputs;
 
-/// What the program does: it has its words, its files, its threads and memory of the runtime, and the two outputs.
-pub(crate) fn run<R: Env + Disk + AllocGlobal + Threads + Wait + Sync, O: Write, E: Write>(
-    rt: &R,
-    out: &mut O,
-    err: &mut E,
-) -> ExitCode
+/// What the program does: it has its words, its files, its console, its threads and memory of the runtime, and the two outputs.
+pub(crate) fn run<
+    R: Env + Disk + Console + AllocGlobal + Threads + Wait + Sync,
+    O: Write,
+    E: Write,
+>(rt: &R, out: &mut O, err: &mut E) -> ExitCode
     ensures success { exit_status result ≡ DONE → (words : List Text) × spec.EndsWell (R.finds rt.now) words (O.contents out.old) (O.contents out.new) }
     ensures quiet { exit_status result ≡ DONE → err.new ≡ err.old }
 {
@@ -46,16 +48,17 @@ pub(crate) fn run<R: Env + Disk + AllocGlobal + Threads + Wait + Sync, O: Write,
         Err(_) => return tell(b"ttm: words that are not UTF-8\n", REFUSED, err),
     };
     match words.collect::<Vec<String>>(rt.alloc()) {
-        Ok(words) => run_words(rt, rt.alloc(), rt, &words, out, err),
+        Ok(words) => run_words(rt, rt.alloc(), rt, rt, &words, out, err),
         Err(_) => tell_short(err),
     }
 }
 
 /// What the program does with its words: its name, and those after it.
-pub(crate) fn run_words<T: Threads + Wait + Sync, D: Disk, O: Write, E: Write>(
+pub(crate) fn run_words<T: Threads + Wait + Sync, D: Disk, C: Console + Sync, O: Write, E: Write>(
     rt: &T,
     alloc: Global,
     disk: &D,
+    console: &C,
     words: &[String],
     out: &mut O,
     err: &mut E,
@@ -66,7 +69,7 @@ pub(crate) fn run_words<T: Threads + Wait + Sync, D: Disk, O: Write, E: Write>(
     if words.len() <= 1 {
         example(rt, alloc, out, err)
     } else {
-        asked(rt, alloc, disk, words, out, err)
+        asked(rt, alloc, disk, console, words, out, err)
     }
 }
 
@@ -94,10 +97,11 @@ fn example<T: Threads + Wait + Sync, O: Write, E: Write>(
 }
 
 /// The study that the words ask for.
-fn asked<T: Threads + Wait + Sync, D: Disk, O: Write, E: Write>(
+fn asked<T: Threads + Wait + Sync, D: Disk, C: Console + Sync, O: Write, E: Write>(
     rt: &T,
     alloc: Global,
     disk: &D,
+    console: &C,
     words: &[String],
     out: &mut O,
     err: &mut E,
@@ -107,7 +111,7 @@ fn asked<T: Threads + Wait + Sync, D: Disk, O: Write, E: Write>(
 {
     match task_of(alloc, words) {
         Ok(task) => {
-            let code = study(rt, alloc, disk, &task, out, err);
+            let code = study(rt, alloc, disk, console, &task, out, err);
             // Let go of here and not on the way out, where the prover would follow each of its strings.
             drop(task);
             code
@@ -123,7 +127,7 @@ fn asked<T: Threads + Wait + Sync, D: Disk, O: Write, E: Write>(
     }
 }
 
-/// Puts out what `clap` says to words that ask for no study: its help, or what is wrong with them.
+/// Puts out what `clap` says to words that ask for no study: its help or its version, or what is wrong with them.
 fn tell_words<O: Write, E: Write>(
     alloc: Global,
     error: &Error,
@@ -141,7 +145,7 @@ fn tell_words<O: Write, E: Write>(
     }
 }
 
-/// Puts out the help. Where it can't be written that is no success.
+/// Puts out the help or the version. Where it can't be written that is no success.
 fn put_help<O: Write, E: Write>(text: &[u8], out: &mut O, err: &mut E) -> ExitCode
     ensures help { exit_status result ≡ DONE → Appends (O.contents out.old) (O.contents out.new) text.now }
     ensures quiet { exit_status result ≡ DONE → err.new ≡ err.old }
@@ -154,10 +158,11 @@ fn put_help<O: Write, E: Write>(text: &[u8], out: &mut O, err: &mut E) -> ExitCo
 
 /// The study of a task. It holds the files, and lets go of them at the end: the prover would follow them on each way
 /// out of a function that had more to do.
-fn study<T: Threads + Wait + Sync, D: Disk, O: Write, E: Write>(
+fn study<T: Threads + Wait + Sync, D: Disk, C: Console + Sync, O: Write, E: Write>(
     rt: &T,
     alloc: Global,
     disk: &D,
+    console: &C,
     task: &Task,
     out: &mut O,
     err: &mut E,
@@ -167,16 +172,17 @@ fn study<T: Threads + Wait + Sync, D: Disk, O: Write, E: Write>(
     ensures quiet { exit_status result ≡ DONE → err.new ≡ err.old }
 {
     let mut files = StudyFiles::none(alloc);
-    let code = read_and_answer(rt, alloc, disk, task, &mut files, out, err);
+    let code = read_and_answer(rt, alloc, disk, console, task, &mut files, out, err);
     drop(files);
     code
 }
 
 /// Reads the files of a task, and answers its study.
-fn read_and_answer<T: Threads + Wait + Sync, D: Disk, O: Write, E: Write>(
+fn read_and_answer<T: Threads + Wait + Sync, D: Disk, C: Console + Sync, O: Write, E: Write>(
     rt: &T,
     alloc: Global,
     disk: &D,
+    console: &C,
     task: &Task,
     files: &mut StudyFiles,
     out: &mut O,
@@ -188,44 +194,7 @@ fn read_and_answer<T: Threads + Wait + Sync, D: Disk, O: Write, E: Write>(
     ensures quiet { exit_status result ≡ DONE → err.new ≡ err.old }
 {
     match read_files(alloc, disk, task, files, err) {
-        Ok(()) => answer(rt, alloc, &files.inputs(), &task.settings, out, err),
+        Ok(()) => answer_task(rt, alloc, console, task, &files.inputs(), out, err),
         Err(code) => code,
     }
-}
-
-/// Puts out the matrix of a study, or tells why there is none.
-fn answer<T: Threads + Wait + Sync, O: Write, E: Write>(
-    rt: &T,
-    alloc: Global,
-    inputs: &Inputs<'_>,
-    settings: &Settings,
-    out: &mut O,
-    err: &mut E,
-) -> ExitCode
-    requires files { AreWithinLimit (inputs_of inputs.now) }
-    requires settings { SettingsFit settings.now }
-    ensures answered { spec.IsAnswered inputs.now settings.now (O.contents out.old) (O.contents out.new) (E.contents err.old) (E.contents err.new) (exit_status result) }
-    ensures success { exit_status result ≡ DONE → spec.IsPrinted (inputs_of inputs.now) settings.now (O.contents out.old) (O.contents out.new) }
-    ensures quiet { exit_status result ≡ DONE → err.new ≡ err.old }
-{
-    match run_study(rt, alloc, inputs, settings, &Open) {
-        Ok(text) => match put_all(&text, out) {
-            Ok(()) => ExitCode::from(DONE),
-            Err(fault) => tell_why(alloc, &StudyFault::Text(fault), inputs, err),
-        },
-        Err(fault) => tell_why(alloc, &fault, inputs, err),
-    }
-}
-
-/// Tells why the matrix isn't out.
-fn tell_why<E: Write>(
-    alloc: Global,
-    fault: &StudyFault,
-    inputs: &Inputs<'_>,
-    err: &mut E,
-) -> ExitCode
-    ensures told { spec.IsTold fault.now inputs.now (E.contents err.old) (E.contents err.new) (exit_status result) }
-    ensures no_success { 1 ≤ exit_status result }
-{
-    tell_made(fault_line(alloc, fault, inputs), status(fault), err)
 }

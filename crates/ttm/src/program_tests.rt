@@ -3,10 +3,12 @@
 use crate::disk::Disk;
 use crate::example::example_feed;
 use crate::program::run_words;
+use reports::{Console, Memory};
 use std::alloc::{AllocError, Global};
 use std::process::ExitCode;
 use std::rt::Files;
 use std::sync::Wait;
+use std::sync::atomic::{AtomicU64, Ordering};
 use std::test::Fail;
 use std::thread::Threads;
 use std::{fs, io};
@@ -66,6 +68,47 @@ Usage: ttm --feed <DIR> --date <YYYYMMDD> --from <HH:MM> --to <HH:MM> --trips <K
 For more information, try '--help'.
 ";
 
+/// A console that counts the texts that it is told. It has no terminal and no clock, and knows nothing of memory.
+#[derive(Drop)]
+struct Counter {
+    texts: AtomicU64,
+}
+
+impl Counter {
+    /// It was told nothing.
+    fn new() -> Counter {
+        Counter {
+            texts: AtomicU64::new(0),
+        }
+    }
+
+    /// Whether it was told something.
+    fn is_told(&self) -> bool {
+        self.texts.load(Ordering::SeqCst) > 0
+    }
+}
+
+impl Console for Counter {
+    fn tell(&self, _text: &[u8]) {
+        let _ = self.texts.fetch_add(1, Ordering::SeqCst);
+    }
+
+    fn is_terminal(&self) -> bool {
+        false
+    }
+
+    fn milliseconds(&self) -> Option<u64> {
+        None
+    }
+
+    fn memory(&self, _alloc: Global) -> Memory {
+        Memory {
+            free: None,
+            peak: None,
+        }
+    }
+}
+
 /// Writes a file of the folder, if there is one.
 fn write<R: Files + AllocGlobal>(rt: &R, name: &str, bytes: Option<&[u8]>) -> io::Result<()> {
     let path = format!(in rt.alloc(); "{FOLDER}/{name}")?;
@@ -104,9 +147,10 @@ fn words_of(alloc: Global, line: &str) -> Result<Vec<String>, AllocError> {
     Ok(words)
 }
 
-/// Whether a run with these words prints and tells this, and ends with this status.
+/// Whether a run with these words prints and tells this, and ends with this status, whatever the console is told.
 fn leaves<R: Files + Disk + Threads + Wait + Sync + AllocGlobal>(
     rt: &R,
+    console: &Counter,
     line: &str,
     printed: &[u8],
     fault: &[u8],
@@ -115,8 +159,23 @@ fn leaves<R: Files + Disk + Threads + Wait + Sync + AllocGlobal>(
     let mut out = Vec::new(rt.alloc());
     let mut err = Vec::new(rt.alloc());
     let words = words_of(rt.alloc(), line)?;
-    let code = run_words(rt, rt.alloc(), rt, &words, &mut out, &mut err);
+    let code = run_words(rt, rt.alloc(), rt, console, &words, &mut out, &mut err);
     Ok(code == ExitCode::from(status) && out.as_slice() == printed && err.as_slice() == fault)
+}
+
+/// Whether runs with these words print and tell this, and end with this status, without a report and with one. Without one the
+/// console is told nothing.
+fn both_leave<R: Files + Disk + Threads + Wait + Sync + AllocGlobal>(
+    rt: &R,
+    line: &str,
+    printed: &[u8],
+    fault: &[u8],
+    status: u8,
+) -> io::Result<bool> {
+    let console = Counter::new();
+    let is_plain = leaves(rt, &console, line, printed, fault, status)? && !console.is_told();
+    let reported = format!(in rt.alloc(); "{line} --report")?;
+    Ok(is_plain && leaves(rt, &console, reported.as_str(), printed, fault, status)?)
 }
 
 /// Whether a study of a folder, with further words, prints and tells this, and ends with this status.
@@ -129,7 +188,7 @@ fn study_leaves<R: Files + Disk + Threads + Wait + Sync + AllocGlobal>(
     status: u8,
 ) -> io::Result<bool> {
     let line = format!(in rt.alloc(); "ttm --feed {folder} {ASKED} {rest}")?;
-    leaves(rt, line.as_str(), printed, fault, status)
+    both_leave(rt, line.as_str(), printed, fault, status)
 }
 
 /// Whether each of these runs leaves what it should.
@@ -191,18 +250,25 @@ fn lists_are_right<R: Files + Disk + Threads + Wait + Sync + AllocGlobal>(
         let line = format!(in rt.alloc();
             "ttm --feed {FOLDER} {ASKED_OF_FOUR} --share {shares} --within {withins}"
         )?;
-        if !leaves(rt, line.as_str(), printed, fault, *status)? {
+        if !both_leave(rt, line.as_str(), printed, fault, *status)? {
             return Ok(false);
         }
     }
     Ok(true)
 }
 
+/// Whether the console is told of a study of the folder where a report is asked for.
+fn is_reported<R: Files + Disk + Threads + Wait + Sync + AllocGlobal>(rt: &R) -> io::Result<bool> {
+    let console = Counter::new();
+    let line = format!(in rt.alloc(); "ttm --feed {FOLDER} {ASKED} --report")?;
+    Ok(leaves(rt, &console, line.as_str(), FROM_ALL, b"", 0)? && console.is_told())
+}
+
 /// Whether all runs over the folder leave what they should.
 fn all_are_right<R: Files + Disk + Threads + Wait + Sync + AllocGlobal>(
     rt: &R,
 ) -> io::Result<bool> {
-    Ok(are_right(rt)? && lists_are_right(rt)?)
+    Ok(are_right(rt)? && lists_are_right(rt)? && is_reported(rt)?)
 }
 
 #[test]
@@ -216,30 +282,33 @@ fn a_run_ends_in_a_matrix_or_a_line(rt: HostRuntime) -> Result<(), Fail> {
 
 #[test]
 fn without_words_the_small_feed_is_answered(rt: HostRuntime) -> Result<(), Fail> {
-    assert!(rt; leaves(&rt, "ttm", EXAMPLE, b"", 0)?);
+    assert!(rt; leaves(&rt, &Counter::new(), "ttm", EXAMPLE, b"", 0)?);
     Ok(())
 }
 
 #[test]
 fn a_word_that_is_no_option_is_told(rt: HostRuntime) -> Result<(), Fail> {
-    assert!(rt; leaves(&rt, "ttm --nothing", b"", NO_OPTION, 2)?);
+    assert!(rt; leaves(&rt, &Counter::new(), "ttm --nothing", b"", NO_OPTION, 2)?);
     Ok(())
 }
 
-/// Whether a run that asks for help prints a text that begins so, tells nothing and ends with status 0.
-fn helps<R: Files + Disk + Threads + Wait + Sync + AllocGlobal>(
+/// Whether a run with these words prints a text that begins so, tells nothing and ends with status 0.
+fn prints<R: Files + Disk + Threads + Wait + Sync + AllocGlobal>(
     rt: &R,
+    line: &str,
     beginning: &[u8],
 ) -> io::Result<bool> {
     let mut out = Vec::new(rt.alloc());
     let mut err = Vec::new(rt.alloc());
-    let words = words_of(rt.alloc(), "ttm --help")?;
-    let code = run_words(rt, rt.alloc(), rt, &words, &mut out, &mut err);
+    let words = words_of(rt.alloc(), line)?;
+    let console = Counter::new();
+    let code = run_words(rt, rt.alloc(), rt, &console, &words, &mut out, &mut err);
     Ok(code == ExitCode::SUCCESS && out.starts_with(beginning) && err.is_empty())
 }
 
 #[test]
-fn help_goes_to_the_output(rt: HostRuntime) -> Result<(), Fail> {
-    assert!(rt; helps(&rt, b"Travel time matrices over a GTFS feed")?);
+fn help_and_the_version_go_to_the_output(rt: HostRuntime) -> Result<(), Fail> {
+    assert!(rt; prints(&rt, "ttm --help", b"Travel time matrices over a GTFS feed")?);
+    assert!(rt; prints(&rt, "ttm --version", b"ttm 2.0.0\nproved with ")?);
     Ok(())
 }

@@ -8,5 +8,5 @@ returns-in-Ok-clause-success g c = λ z.
     record {
       files = inputs_of c.inputs.result;
       named = subst (λ i. AreNamed (g.D.Disk.finds c.args.disk.now) c.args.task.now i) (sym c.inputs.ensures) c.in-Ok.ensures.files;
-      whole = c.answer.ensures.success z;
+      whole = c.answer_task.ensures.success z;
     }

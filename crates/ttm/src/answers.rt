@@ -1,0 +1,133 @@
+//! What is put out and told of a study: its whole matrix, or why there is none; and beside it the report, where one is asked for.
+//!
+//! A report is told on a console, and is neither of the two outputs. What is put out, what is told and the exit status are
+//! promised in the same words with a report and without.
+
+ghost use Rattle.std.specs.Prelude.{◌≡◌, ◌≤◌, IfErr, OnOk};
+ghost use Rattle.std.specs.Process.{exit_status};
+ghost use Rattle.studies.specs.Inputs.{AreWithinLimit, inputs_of};
+ghost use Rattle.studies.specs.Settings.{SettingsFit};
+ghost use Rattle.ttm.specs.Answers as spec;
+
+use command_line::{DONE, Task, fault_line, status, tell_made};
+use matrix_text::put_all;
+use reports::{Console, Report};
+use std::alloc::Global;
+use std::io::Write;
+use std::process::ExitCode;
+use std::sync::Wait;
+use std::thread::Threads;
+use studies::{Inputs, Settings, StudyFault, Unwatched, Watch, watch_study};
+use workers::{Gate, Open};
+
+/// Puts out the matrix of a task whose files are read, or tells why there is none; and reports it, if the task says so. The matrix is
+/// the same with a report and without, and no promise of it or of the status asks whether there is one.
+pub(crate) fn answer_task<'a, T: Threads + Wait + Sync, C: Console + Sync, O: Write, E: Write>(
+    rt: &T,
+    alloc: Global,
+    console: &'a C,
+    task: &Task,
+    inputs: &Inputs<'a>,
+    out: &mut O,
+    err: &mut E,
+) -> ExitCode
+    requires files { AreWithinLimit (inputs_of inputs.now) }
+    requires settings { SettingsFit task.now.settings }
+    ensures answered { spec.IsAnswered inputs.now task.now.settings (O.contents out.old) (O.contents out.new) (E.contents err.old) (E.contents err.new) (exit_status result) }
+    ensures success { exit_status result ≡ DONE → spec.IsPrinted (inputs_of inputs.now) task.now.settings (O.contents out.old) (O.contents out.new) }
+    ensures quiet { exit_status result ≡ DONE → err.new ≡ err.old }
+{
+    if task.report {
+        answer_and_report(rt, alloc, console, inputs, &task.settings, out, err)
+    } else {
+        answer(rt, alloc, inputs, &task.settings, out, err)
+    }
+}
+
+/// Puts out the matrix of a study, or tells why there is none.
+pub(crate) fn answer<T: Threads + Wait + Sync, O: Write, E: Write>(
+    rt: &T,
+    alloc: Global,
+    inputs: &Inputs<'_>,
+    settings: &Settings,
+    out: &mut O,
+    err: &mut E,
+) -> ExitCode
+    requires files { AreWithinLimit (inputs_of inputs.now) }
+    requires settings { SettingsFit settings.now }
+    ensures answered { spec.IsAnswered inputs.now settings.now (O.contents out.old) (O.contents out.new) (E.contents err.old) (E.contents err.new) (exit_status result) }
+    ensures success { exit_status result ≡ DONE → spec.IsPrinted (inputs_of inputs.now) settings.now (O.contents out.old) (O.contents out.new) }
+    ensures quiet { exit_status result ≡ DONE → err.new ≡ err.old }
+{
+    match put_matrix(rt, alloc, inputs, settings, &Open, &Unwatched, out) {
+        Ok(()) => ExitCode::from(DONE),
+        Err(fault) => tell_why(alloc, &fault, inputs, err),
+    }
+}
+
+/// The same, with a report. Its last lines come after the matrix is out or the line of a fault is told.
+fn answer_and_report<'a, T: Threads + Wait + Sync, C: Console + Sync, O: Write, E: Write>(
+    rt: &T,
+    alloc: Global,
+    console: &'a C,
+    inputs: &Inputs<'a>,
+    settings: &Settings,
+    out: &mut O,
+    err: &mut E,
+) -> ExitCode
+    requires files { AreWithinLimit (inputs_of inputs.now) }
+    requires settings { SettingsFit settings.now }
+    ensures answered { spec.IsAnswered inputs.now settings.now (O.contents out.old) (O.contents out.new) (E.contents err.old) (E.contents err.new) (exit_status result) }
+    ensures success { exit_status result ≡ DONE → spec.IsPrinted (inputs_of inputs.now) settings.now (O.contents out.old) (O.contents out.new) }
+    ensures quiet { exit_status result ≡ DONE → err.new ≡ err.old }
+{
+    let report = Report::new(alloc, console, inputs);
+    match put_matrix(rt, alloc, inputs, settings, &report, &report, out) {
+        Ok(()) => {
+            report.ended();
+            ExitCode::from(DONE)
+        }
+        Err(fault) => {
+            let code = tell_why(alloc, &fault, inputs, err);
+            report.refused(&fault, inputs);
+            code
+        }
+    }
+}
+
+/// Puts out the matrix of a study. At an error it isn't out whole.
+fn put_matrix<T: Threads + Wait + Sync, G: Gate + Sync, W: Watch, O: Write>(
+    rt: &T,
+    alloc: Global,
+    inputs: &Inputs<'_>,
+    settings: &Settings,
+    gate: &G,
+    watch: &W,
+    out: &mut O,
+) -> Result<(), StudyFault>
+    requires files { AreWithinLimit (inputs_of inputs.now) }
+    requires settings { SettingsFit settings.now }
+    ensures printed { OnOk result (spec.IsPrinted (inputs_of inputs.now) settings.now (O.contents out.old) (O.contents out.new)) }
+    ensures why { IfErr result (λ fault. spec.IsWhy fault (inputs_of inputs.now) settings.now (O.contents out.old) (O.contents out.new)) }
+{
+    match watch_study(rt, alloc, inputs, settings, gate, watch) {
+        Ok(text) => match put_all(&text, out) {
+            Ok(()) => Ok(()),
+            Err(fault) => Err(StudyFault::Text(fault)),
+        },
+        Err(fault) => Err(fault),
+    }
+}
+
+/// Tells why the matrix isn't out.
+fn tell_why<E: Write>(
+    alloc: Global,
+    fault: &StudyFault,
+    inputs: &Inputs<'_>,
+    err: &mut E,
+) -> ExitCode
+    ensures told { spec.IsTold fault.now inputs.now (E.contents err.old) (E.contents err.new) (exit_status result) }
+    ensures no_success { 1 ≤ exit_status result }
+{
+    tell_made(fault_line(alloc, fault, inputs), status(fault), err)
+}
