@@ -111,7 +111,7 @@ fn call(stop: u32) -> Call
 }
 
 /// A trip that arrives and departs in the same second.
-fn at(time: u32) -> Times {
+fn stops_at(time: u32) -> Times {
     Times {
         arrive: time,
         depart: time,
@@ -122,15 +122,15 @@ fn at(time: u32) -> Times {
 fn each_lane_takes_the_first_trip_of_a_line(rt: HostRuntime) -> Result<(), Fail> {
     let calls = [call(0), call(1), call(2)];
     let times = [
-        at(100),
-        at(110),
-        at(120),
-        at(200),
-        at(210),
-        at(220),
-        at(300),
-        at(310),
-        at(320),
+        stops_at(100),
+        stops_at(110),
+        stops_at(120),
+        stops_at(200),
+        stops_at(210),
+        stops_at(220),
+        stops_at(300),
+        stops_at(310),
+        stops_at(320),
     ];
     let line = LineView {
         calls: &calls,
