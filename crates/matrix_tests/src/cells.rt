@@ -117,53 +117,6 @@ fn cells_of_two_shares_at_once(rt: HostRuntime) {
     assert!(rt; has_cells_of(rt.alloc(), four, [50, 75], expected));
 }
 
-/// Whether these are the cells of a share.
-fn list_is(alloc: Global, found: &Durations, share: u32, list: &[Option<u32>]) -> bool {
-    if share > 100 {
-        return false;
-    }
-    match cells(alloc, found, share) {
-        Ok(alone) => alone.as_slice() == list,
-        Err(_) => false,
-    }
-}
-
-/// Whether three shares at once have the cells that each has alone.
-fn shares_agree(alloc: Global, found: &Durations, shares: [u32; 3]) -> bool {
-    if shares[0] > 100 || shares[1] > 100 || shares[2] > 100 {
-        return false;
-    }
-    match cells_of(alloc, found, &shares) {
-        Ok(lists) => {
-            lists.len() == 3
-                && list_is(alloc, found, shares[0], lists[0].as_slice())
-                && list_is(alloc, found, shares[1], lists[1].as_slice())
-                && list_is(alloc, found, shares[2], lists[2].as_slice())
-        }
-        Err(_) => false,
-    }
-}
-
-/// Whether that is so in a window of the two trips.
-fn shares_agree_in(alloc: Global, window: Window) -> bool {
-    let Ok(network) = two_trips(alloc, 29_700, true) else {
-        return false;
-    };
-    match of_window(alloc, &network, 0, window, 2) {
-        Ok(Some(found)) => shares_agree(alloc, &found, [75, 25, 50]),
-        _ => false,
-    }
-}
-
-#[test]
-fn cells_of_shares_at_once_as_of_each_alone(rt: HostRuntime) {
-    for minutes in [1u32, 15, 16, 17, 32, 64, 65, 1_440] {
-        let first = 29_700u32.saturating_sub(minutes.saturating_mul(30));
-        let window = Window { first, minutes };
-        assert!(rt; shares_agree_in(rt.alloc(), window), "{minutes} minutes");
-    }
-}
-
 /// The access, where there are as many opportunities as cells.
 fn sum_within(cells: &[Option<u32>], opportunities: &[u32], within: u32) -> Option<u64> {
     if cells.len() == opportunities.len() && cells.len() <= MOST_STOPS {
