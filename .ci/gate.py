@@ -119,15 +119,15 @@ def sum_of(root, crates, name, toolchain):
 
 
 def read_refused(file):
-    """What was refused: a crate's name, the sum, the toolchain."""
+    """The sum with which a crate's edits were refused, by the crate's name and the toolchain."""
     if not file.is_file():
         return {}
     rows = [line.split(" ", 2) for line in file.read_text().splitlines() if line and not line.startswith("#")]
-    return {row[0]: (row[1], row[2]) for row in rows if len(row) == 3}
+    return {(row[0], row[2]): row[1] for row in rows if len(row) == 3}
 
 
 def write_refused(file, refused):
-    file.write_text(HEAD + "".join(f"{name} {made} {toolchain}\n" for name, (made, toolchain) in sorted(refused.items())))
+    file.write_text(HEAD + "".join(f"{name} {made} {toolchain}\n" for (name, toolchain), made in sorted(refused.items())))
 
 
 def choose(sums, refused, toolchain, commit, all_of_them):
@@ -136,9 +136,9 @@ def choose(sums, refused, toolchain, commit, all_of_them):
     for name, made in sums.items():
         if all_of_them:
             chosen[name] = "all are"
-        elif name not in refused:
-            chosen[name] = "never refused so far"
-        elif refused[name] != (made, toolchain):
+        elif (name, toolchain) not in refused:
+            chosen[name] = "never refused so far by this toolchain"
+        elif refused[name, toolchain] != made:
             chosen[name] = "what they rest on changed"
     rest = sorted(set(sums) - set(chosen))
     for name in random.Random(commit).sample(rest, min(2, len(rest))):
@@ -196,11 +196,11 @@ def refusals(lines, root, chosen):
 
 
 def note(root, lines, chosen, sums, toolchain):
-    """Writes down the crates of which every edit was refused."""
+    """Writes down the crates of which every edit was refused. What other toolchains refused stays."""
     file = root / ".ci/refused.txt"
-    refused = {name: it for name, it in read_refused(file).items() if name in sums}
+    refused = {it: made for it, made in read_refused(file).items() if it[0] in sums}
     for name in refusals(lines, root, chosen):
-        refused[name] = (sums[name], toolchain)
+        refused[name, toolchain] = sums[name]
     write_refused(file, refused)
 
 

@@ -134,6 +134,13 @@ class Choice(unittest.TestCase):
         (self.bin / "rt").write_text(STAND_IN.replace("kit of a test", "another kit"))
         self.assertEqual(self.tried()[0], ["lower", "one", "two", "upper"])
 
+    def test_what_another_toolchain_refused_stays_written_down(self):
+        self.tried()
+        (self.bin / "rt").write_text(STAND_IN.replace("kit of a test", "another kit"))
+        self.tried()
+        (self.bin / "rt").write_text(STAND_IN)
+        self.assertEqual(self.tried()[0], [])
+
     def test_a_crate_with_an_edit_that_was_not_refused_is_not_written_down(self):
         (self.bin / "rt").write_text(STAND_IN.replace("[ -f", '[ "${edit#crates/one}" = "$edit" ] && [ -f'))
         self.tried()

@@ -223,10 +223,16 @@ def help_text(program):
     return (out.splitlines()[:1], err, status), (["Travel time matrices over a GTFS feed, for a base network and for scenarios."], "", 0)
 
 
+README = Path(__file__).resolve().parent.parent / "README.md"
+TOOLCHAIN = re.compile(r"    (rattle-kit-\S+ logic (\S+))\n")
+
+
 def version_text(program):
-    """The version is the program's, and names the toolchain that proves it."""
-    toolchain = subprocess.run(["rt", "version"], stdout=subprocess.PIPE, text=True, check=True).stdout
-    return in_a_room(None, lambda room: left(start(program, ["--version"], room))), (f"ttm 2.0.0\nproved with {toolchain}", "", 0)
+    """The version is the program's, and names the toolchain that README does, of the logic of the one at hand."""
+    named, logic = TOOLCHAIN.search(README.read_text()).groups()
+    at_hand = subprocess.run(["rt", "version"], stdout=subprocess.PIPE, text=True, check=True).stdout.split()[-1]
+    told = in_a_room(None, lambda room: left(start(program, ["--version"], room)))
+    return (*told, at_hand), (f"ttm 2.0.0\nproved with {named}\n", "", 0, logic)
 
 
 def steady(told):

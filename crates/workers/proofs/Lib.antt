@@ -9,3 +9,4 @@ pub mod Holds
 pub mod Joined
 pub mod Fills
 pub mod Ended
+pub mod Wholes

@@ -45,19 +45,26 @@ inner : {A : Type 0} (x y : A) → Some x ≡ Some y → x ≡ y
 inner x y e = cc
 
 -- of equal networks, equal stops and the same question too
-pub same_row : RowsDependOnTheirNetwork
-same_row s t scenario of_other origin row other same networks h g =
+pub same_given : (s t : StudyData) (scenario of_other origin from_other : ℕ) (row other : RowData) → s.opportunities ≡ t.opportunities → s.query ≡ t.query
+    → slice_get s.networks scenario ≡ slice_get t.networks of_other → slice_get s.origins origin ≡ slice_get t.origins from_other
+    → IsRowOf s scenario origin row → IsRowOf t of_other from_other other → row.shares ≡ other.shares
+same_given s t scenario of_other origin from_other row other opportunities query networks origins h g =
     let network : h.network ≡ g.network = inner h.network g.network (sym h.network_is ∙ networks ∙ g.network_is) in
-    let stop : h.stop ≡ g.stop = inner h.stop g.stop (sym h.stop_is ∙ ap (λ (o : List StopNo). slice_get o origin) same.origins ∙ g.stop_is) in
+    let stop : h.stop ≡ g.stop = inner h.stop g.stop (sym h.stop_is ∙ origins ∙ g.stop_is) in
     let of_network : IsRow g.network h.stop.0 s.opportunities s.query row.shares =
     subst (λ (n : Net). IsRow n h.stop.0 s.opportunities s.query row.shares) network h.is_row in
     let of_stop : IsRow g.network g.stop.0 s.opportunities s.query row.shares =
     subst (λ (p : StopNo). IsRow g.network p.0 s.opportunities s.query row.shares) stop of_network in
     let of_opportunities : IsRow g.network g.stop.0 t.opportunities s.query row.shares =
-    subst (λ (o : List ℕ). IsRow g.network g.stop.0 o s.query row.shares) same.opportunities of_stop in
+    subst (λ (o : List ℕ). IsRow g.network g.stop.0 o s.query row.shares) opportunities of_stop in
     let of_query : IsRow g.network g.stop.0 t.opportunities t.query row.shares =
-    subst (λ (q : Query). IsRow g.network g.stop.0 t.opportunities q row.shares) same.query of_opportunities in
+    subst (λ (q : Query). IsRow g.network g.stop.0 t.opportunities q row.shares) query of_opportunities in
     row_unique g.network g.stop.0 t.opportunities t.query row.shares other.shares of_query g.is_row
+
+pub same_row : RowsDependOnTheirNetwork
+same_row s t scenario of_other origin row other same networks h g =
+    same_given s t scenario of_other origin origin row other same.opportunities same.query networks
+    (ap (λ (o : List StopNo). slice_get o origin) same.origins) h g
 
 -- a place of a study has one row
 place_unique : (s : StudyData) (scenario origin : ℕ) (row other : RowData) → IsRowOf s scenario origin row → IsRowOf s scenario origin other → row ≡ other

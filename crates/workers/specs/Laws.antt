@@ -1,5 +1,6 @@
 -- What follows for rows and matrices.
-use Rattle.std.specs.Prelude.{◌≡◌, ℕ, List, slice_get}
+use Rattle.std.specs.Prelude.{◌≡◌, ◌*◌, ◌<◌, ℕ, List, length, map, take, drop, slice_get}
+use Rattle.std.specs.List.{All, AllZip, flat_map}
 use Rattle.timetable.specs.Networks.{Net}
 use Rattle.collector.specs.Row.{CellsData, RowData}
 use Rattle.collector.specs.Places.{MatrixData}
@@ -29,3 +30,25 @@ RowsDependOnTheirNetwork =
 -- a law: a study has one matrix
 abbrev pub MatricesAreUnique : Type 0
 MatricesAreUnique = (s : StudyData) (some other : MatrixData) → IsMatrix s some → IsMatrix s other → some ≡ other
+
+-- a part of a study asks the same of the same networks; the study's number and its origins are its own
+pub record IsPartOf (whole part : StudyData) : Type 0 where
+  pub networks : part.networks ≡ whole.networks
+  pub opportunities : part.opportunities ≡ whole.opportunities
+  pub query : part.query ≡ whole.query
+
+-- the parts of a study have its origins, one part after the other
+pub record AreParts (whole : StudyData) (parts : List StudyData) : Type 0 where
+  pub parts_are : All (λ part. IsPartOf whole part) parts
+  pub origins : whole.origins ≡ flat_map (λ part. part.origins) parts
+
+-- the cells and access of a scenario's rows, origin after origin
+abbrev pub given_in : ℕ → MatrixData → List (List CellsData)
+given_in scenario m = map (λ row. row.shares) (take m.origins (drop (scenario * m.origins) m.rows))
+
+-- a law: in each scenario, the rows of the whole are those of its parts, one part after the other
+abbrev pub WholesHaveTheRowsOfTheirParts : Type 0
+WholesHaveTheRowsOfTheirParts =
+    (whole : StudyData) (parts : List StudyData) (m : MatrixData) (matrices : List MatrixData) (scenario : ℕ) →
+    AreParts whole parts → IsMatrix whole m → AllZip IsMatrix parts matrices → scenario < length whole.networks →
+    given_in scenario m ≡ flat_map (λ matrix. given_in scenario matrix) matrices

@@ -3,7 +3,9 @@ ghost use Rattle.std.specs.Prelude.{◌≡◌, ◌<◌, [], IfOk};
 ghost use Rattle.work_book.specs.Board.{seen_by, IsOf};
 ghost use Rattle.workers.specs.Study.{study_of, StudyFits};
 ghost use Rattle.workers.specs.Jobs.{jobs_of};
-ghost use Rattle.workers.specs.Laws.{RowsAreUnique, RowsDependOnTheirNetwork, MatricesAreUnique};
+ghost use Rattle.workers.specs.Laws.{
+    RowsAreUnique, RowsDependOnTheirNetwork, MatricesAreUnique, WholesHaveTheRowsOfTheirParts
+};
 
 use crate::faults::RunFault;
 use crate::gates::Gate;
@@ -27,6 +29,14 @@ pub fn rows_are_unique()
 /// reach, have the same cells and access sums in that scenario's rows, whatever their other scenarios are.
 pub fn rows_depend_on_their_network()
     ensures { RowsDependOnTheirNetwork }
+{}
+
+/// A law: the rows of a study are those of its parts, each a study of some of the origins.
+///
+/// Where the parts ask the same of the same networks and have the study's origins, one part after the other, then in each
+/// scenario their rows, one part after the other, have the cells and access sums of the study's rows.
+pub fn wholes_have_the_rows_of_their_parts()
+    ensures { WholesHaveTheRowsOfTheirParts }
 {}
 
 /// A law: a study has one matrix, whatever computes it.
