@@ -91,8 +91,10 @@ fn mask_of(batch: Lanes, bit: u32) -> u64
         .to_bitmask()
 }
 
-/// The label of a rank, counted from 1, among labels that are cut to so many bits: bit by bit from the highest, those are
-/// left that agree so far.
+/// The label of a rank, counted from 1, among labels that are cut to so many bits.
+///
+/// Windows of one or two hours have one or two words, and where that is known there is no loop over them: they go through each
+/// bit in a third of the steps.
 pub(crate) fn value_at(lanes: &[Lanes], planes: &[Plane], bits: u32, rank: u32) -> u32
     requires few { length lanes.now ≤ 90 }
     requires bits { bits ≤ 32 }
@@ -102,7 +104,26 @@ pub(crate) fn value_at(lanes: &[Lanes], planes: &[Plane], bits: u32, rank: u32) 
     requires rank { rank ≤ count_of (has 0) lanes.now (words_of lanes.now) }
     ensures { IsRanked lanes.now bits rank result }
 {
-    let words = (lanes.len() + 3) / 4;
+    match (lanes.len() + 3) / 4 {
+        1 => descend(lanes, planes, bits, rank, 1),
+        2 => descend(lanes, planes, bits, rank, 2),
+        words => descend(lanes, planes, bits, rank, words),
+    }
+}
+
+/// The label of a rank, bit by bit from the highest: those are left that agree so far.
+#[inline(always)]
+fn descend(lanes: &[Lanes], planes: &[Plane], bits: u32, rank: u32, words: usize) -> u32
+    requires few { length lanes.now ≤ 90 }
+    requires bits { bits ≤ 32 }
+    requires rows { length planes.now ≡ 33 }
+    requires planes { ArePlanes lanes.now bits planes.now }
+    requires some { 1 ≤ rank }
+    requires rank { rank ≤ count_of (has 0) lanes.now (words_of lanes.now) }
+    requires words { words ≡ words_of lanes.now }
+    ensures { IsRanked lanes.now bits rank result }
+{
+    let _ = lanes;
     let mut among = planes[ALL];
     let mut size = count_both(&among, &planes[ALL], words);
     let mut left = rank;
@@ -125,6 +146,7 @@ pub(crate) fn value_at(lanes: &[Lanes], planes: &[Plane], bits: u32, rank: u32) 
 }
 
 /// How many lanes two planes both show.
+#[inline(always)]
 fn count_both(among: &Plane, plane: &Plane, words: usize) -> u32
     requires { words ≤ 23 }
     ensures { (lanes : List (List ℕ)) (Is Has : ℕ → Bool) → AreMasks Is lanes words among.now → AreMasks Has lanes words plane.now →
@@ -138,6 +160,7 @@ fn count_both(among: &Plane, plane: &Plane, words: usize) -> u32
 }
 
 /// Keeps those lanes that a plane shows, or those that it doesn't show.
+#[inline(always)]
 fn keep(among: &mut Plane, plane: &Plane, words: usize, with: bool)
     requires { words ≤ 23 }
     ensures { (lanes : List (List ℕ)) (Is Has : ℕ → Bool) → ((i : ℕ) → i < length lanes → length (slice_index_or lanes i []) ≡ 16) →

@@ -4,7 +4,10 @@ ghost use Rattle.work_book.specs.Board.{seen_by, IsOf};
 ghost use Rattle.workers.specs.Study.{study_of, StudyFits};
 ghost use Rattle.workers.specs.Jobs.{jobs_of};
 ghost use Rattle.workers.specs.Laws.{
-    RowsAreUnique, RowsDependOnTheirNetwork, MatricesAreUnique, WholesHaveTheRowsOfTheirParts
+  RowsAreUnique,
+  RowsDependOnTheirNetwork,
+  MatricesAreUnique,
+  WholesHaveTheRowsOfTheirParts,
 };
 
 use crate::faults::RunFault;

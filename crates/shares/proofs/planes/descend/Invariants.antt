@@ -1,6 +1,6 @@
 use Rattle.std.proofs.Common.{◌≡◌, ◌<◌, ◌-◌, ◌^◌, length}
 use Rattle.shares.proofs.Narrowing.{Narrowed}
-use Rattle.shares.proofs.planes.value_at.Given as goal
+use Rattle.shares.proofs.planes.descend.Given as goal
 
 abbrev pub invariant-loop-k : goal.invariant-loop-k
 invariant-loop-k l = record {
