@@ -19,6 +19,8 @@ import sys
 import tempfile
 from pathlib import Path
 
+import edits
+
 HEAD = "# Crates whose must-fail edits the prover refused: name, sum of what that rests on, toolchain. Written by .ci/run.\n"
 PARTS = ("src", "specs", "proofs", "must-fail")
 MEMORY_OF_A_CHECK = 4_000_000  # kilobytes
@@ -204,12 +206,12 @@ def note(root, lines, chosen, sums, toolchain):
     write_refused(file, refused)
 
 
-def edits_alone(root, names, sums, toolchain):
-    """Tries the edits of these crates in place, and returns how many were refused and how many weren't."""
-    status, lines = run(["rt", "must-fail", *names], root)
+def edits_alone(root, crates, names, sums, toolchain):
+    """Tries the edits of these crates over what earlier checks kept, and returns how many were refused and how many weren't."""
+    found = edits.try_all(root, names, sorted({it for name in names for it in [name, *below(crates, name)]}))
+    lines = [f"rt: must-fail {name}/{edit}: refused, as it must be" for name, (refused, _) in found.items() for edit in refused]
     note(root, lines, names, sums, toolchain)
-    refused = sum(": refused, as it must be" in line for line in lines)
-    return refused, max(sum(len(edits_of(root, name)) for name in names) - refused, 1 if status else 0)
+    return len(lines), sum(len(others) for _, others in found.values())
 
 
 PACKAGES = {"pandas": "python3-pandas", "matplotlib": "python3-matplotlib"}
@@ -256,13 +258,13 @@ def main():
     root = Path(__file__).resolve().parent.parent
     asked = argparse.ArgumentParser(prog=".ci/run", description=__doc__, formatter_class=argparse.RawDescriptionHelpFormatter)
     asked.add_argument("--all", action="store_true", help="try the edits of all crates")
-    asked.add_argument("--edits", nargs="+", metavar="CRATE", help="try the edits of these crates, and nothing else, over what earlier checks kept")
+    asked.add_argument("--edits", nargs="+", metavar="CRATE", help="try the edits of these crates, and nothing else, many by one check and over what earlier checks kept")
     asked.add_argument("--list", action="store_true", help="say which crates' edits would be tried and why, and do nothing")
     options = asked.parse_args()
     crates, toolchain = crates_of(root), output_of(root, "rt", "version")
     sums = {name: sum_of(root, crates, name, toolchain) for name in crates if edits_of(root, name)}
     if options.edits:
-        passed, failed = edits_alone(root, [name for name in options.edits if name in sums], sums, toolchain)
+        passed, failed = edits_alone(root, crates, [name for name in options.edits if name in sums], sums, toolchain)
         print(f"{passed} passed, {failed} failed")
         return 1 if failed else 0
     commit = output_of(root, "git", "rev-parse", "HEAD")

@@ -45,6 +45,19 @@ EDIT = "file: src/lib.rt\nold:     count + 1\nnew:     count + 2\n"
 PROVES = "file: src/lib.rt\nold:     count + 1\nnew:     1 + count\n"
 
 
+TWICE = LOWER + """
+/// Two more.
+pub fn twice(count: u32) -> u32
+    requires { count < 500 }
+    ensures { result ≡ count + 2 }
+{
+    bump(bump(count))
+}
+"""
+ONCE = "file: src/lib.rt\nold:     bump(bump(count))\nnew:     bump(count)\n"
+UNREAD = "file: src/lib.rt\nold:     bump(bump(count))\nnew:     bump(bump(count)\n"
+
+
 class Repository:
     """A small repository with a gate of its own."""
 
@@ -57,7 +70,8 @@ class Repository:
             self.write(f"crates/{name}/src/lib.rt", LOWER)
             self.write(f"crates/{name}/must-fail/lib.bump.two_more.edit", EDIT)
         (folder / ".ci").mkdir()
-        shutil.copy(OWN / "gate.py", folder / ".ci/gate.py")
+        for name in ("gate.py", "edits.py"):
+            shutil.copy(OWN / name, folder / ".ci" / name)
         subprocess.run(["git", "init", "-q"], cwd=folder, check=True)
 
     def write(self, name, text):
@@ -185,6 +199,27 @@ class Prover(unittest.TestCase):
             self.assertIn("turned_round.edit: NOT REFUSED", said)
             self.assertIn("two_more.edit: refused, as it must be", said)
             self.assertNotIn("counts", (Path(made) / ".ci/refused.txt").read_text().split("\n", 1)[1])
+
+    def test_edits_of_two_functions_are_tried_by_one_check(self):
+        with tempfile.TemporaryDirectory(prefix="ttm-gate-test-") as made:
+            repository = Repository(Path(made), {"counts": ""})
+            repository.write("crates/counts/src/lib.rt", TWICE)
+            repository.write("crates/counts/must-fail/lib.twice.once.edit", ONCE)
+            status, said, _ = repository.gate("--edits", "counts")
+            self.assertEqual((status, said.splitlines()[-2:]), (0, ["counts: 2 of 2 edits refused", "2 passed, 0 failed"]), said)
+            self.assertIn("counts ", (Path(made) / ".ci/refused.txt").read_text().split("\n", 1)[1])
+
+    def test_an_edit_that_proves_or_is_not_read_is_told_among_others(self):
+        with tempfile.TemporaryDirectory(prefix="ttm-gate-test-") as made:
+            repository = Repository(Path(made), {"counts": ""})
+            repository.write("crates/counts/src/lib.rt", TWICE)
+            repository.write("crates/counts/must-fail/lib.twice.unread.edit", UNREAD)
+            repository.write("crates/counts/must-fail/lib.bump.turned_round.edit", PROVES)
+            status, said, _ = repository.gate("--edits", "counts")
+            self.assertEqual((status, said.splitlines()[-1]), (1, "1 passed, 2 failed"), said)
+            self.assertIn("counts/lib.bump.turned_round.edit: NOT REFUSED: the crate is still proved with it", said)
+            self.assertIn("counts/lib.twice.unread.edit: NOT REFUSED", said)
+            self.assertNotIn("counts ", (Path(made) / ".ci/refused.txt").read_text().split("\n", 1)[1])
 
 
 if __name__ == "__main__":
