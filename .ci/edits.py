@@ -3,17 +3,21 @@
 A function is proved from its own body and the contracts of what it calls, so whether the prover refuses it has nothing to do with what was planted
 in other bodies. An edit is refused where the check says of its function that it is not proved. Where it says that a function has no proof, since
 one that it calls isn't proved, the edit waits for the next check; so does one whose function or text another edit has taken. What can't be told so (an edit of a
-constant or a definition, or of one of two functions of one name) is tried alone: then the crate must not be proved. It works on a copy of the crates. Standard library only.
+constant or a definition, or of one of two functions of one name) is tried alone: then the crate must not be proved. An edit that the prover can't read is
+not refused, and no edit is where the crate isn't proved without any. It works on a copy of the crates. Standard library only.
 """
 import re
 import shutil
 import subprocess
 import tempfile
+from concurrent.futures import ThreadPoolExecutor, as_completed
 from pathlib import Path
 
 PROVED, REFUSED, WAITS, UNKNOWN = "proved", "refused", "waits", "unknown"
 VERDICT = re.compile(r"(fn|impl) (\S+): (proved|not proved|no proof: expected answers|no proof: it calls)\b")
 LOGIC = re.compile(r"logic=(proved|not-proved)\b")
+ERROR = re.compile(r"(?:\./)?(?:src|specs)/\S+:\d+:\d+: error(\[[\w-]+\])?: (?:(`[^`]*`): )?(.*)")
+UNREADABLE = re.compile(r"is not in scope|has no field|is no name|operand is missing|expected the end|cannot continue")
 
 
 class Edit:
@@ -80,6 +84,15 @@ def choose(edits, texts):
     return chosen, spans
 
 
+def unread(lines):
+    """What says that the prover could not read a text, where an edit that only makes a statement false reads well; nothing where it read all."""
+    for line in lines:
+        found = ERROR.match(line)
+        if found and (found[1] or not found[2] or UNREADABLE.search(re.sub(r"`[^`]*`", "", found[3]))):
+            return line[:200]
+    return ""
+
+
 def verdict_of(crate, edit, lines):
     """What a check says of the function that an edit changes."""
     module, function = edit.function
@@ -93,8 +106,8 @@ def verdict_of(crate, edit, lines):
 class Trial:
     """The edits of a crate, tried in a copy of it."""
 
-    def __init__(self, folder):
-        self.folder, self.crate = folder, folder.name
+    def __init__(self, folder, jobs):
+        self.folder, self.crate, self.jobs = folder, folder.name, jobs
         self.base = {}
 
     def texts(self, file):
@@ -106,7 +119,7 @@ class Trial:
         """The lines that a check tells with these texts of files, and the logic's verdict; none where it came to none."""
         for file, text in made.items():
             (self.folder / file).write_text(text)
-        ran = subprocess.run(["rt", "check"], cwd=self.folder, stdout=subprocess.PIPE, stderr=subprocess.STDOUT, text=True, errors="replace")
+        ran = subprocess.run(["rt", "check", "--jobs", str(self.jobs)], cwd=self.folder, stdout=subprocess.PIPE, stderr=subprocess.STDOUT, text=True, errors="replace")
         for file in made:
             (self.folder / file).write_text(self.base[file])
         lines = ran.stdout.split("\n")
@@ -119,10 +132,11 @@ class Trial:
         if not made:
             return False, "what it replaces isn't there once"
         lines, logic = self.check(made)
-        own = [it for it in lines if re.match(r"(\./)?(src|specs)/\S+:\d+:\d+: error", it)]
+        if unread(lines):
+            return False, f"the prover can't read it: {unread(lines)}"
         if logic == "not-proved" and any(it[3] != "proved" for it in map(VERDICT.match, lines) if it):
             return True, ""
-        return False, "the crate is still proved with it" if logic == "proved" else (own + lines[-3:])[0][:200]
+        return False, "the crate is still proved with it" if logic == "proved" else f"it did not reach the prover: {' '.join(lines[-3:])[:200]}"
 
     def together(self, edits):
         """Tries edits by one check, and gives those that were refused and those that wait. Where the check comes to no verdict on any, half as many are tried."""
@@ -130,7 +144,7 @@ class Trial:
         if not chosen:
             return [], edits
         lines, _ = self.check(planted(self.texts, spans))
-        told = {edit: verdict_of(self.crate, edit, lines) for edit in chosen}
+        told = {edit: UNKNOWN if unread(lines) else verdict_of(self.crate, edit, lines) for edit in chosen}
         if len(chosen) > 1 and all(it == UNKNOWN for it in told.values()):
             half = len(chosen) // 2
             first, second = self.together(chosen[:half]), self.together(chosen[half:])
@@ -143,6 +157,8 @@ class Trial:
 
     def run(self, edits):
         """The names of the edits that were refused, and of each other one why it wasn't."""
+        if self.check({})[1] != "proved":
+            return [], {it.name: "the crate isn't proved without it" for it in edits}
         refused, left = [], list(edits)
         while any(it.function for it in left):
             was = len(left), sum(it.function is None for it in left)
@@ -170,16 +186,39 @@ def copy_crates(root, room, names):
         subprocess.run(["cp", "-a", str(root / "crates" / name), str(room / "crates" / name)], check=True)
 
 
-def try_all(root, crates, needed):
-    """For each crate the names of the edits that were refused, and of each other one why it wasn't; said as they come. Needed are these crates and all below."""
-    found = {}
+def try_crate(root, paths, crate, below, jobs):
+    """The names of a crate's edits that were refused, and of each other one why it wasn't; said as well."""
     with tempfile.TemporaryDirectory(prefix="ttm-edits-") as made:
-        room = Path(made)
-        copy_crates(root, room, needed)
-        for crate in crates:
-            edits = [Edit(it) for it in sorted((root / "crates" / crate / "must-fail").glob("*.edit"))]
-            found[crate] = Trial(room / "crates" / crate).run(edits)
-            for name, why in found[crate][1].items():
-                print(f"{crate}/{name}: NOT REFUSED: {why}", flush=True)
-            print(f"{crate}: {len(found[crate][0])} of {len(edits)} edits refused", flush=True)
-    return found
+        copy_crates(root, Path(made), [crate, *below])
+        refused, others = Trial(Path(made) / "crates" / crate, jobs).run([Edit(it) for it in paths])
+    told = [f"{crate}/{name}: NOT REFUSED: {why}" for name, why in others.items()]
+    print("\n".join([*told, f"{crate}: {len(refused)} of {len(paths)} edits refused"]), flush=True)
+    return refused, others
+
+
+def build_libraries(root, below, at_once):
+    """Builds the libraries that crates stand on, each once and after those below it, so that copies of them serve each trial."""
+    made = {}
+
+    def build(crate):
+        for lower in below[crate]:
+            made[lower].result()
+        subprocess.run(["rt", "lib", "--jobs", "1"], cwd=root / "crates" / crate, stdout=subprocess.DEVNULL, stderr=subprocess.DEVNULL)
+
+    with ThreadPoolExecutor(at_once) as pool:
+        # one with fewer below it is begun earlier, so none waits for one that isn't begun
+        for crate in sorted(below, key=lambda it: len(below[it])):
+            made[crate] = pool.submit(build, crate)
+
+
+def try_all(root, paths, below, jobs):
+    """Tries the edits that lie at these paths, given by their crate: several crates at a time, those with the most edits first.
+
+    `below` gives all crates below each of these, and below each of those. As a crate is done it is given with the names of its edits that were refused, and of each other one why it wasn't.
+    """
+    at_once = max(1, min(jobs, len(paths)))
+    build_libraries(root, {it: below[it] for name in paths for it in below[name]}, jobs)
+    with ThreadPoolExecutor(at_once) as pool:
+        tried = {pool.submit(try_crate, root, paths[it], it, below[it], max(1, jobs // at_once)): it for it in sorted(paths, key=lambda it: -len(paths[it]))}
+        for it in as_completed(tried):
+            yield tried[it], *it.result()

@@ -197,21 +197,20 @@ def refusals(lines, root, chosen):
     return [name for name in chosen if all((name, it.name) in refused for it in edits_of(root, name))]
 
 
-def note(root, lines, chosen, sums, toolchain):
+def note(root, whole, sums, toolchain):
     """Writes down the crates of which every edit was refused. What other toolchains refused stays."""
     file = root / ".ci/refused.txt"
     refused = {it: made for it, made in read_refused(file).items() if it[0] in sums}
-    for name in refusals(lines, root, chosen):
-        refused[name, toolchain] = sums[name]
-    write_refused(file, refused)
+    write_refused(file, {**refused, **{(name, toolchain): sums[name] for name in whole}})
 
 
 def edits_alone(root, crates, names, sums, toolchain):
-    """Tries the edits of these crates over what earlier checks kept, and returns how many were refused and how many weren't."""
-    found = edits.try_all(root, names, sorted({it for name in names for it in [name, *below(crates, name)]}))
-    lines = [f"rt: must-fail {name}/{edit}: refused, as it must be" for name, (refused, _) in found.items() for edit in refused]
-    note(root, lines, names, sums, toolchain)
-    return len(lines), sum(len(others) for _, others in found.values())
+    """Tries the edits of these crates over what earlier checks kept, writes down what was refused as it goes, and returns how many were and how many weren't."""
+    paths, passed, failed = {name: edits_of(root, name) for name in names}, 0, 0
+    for name, refused, others in edits.try_all(root, paths, {name: below(crates, name) for name in crates}, jobs()):
+        passed, failed = passed + len(refused), failed + len(others)
+        note(root, [] if others else [name], sums, toolchain)
+    return passed, failed
 
 
 PACKAGES = {"pandas": "python3-pandas", "matplotlib": "python3-matplotlib"}
@@ -245,7 +244,7 @@ def gate(root, chosen, sums, toolchain):
         copy_files(root, room, chosen)
         status, lines = run(["rt", "ci"], room, RT_JOBS=jobs())
         results = [counted(status, lines)]
-        note(root, lines, chosen, sums, toolchain)
+        note(root, refusals(lines, root, chosen), sums, toolchain)
         program = room / "crates/ttm/out/ttm"
         for script, words in ((".ci/program_runs.py", [program]), (".ci/random_feeds.py", [program]), ("tools/tests.py", [program]), (".ci/gate_tests.py", [])):
             if (root / script).is_file():

@@ -55,6 +55,7 @@ pub fn twice(count: u32) -> u32
 }
 """
 ONCE = "file: src/lib.rt\nold:     bump(bump(count))\nnew:     bump(count)\n"
+UNKNOWN_NAME = "file: src/lib.rt\nold:     bump(bump(count))\nnew:     bump(bump(counts))\n"
 UNREAD = "file: src/lib.rt\nold:     bump(bump(count))\nnew:     bump(bump(count)\n"
 
 
@@ -200,26 +201,35 @@ class Prover(unittest.TestCase):
             self.assertIn("two_more.edit: refused, as it must be", said)
             self.assertNotIn("counts", (Path(made) / ".ci/refused.txt").read_text().split("\n", 1)[1])
 
-    def test_edits_of_two_functions_are_tried_by_one_check(self):
+    def edits_alone(self, edits, source=TWICE):
+        """What the gate says of a crate's edits alone, and what it wrote down: its status, what it said, and the rows."""
         with tempfile.TemporaryDirectory(prefix="ttm-gate-test-") as made:
             repository = Repository(Path(made), {"counts": ""})
-            repository.write("crates/counts/src/lib.rt", TWICE)
-            repository.write("crates/counts/must-fail/lib.twice.once.edit", ONCE)
+            repository.write("crates/counts/src/lib.rt", source)
+            for name, text in edits.items():
+                repository.write(f"crates/counts/must-fail/{name}.edit", text)
             status, said, _ = repository.gate("--edits", "counts")
-            self.assertEqual((status, said.splitlines()[-2:]), (0, ["counts: 2 of 2 edits refused", "2 passed, 0 failed"]), said)
-            self.assertIn("counts ", (Path(made) / ".ci/refused.txt").read_text().split("\n", 1)[1])
+            return status, said, (Path(made) / ".ci/refused.txt").read_text().split("\n", 1)[1]
+
+    def test_edits_of_two_functions_are_tried_by_one_check(self):
+        status, said, rows = self.edits_alone({"lib.twice.once": ONCE})
+        self.assertEqual((status, said.splitlines()), (0, ["counts: 2 of 2 edits refused", "2 passed, 0 failed"]), said)
+        self.assertIn("counts ", rows)
 
     def test_an_edit_that_proves_or_is_not_read_is_told_among_others(self):
-        with tempfile.TemporaryDirectory(prefix="ttm-gate-test-") as made:
-            repository = Repository(Path(made), {"counts": ""})
-            repository.write("crates/counts/src/lib.rt", TWICE)
-            repository.write("crates/counts/must-fail/lib.twice.unread.edit", UNREAD)
-            repository.write("crates/counts/must-fail/lib.bump.turned_round.edit", PROVES)
-            status, said, _ = repository.gate("--edits", "counts")
-            self.assertEqual((status, said.splitlines()[-1]), (1, "1 passed, 2 failed"), said)
-            self.assertIn("counts/lib.bump.turned_round.edit: NOT REFUSED: the crate is still proved with it", said)
-            self.assertIn("counts/lib.twice.unread.edit: NOT REFUSED", said)
-            self.assertNotIn("counts ", (Path(made) / ".ci/refused.txt").read_text().split("\n", 1)[1])
+        unread = {"lib.twice.half_a_call": UNREAD, "lib.twice.another_name": UNKNOWN_NAME}
+        status, said, rows = self.edits_alone({**unread, "lib.bump.turned_round": PROVES})
+        self.assertEqual((status, said.splitlines()[-1]), (1, "1 passed, 3 failed"), said)
+        self.assertIn("counts/lib.bump.turned_round.edit: NOT REFUSED: the crate is still proved with it", said)
+        for name in unread:
+            self.assertIn(f"counts/{name}.edit: NOT REFUSED: the prover can't read it", said)
+        self.assertNotIn("counts ", rows)
+
+    def test_no_edit_is_refused_where_the_crate_is_not_proved_without_it(self):
+        status, said, rows = self.edits_alone({}, LOWER.replace("count + 1 }", "count + 3 }"))
+        self.assertEqual((status, said.splitlines()[-1]), (1, "0 passed, 1 failed"), said)
+        self.assertIn("counts/lib.bump.two_more.edit: NOT REFUSED: the crate isn't proved without it", said)
+        self.assertNotIn("counts ", rows)
 
 
 if __name__ == "__main__":
