@@ -197,7 +197,7 @@ def try_crate(root, paths, crate, below, jobs):
 
 
 def build_libraries(root, below, at_once):
-    """Builds the libraries that crates stand on, each once and after those below it, so that copies of them serve each trial."""
+    """Builds the libraries that crates stand on, each once and after those below it, so that copies of them serve each trial. What isn't proved shows in the trials."""
     made = {}
 
     def build(crate):
