@@ -1,10 +1,10 @@
 //! Worked examples of cells and access.
 
-use crate::small_networks::{a_line, of_window, two_trips};
+use crate::small_networks::{SmallNetwork, a_line, of_window, two_trips};
 use rounds::{Durations, Window};
 use shares::{access, cell, cells, cells_of};
 use std::alloc::Global;
-use timetable::{MOST_STOPS, Network, StopNo};
+use timetable::{MOST_STOPS, StopNo};
 
 /// Whether these are the cells of a share, also one by one.
 fn are(alloc: Global, found: &Durations, share: u32, expected: &[Option<u32>]) -> bool {
@@ -25,7 +25,7 @@ fn are(alloc: Global, found: &Durations, share: u32, expected: &[Option<u32>]) -
 /// Whether a window from the first stop, with at most two rides, has these cells for each of some shares.
 fn window_has(
     alloc: Global,
-    network: &Option<Network>,
+    network: &SmallNetwork,
     window: Window,
     shares: &[u32],
     expected: &[Option<u32>],

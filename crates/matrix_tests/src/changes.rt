@@ -1,10 +1,9 @@
 //! Worked examples of change times: a ride directly after a ride needs the stop's change time between them.
 
-use crate::small_networks::{Footpath, at, network_changing};
-use rounds::one_minute;
+use crate::small_networks::{Footpath, are, at, network_changing, of_minute};
 use std::alloc::{AllocError, Global};
 use std::test::Fail;
-use timetable::{END_OF_AXIS, Event, NEVER, StopNo};
+use timetable::{Event, NEVER};
 
 /// The least durations of journeys of at most 2 rides over these trips, where origin and departure are in range.
 fn durations(
@@ -14,21 +13,8 @@ fn durations(
     trips: &[&[Event]],
     (origin, depart): (u32, u32),
 ) -> Result<Option<Vec<u32>>, AllocError> {
-    if let Some(network) = network_changing(alloc, changes, footpaths, trips)?
-        && origin < network.stops()
-        && depart < END_OF_AXIS
-    {
-        return Ok(Some(one_minute(alloc, &network, StopNo(origin), depart, 2)?));
-    }
-    Ok(None)
-}
-
-/// Whether these are the durations.
-fn are(found: &Option<Vec<u32>>, expected: &[u32]) -> bool {
-    match found {
-        Some(found) => found.as_slice() == expected,
-        None => false,
-    }
+    let network = network_changing(alloc, changes, footpaths, trips)?;
+    of_minute(alloc, &network, origin, depart, 2)
 }
 
 #[test]

@@ -1,35 +1,9 @@
 //! Worked examples of least durations.
 
-use crate::small_networks::{a_line, at, network_of, of_window, two_trips};
-use rounds::{Durations, Window, one_minute};
-use std::alloc::{AllocError, Global};
+use crate::small_networks::{a_line, are, at, network_of, of_minute, of_window, two_trips};
+use rounds::{Durations, Window};
 use std::test::Fail;
-use timetable::{END_OF_AXIS, NEVER, Network, StopNo};
-
-/// The least durations, where origin and departure are in range.
-fn durations(
-    alloc: Global,
-    network: &Option<Network>,
-    origin: u32,
-    depart: u32,
-    rides: u32,
-) -> Result<Option<Vec<u32>>, AllocError> {
-    if let Some(network) = network
-        && origin < network.stops()
-        && depart < END_OF_AXIS
-    {
-        return Ok(Some(one_minute(alloc, network, StopNo(origin), depart, rides)?));
-    }
-    Ok(None)
-}
-
-/// Whether these are the durations.
-fn are(found: &Option<Vec<u32>>, expected: &[u32]) -> bool {
-    match found {
-        Some(found) => found.as_slice() == expected,
-        None => false,
-    }
-}
+use timetable::{END_OF_AXIS, NEVER, StopNo};
 
 #[test]
 fn two_trips_with_a_change(rt: HostRuntime) -> Result<(), Fail> {
@@ -44,7 +18,7 @@ fn two_trips_with_a_change(rt: HostRuntime) -> Result<(), Fail> {
         (29_399, true, 0, 2, [0, 600, NEVER]),
     ] {
         let network = two_trips(alloc, leave, board)?;
-        let found = durations(alloc, &network, origin, 28_800, rides)?;
+        let found = of_minute(alloc, &network, origin, 28_800, rides)?;
         assert!(rt;
             are(&found, expected.as_slice()),
             "leave {leave}, origin {origin}, rides {rides}"
@@ -63,7 +37,7 @@ fn no_two_walks_follow_one_another(rt: HostRuntime) -> Result<(), Fail> {
         (bare.as_slice(), [0, 60, NEVER]),
     ] {
         let network = network_of(alloc, 3, footpaths, &[])?;
-        let found = durations(alloc, &network, 0, 32_400, 1)?;
+        let found = of_minute(alloc, &network, 0, 32_400, 1)?;
         assert!(rt; are(&found, expected.as_slice()));
     }
     Ok(())
@@ -79,7 +53,7 @@ fn walks_come_first_and_last(rt: HostRuntime) -> Result<(), Fail> {
         (28_680, [120, 720, 1_920, 0, 2_010]),
         (28_740, [120, NEVER, NEVER, 0, NEVER]),
     ] {
-        let found = durations(alloc, &network, 3, depart, 2)?;
+        let found = of_minute(alloc, &network, 3, depart, 2)?;
         assert!(rt; are(&found, expected.as_slice()), "at {depart}");
     }
     Ok(())
@@ -115,7 +89,7 @@ fn odd_trips(rt: HostRuntime) -> Result<(), Fail> {
         (1, 900, 1, [NEVER, 0, 0, 0, NEVER, NEVER, NEVER, 0]),
         (4, 6_040, 1, [NEVER, NEVER, NEVER, NEVER, 0, 50, 160, NEVER]),
     ] {
-        let found = durations(alloc, &network, origin, depart, rides)?;
+        let found = of_minute(alloc, &network, origin, depart, rides)?;
         assert!(rt;
             are(&found, expected.as_slice()),
             "from {origin} at {depart}"
@@ -136,7 +110,7 @@ fn the_faster_of_two_trips(rt: HostRuntime) -> Result<(), Fail> {
         (2_000, [0, 1_000, 1_100]),
         (2_001, [0, NEVER, NEVER]),
     ] {
-        let found = durations(alloc, &network, 0, depart, 2)?;
+        let found = of_minute(alloc, &network, 0, depart, 2)?;
         assert!(rt; are(&found, expected.as_slice()), "at {depart}");
     }
     Ok(())
@@ -161,7 +135,7 @@ fn a_trip_every_minute(rt: HostRuntime) -> Result<(), Fail> {
         (41_940, rides),
         (41_941, waits),
     ] {
-        let found = durations(alloc, &network, 0, depart, 1)?;
+        let found = of_minute(alloc, &network, 0, depart, 1)?;
         assert!(rt; are(&found, expected.as_slice()), "at {depart}");
     }
     Ok(())

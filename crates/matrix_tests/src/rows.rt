@@ -1,6 +1,6 @@
 //! Worked examples of rows, matrices and limits of studies.
 
-use crate::small_networks::{at, network_with, trip_of};
+use crate::small_networks::{SmallNetwork, at, network_with, trip_of};
 use collector::{Matrix, Row};
 use rounds::Window;
 use std::alloc::{AllocError, Global};
@@ -33,7 +33,7 @@ fn at_time(stop: u32, time: u32) -> Event {
 }
 
 /// The network of so many stops and these rides, if it is one.
-fn network_of(alloc: Global, stops: u32, rides: &[Ride]) -> Result<Option<Network>, AllocError> {
+fn network_of(alloc: Global, stops: u32, rides: &[Ride]) -> Result<SmallNetwork, AllocError> {
     let mut trips = Vec::with_capacity(alloc, rides.len())?;
     for (from, leaves, to, reaches) in rides {
         trips.push(trip_of(alloc, &[at_time(*from, *leaves), at_time(*to, *reaches)])?)?;
@@ -49,7 +49,7 @@ pub(crate) fn networks_of(
     let mut networks = Vec::with_capacity(alloc, scenarios.len())?;
     for rides in scenarios {
         if let Some(network) = network_of(alloc, 3, rides)? {
-            networks.push(network)?;
+            networks.push(Box::into_inner(network))?;
         }
     }
     Ok(networks)

@@ -1,11 +1,17 @@
 //! Small networks, and the least durations over them.
 
-use rounds::{Durations, Window, durations};
+use rounds::{Durations, Window, durations, one_minute};
 use std::alloc::{AllocError, Global};
-use timetable::{Event, Events, Feet, MOST_STOPS, Network, StopNo, Trip};
+use timetable::{END_OF_AXIS, Event, Events, Feet, MOST_STOPS, Network, StopNo, Trip};
 
 /// A footpath: from a stop, to a stop, in seconds.
 pub(crate) type Footpath = (usize, u32, u32);
+
+/// A small network, if it is one.
+///
+/// It stands in a box: whoever holds it lets go of it in one step, where the prover would else follow each of its lists
+/// on every way out.
+pub(crate) type SmallNetwork = Option<Box<Network>>;
 
 /// An event where everybody may board and alight.
 pub(crate) fn at(stop: u32, arrive: u32, depart: u32) -> Event {
@@ -51,7 +57,7 @@ pub(crate) fn network_with(
     stops: u32,
     footpaths: &[Footpath],
     trips: Vec<Trip>,
-) -> Result<Option<Network>, AllocError> {
+) -> Result<SmallNetwork, AllocError> {
     let changes = vec![in alloc; 0; stops as usize]?;
     network_over(alloc, stops, footpaths, changes, trips)
 }
@@ -63,10 +69,13 @@ pub(crate) fn network_over(
     footpaths: &[Footpath],
     changes: Vec<u32>,
     trips: Vec<Trip>,
-) -> Result<Option<Network>, AllocError> {
+) -> Result<SmallNetwork, AllocError> {
     let lists = lists_of(alloc, stops as usize, footpaths)?;
     match Feet::new(alloc, stops, lists, changes) {
-        Ok(feet) => Ok(Network::new(alloc, stops, trips, &feet).ok()),
+        Ok(feet) => match Network::new(alloc, stops, trips, &feet) {
+            Ok(network) => Ok(Some(Box::new(alloc, network)?)),
+            Err(_) => Ok(None),
+        },
         Err(_) => Ok(None),
     }
 }
@@ -86,7 +95,7 @@ pub(crate) fn network_of(
     stops: u32,
     footpaths: &[Footpath],
     trips: &[&[Event]],
-) -> Result<Option<Network>, AllocError> {
+) -> Result<SmallNetwork, AllocError> {
     network_with(alloc, stops, footpaths, trips_with(alloc, trips)?)
 }
 
@@ -96,7 +105,7 @@ pub(crate) fn network_changing(
     changes: &[u32],
     footpaths: &[Footpath],
     trips: &[&[Event]],
-) -> Result<Option<Network>, AllocError> {
+) -> Result<SmallNetwork, AllocError> {
     if changes.len() > MOST_STOPS {
         return Ok(None);
     }
@@ -110,7 +119,7 @@ pub(crate) fn two_trips(
     alloc: Global,
     leave: u32,
     board: bool,
-) -> Result<Option<Network>, AllocError> {
+) -> Result<SmallNetwork, AllocError> {
     let first = [at(0, 28_800, 28_800), at(1, 29_400, 29_400)];
     let on = Event {
         board,
@@ -134,7 +143,7 @@ fn along_the_line(alloc: Global, name: u32, start: u32) -> Result<Trip, AllocErr
 }
 
 /// 400 trips, one a minute from 05:00, along 20 stops that lie two minutes apart.
-pub(crate) fn a_line(alloc: Global) -> Result<Option<Network>, AllocError> {
+pub(crate) fn a_line(alloc: Global) -> Result<SmallNetwork, AllocError> {
     let mut trips = Vec::with_capacity(alloc, 400)?;
     for minute in 0..400u32 {
         trips.push(along_the_line(alloc, minute, 18_000 + 60 * minute)?)?;
@@ -142,10 +151,35 @@ pub(crate) fn a_line(alloc: Global) -> Result<Option<Network>, AllocError> {
     network_with(alloc, 20, &[], trips)
 }
 
+/// The least durations of one departure, where origin and departure are in range.
+pub(crate) fn of_minute(
+    alloc: Global,
+    network: &SmallNetwork,
+    origin: u32,
+    depart: u32,
+    rides: u32,
+) -> Result<Option<Vec<u32>>, AllocError> {
+    if let Some(network) = network
+        && origin < network.stops()
+        && depart < END_OF_AXIS
+    {
+        return Ok(Some(one_minute(alloc, network, StopNo(origin), depart, rides)?));
+    }
+    Ok(None)
+}
+
+/// Whether these are the durations.
+pub(crate) fn are(found: &Option<Vec<u32>>, expected: &[u32]) -> bool {
+    match found {
+        Some(found) => found.as_slice() == expected,
+        None => false,
+    }
+}
+
 /// The durations of a window, where origin and window are in range.
 pub(crate) fn of_window(
     alloc: Global,
-    network: &Option<Network>,
+    network: &SmallNetwork,
     origin: u32,
     window: Window,
     rides: u32,

@@ -43,8 +43,8 @@ const TWO_STOPS: Files = Files {
     stop_times: b"trip_id,stop_id,stop_sequence,arrival_time,departure_time\n",
 };
 
-/// The feed of two trips, if it is one.
-fn feed_of(alloc: Global, own: Files) -> Option<Feed> {
+/// The feed of two trips, if it is one. It stands in a box, so that whoever holds it lets go of it in one step.
+fn feed_of(alloc: Global, own: Files) -> Option<Box<Feed>> {
     let files = FeedBytes {
         stops: Some(own.stops),
         routes: Some(b"route_id\nR1\nR2\n"),
@@ -60,7 +60,10 @@ fn feed_of(alloc: Global, own: Files) -> Option<Feed> {
     if !files.fits() {
         return None;
     }
-    read_feed(alloc, &files).ok()
+    match read_feed(alloc, &files) {
+        Ok(feed) => Box::new(alloc, feed).ok(),
+        Err(_) => None,
+    }
 }
 
 /// What a share gives: scenario, origin, access sums and cells.

@@ -1,6 +1,8 @@
 //! The durations of a window beside those of each of its minutes alone, and one search for several networks.
 
-use crate::small_networks::{Footpath, at, network_over, of_window, trip_of, two_trips};
+use crate::small_networks::{
+    Footpath, SmallNetwork, at, network_over, of_window, trip_of, two_trips,
+};
 use rounds::{Durations, Search, Window, one_minute};
 use std::alloc::{AllocError, Global};
 use std::test::Fail;
@@ -86,7 +88,7 @@ fn busy_trips(alloc: Global) -> Result<Vec<Trip>, AllocError> {
 }
 
 /// The network of these trips, over 8 stops.
-fn busy(alloc: Global) -> Result<Option<Network>, AllocError> {
+fn busy(alloc: Global) -> Result<SmallNetwork, AllocError> {
     let changes = Vec::from_slice(alloc, &CHANGES)?;
     network_over(alloc, 8, &FOOTPATHS, changes, busy_trips(alloc)?)
 }
@@ -138,7 +140,7 @@ fn minutes_agree(
 /// Whether the durations of a window are those of each of its departures alone.
 fn window_agrees(
     alloc: Global,
-    network: &Option<Network>,
+    network: &SmallNetwork,
     origin: u32,
     window: Window,
     rides: u32,
@@ -155,7 +157,7 @@ fn window_agrees(
 /// Whether that is so from each stop of the busy network.
 fn origins_agree(
     alloc: Global,
-    network: &Option<Network>,
+    network: &SmallNetwork,
     minutes: u32,
     rides: u32,
 ) -> Result<bool, AllocError> {
@@ -235,7 +237,7 @@ fn search_finds(
 fn search_agrees(
     alloc: Global,
     search: &mut Search,
-    network: &Option<Network>,
+    network: &SmallNetwork,
     origin: u32,
 ) -> Result<bool, AllocError> {
     let expected = of_window(alloc, network, origin, TWENTY, 4)?;
