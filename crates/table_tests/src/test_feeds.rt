@@ -60,12 +60,16 @@ pub(crate) fn feed_of(
     }
 }
 
-/// The feed of the files, none where they have a fault.
-pub(crate) fn feed_in(alloc: Global, files: FeedBytes<'_>) -> Option<Feed> {
+/// The feed of the files, none where they have a fault. It stands in a box, so that whoever holds it lets go of it in one
+/// step.
+pub(crate) fn feed_in(alloc: Global, files: FeedBytes<'_>) -> Option<Box<Feed>> {
     if !files.fits() {
         return None;
     }
-    read_feed(alloc, &files).ok()
+    match read_feed(alloc, &files) {
+        Ok(feed) => Box::new(alloc, feed).ok(),
+        Err(_) => None,
+    }
 }
 
 /// The fault of the files, none where they have none.
