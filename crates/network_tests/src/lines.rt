@@ -83,40 +83,42 @@ fn no_walks(alloc: Global) -> Result<Feet, AllocError> {
     }
 }
 
-fn network(alloc: Global, trips: Vec<Trip>) -> Result<Network, AllocError>
-    ensures { IfOk result (λ n. n.stops ≡ 3) }
+// The network of three stops, without walks, with these trips. It stands in a box, so that whoever holds it lets go of it
+// in one step.
+fn network(alloc: Global, trips: Vec<Trip>) -> Result<Box<Network>, AllocError>
+    ensures { IfOk result (λ n. n.value.stops ≡ 3) }
 {
     let feet = no_walks(alloc)?;
     match Network::new(alloc, 3, trips, &feet) {
-        Ok(network) => Ok(network),
+        Ok(network) => Ok(Box::new(alloc, network)?),
         Err(_) => Err(AllocError),
     }
 }
 
-fn network_of_overtaking(alloc: Global) -> Result<Network, AllocError>
-    ensures { IfOk result (λ n. n.stops ≡ 3) }
+fn network_of_overtaking(alloc: Global) -> Result<Box<Network>, AllocError>
+    ensures { IfOk result (λ n. n.value.stops ≡ 3) }
 {
     let trips = overtaking(alloc)?;
     network(alloc, trips)
 }
 
-fn network_of_alike(alloc: Global) -> Result<Network, AllocError>
-    ensures { IfOk result (λ n. n.stops ≡ 3) }
+fn network_of_alike(alloc: Global) -> Result<Box<Network>, AllocError>
+    ensures { IfOk result (λ n. n.value.stops ≡ 3) }
 {
     let trips = alike(alloc)?;
     network(alloc, trips)
 }
 
-fn network_of_ten(alloc: Global) -> Result<Network, AllocError>
-    ensures { IfOk result (λ n. n.stops ≡ 3) }
+fn network_of_ten(alloc: Global) -> Result<Box<Network>, AllocError>
+    ensures { IfOk result (λ n. n.value.stops ≡ 3) }
 {
     let trips = ten_that_overtake(alloc)?;
     network(alloc, trips)
 }
 
 // A trip from stop 0 to stop 1, and one from there to stop 2.
-fn network_with_a_change(alloc: Global) -> Result<Network, AllocError>
-    ensures { IfOk result (λ n. n.stops ≡ 3) }
+fn network_with_a_change(alloc: Global) -> Result<Box<Network>, AllocError>
+    ensures { IfOk result (λ n. n.value.stops ≡ 3) }
 {
     let mut trips = Vec::new(alloc);
     trips.push(trip(alloc, &[at(0, 28800, 28800), at(1, 29400, 29400)])?)?;
