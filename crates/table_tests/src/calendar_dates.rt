@@ -2,6 +2,7 @@
 
 ghost use Rattle.std.specs.Prelude.{◌≤◌, length};
 
+use crate::test_identifiers::identifiers;
 use jiff::civil::Date;
 use std::alloc::Global;
 use std::process::Abort;
@@ -40,15 +41,14 @@ fn has_christmas(dates: &CalendarDates) -> bool {
 
 // Whether a file that names a new service beside MON is read so.
 fn reads_christmas(alloc: Global) -> Result<bool, FeedFault> {
-    let mut services = Identifiers::new(alloc);
-    services.push(alloc, b"MON")?;
+    let services = identifiers(alloc, &[b"MON"])?;
     if services.len() > 1 {
         return Ok(false);
     }
     let dates = read_calendar_dates(
         alloc,
         b"service_id,date,exception_type\nXMAS,20261225,1\nMON,20260504,2\nXMAS,20261226,01\nMON,20260504,1\n",
-        services,
+        Box::into_inner(services),
     )?;
     Ok(has_christmas(&dates))
 }

@@ -2,7 +2,8 @@
 
 ghost use Rattle.std.specs.Prelude.{◌≤◌, length};
 
-use std::alloc::{AllocError, Global};
+use crate::test_identifiers::identifiers;
+use std::alloc::Global;
 use std::process::Abort;
 use std::test::Fail;
 use table_files::{FeedTrips, TripNumbers, read_feed_trips};
@@ -27,19 +28,10 @@ fn has_three_trips(trips: &FeedTrips) -> bool {
         && trips.numbers.as_slice() == [first, second, third].as_slice()
 }
 
-// The identifiers of two routes.
-fn two_routes(alloc: Global) -> Result<Identifiers, AllocError> {
-    let mut routes = Identifiers::new(alloc);
-    routes.push(alloc, b"R1")?;
-    routes.push(alloc, b"R2")?;
-    Ok(routes)
-}
-
 // Whether three trips of two routes, with a service that no calendar names, are read as such.
 fn reads_three_trips(alloc: Global) -> Result<bool, FeedFault> {
-    let routes = two_routes(alloc)?;
-    let mut services = Identifiers::new(alloc);
-    services.push(alloc, b"MON")?;
+    let routes = identifiers(alloc, &[b"R1", b"R2"])?;
+    let services = identifiers(alloc, &[b"MON"])?;
     if routes.len() > 2 || services.len() > 1 {
         return Ok(false);
     }
@@ -47,7 +39,7 @@ fn reads_three_trips(alloc: Global) -> Result<bool, FeedFault> {
         alloc,
         b"route_id,service_id,trip_id\nR1,MON,T1\nR2,NEW,T2\nR1,NEW,T3\n",
         &routes,
-        services,
+        Box::into_inner(services),
     )?;
     Ok(has_three_trips(&trips))
 }
@@ -62,8 +54,7 @@ fn trips_have_routes_and_services(rt: HostRuntime) -> Result<(), Fail> {
 fn fault_of(alloc: Global, bytes: &[u8]) -> Option<FeedFault>
     requires { length bytes.now ≤ 1073741824 }
 {
-    let mut routes = Identifiers::new(alloc);
-    routes.push(alloc, b"R1").ok()?;
+    let routes = identifiers(alloc, &[b"R1"]).ok()?;
     if routes.len() > 1 {
         return None;
     }

@@ -2,18 +2,12 @@
 
 ghost use Rattle.std.specs.Prelude.{◌≤◌, length};
 
-use std::alloc::{AllocError, Global};
+use crate::test_identifiers::identifiers;
+use std::alloc::Global;
 use std::process::Abort;
 use std::test::Fail;
 use table_files::{Departures, read_frequencies};
-use table_records::{FeedFault, FileName, Identifiers, What};
-
-fn two_trips(alloc: Global) -> Result<Identifiers, AllocError> {
-    let mut trips = Identifiers::new(alloc);
-    trips.push(alloc, b"T1")?;
-    trips.push(alloc, b"T2")?;
-    Ok(trips)
-}
+use table_records::{FeedFault, FileName, What};
 
 // Whether the second of two trips has these departures, and the first has none.
 fn has_departures(rows: &[Vec<Departures>], second: &[Departures]) -> bool {
@@ -24,7 +18,7 @@ fn has_departures(rows: &[Vec<Departures>], second: &[Departures]) -> bool {
 fn gives(alloc: Global, bytes: &[u8], second: &[Departures]) -> Result<bool, FeedFault>
     requires { length bytes.now ≤ 1073741824 }
 {
-    let trips = two_trips(alloc)?;
+    let trips = identifiers(alloc, &[b"T1", b"T2"])?;
     let rows = read_frequencies(alloc, bytes, &trips)?;
     Ok(has_departures(rows.as_slice(), second))
 }
@@ -54,7 +48,7 @@ fn rows_of_each_trip(rt: HostRuntime) -> Result<(), Fail> {
 fn fault_of(alloc: Global, bytes: &[u8]) -> Option<FeedFault>
     requires { length bytes.now ≤ 1073741824 }
 {
-    let trips = two_trips(alloc).ok()?;
+    let trips = identifiers(alloc, &[b"T1", b"T2"]).ok()?;
     read_frequencies(alloc, bytes, &trips).err()
 }
 

@@ -4,6 +4,7 @@
 //! - `calendar`, `calendar_dates`, `feed_trips`, `frequencies`, `places`, `routes`, `stop_times`, `transfers`: one file each; `sizes`: files at
 //!   their limits.
 //! - `feeds`, `feed_faults`, `feed_places`, `origins`: whole feeds (`test_feeds`), and an analyst's own files.
+//! - `test_identifiers`: what the files beside name.
 #![tactic(auto)]
 
 #[cfg(test)]
@@ -34,5 +35,7 @@ mod sizes;
 mod stop_times;
 #[cfg(test)]
 mod test_feeds;
+#[cfg(test)]
+mod test_identifiers;
 #[cfg(test)]
 mod transfers;

@@ -1,5 +1,6 @@
 //! Files with one record more than a feed may have.
 
+use crate::test_identifiers::identifiers;
 use std::alloc::{AllocError, Global};
 use std::test::Fail;
 use table_files::{read_feed_trips, read_stop_times};
@@ -20,17 +21,10 @@ fn numbered(
     Ok(bytes)
 }
 
-// One identifier.
-fn only(alloc: Global, id: &[u8]) -> Result<Identifiers, AllocError> {
-    let mut ids = Identifiers::new(alloc);
-    ids.push(alloc, id)?;
-    Ok(ids)
-}
-
 // The fault of a file of so many trips.
 fn trips_fault(alloc: Global, trips: u32) -> Result<Option<FeedFault>, AllocError> {
     let bytes = numbered(alloc, "route_id,service_id,trip_id", "R,S,", trips)?;
-    let routes = only(alloc, b"R")?;
+    let routes = identifiers(alloc, &[b"R"])?;
     if bytes.len() > 1_073_741_824 || routes.len() > 1 {
         return Ok(None);
     }
@@ -40,8 +34,8 @@ fn trips_fault(alloc: Global, trips: u32) -> Result<Option<FeedFault>, AllocErro
 // The fault of a file of so many stop times of one trip.
 fn times_fault(alloc: Global, times: u32) -> Result<Option<FeedFault>, AllocError> {
     let bytes = numbered(alloc, "trip_id,stop_id,stop_sequence", "T,A,", times)?;
-    let trips = only(alloc, b"T")?;
-    let stops = only(alloc, b"A")?;
+    let trips = identifiers(alloc, &[b"T"])?;
+    let stops = identifiers(alloc, &[b"A"])?;
     if bytes.len() > 1_073_741_824 || trips.len() > 1 || stops.len() > 1 {
         return Ok(None);
     }

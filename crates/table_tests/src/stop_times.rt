@@ -2,11 +2,12 @@
 
 ghost use Rattle.std.specs.Prelude.{◌≤◌, length};
 
+use crate::test_identifiers::identifiers;
 use std::alloc::Global;
 use std::process::Abort;
 use std::test::Fail;
 use table_files::{StopTimes, read_stop_times};
-use table_records::{FeedFault, FileName, Identifiers, What};
+use table_records::{FeedFault, FileName, What};
 use timetable::{Event, StopNo};
 
 const NINE: u32 = 32_400;
@@ -14,13 +15,8 @@ const NINE: u32 = 32_400;
 fn read(alloc: Global, bytes: &[u8]) -> Result<StopTimes, FeedFault>
     requires { length bytes.now ≤ 1073741824 }
 {
-    let mut trips = Identifiers::new(alloc);
-    trips.push(alloc, b"T1")?;
-    trips.push(alloc, b"T2")?;
-    let mut stops = Identifiers::new(alloc);
-    stops.push(alloc, b"A")?;
-    stops.push(alloc, b"B")?;
-    stops.push(alloc, b"C")?;
+    let trips = identifiers(alloc, &[b"T1", b"T2"])?;
+    let stops = identifiers(alloc, &[b"A", b"B", b"C"])?;
     if trips.len() > 2 || stops.len() > 3 {
         return Err(FeedFault::at(FileName::Stops, 0, What::TooMany));
     }
