@@ -12,6 +12,8 @@ use std::sync::{Mutex, Wait};
 use std::test::Fail;
 use std::thread::Threads;
 use studies::{Inputs, NamedFile, Settings, watch_study};
+use work_book::{Lease, Settled};
+use workers::{Gate, Verdict};
 
 /// A console that keeps what is told, with a clock that goes on by so much at each look.
 #[derive(Drop)]
@@ -83,11 +85,15 @@ const FROM_A: &[u8] = b"stop_id
 A
 ";
 
-/// What is asked: the date, and the days before and after it that count.
+/// What is asked: the date, the days before and after it that count, and the shares; and what the console is like: when its
+/// clock begins and by how much it goes on, and what the machine has free.
 #[derive(Clone, Copy)]
 pub(crate) struct Asked {
     pub(crate) date: &'static [u8],
-    pub(crate) days: u32,
+    pub(crate) back: u32,
+    pub(crate) ahead: u32,
+    pub(crate) shares: &'static [u32],
+    pub(crate) start: u64,
     pub(crate) step: u64,
     pub(crate) terminal: bool,
     pub(crate) free: u64,
@@ -95,7 +101,10 @@ pub(crate) struct Asked {
 
 pub(crate) const MONDAY: Asked = Asked {
     date: b"20260504",
-    days: 1,
+    back: 1,
+    ahead: 1,
+    shares: &[50],
+    start: 0,
     step: 61_000,
     terminal: false,
     free: 1000,
@@ -124,12 +133,12 @@ pub(crate) fn small_inputs() -> Inputs<'static> {
 /// The settings of a study of one minute, by one worker.
 pub(crate) fn settings_of(alloc: Global, asked: Asked) -> Option<Settings> {
     let date = read_date(asked.date)?;
-    let shares = Vec::from_slice(alloc, &[50]).ok()?;
+    let shares = Vec::from_slice(alloc, asked.shares).ok()?;
     let withins = Vec::from_slice(alloc, &[1800]).ok()?;
     Some(Settings {
         date,
-        back: asked.days,
-        ahead: asked.days,
+        back: asked.back,
+        ahead: asked.ahead,
         first: 480,
         minutes: 1,
         rides: 2,
@@ -141,13 +150,26 @@ pub(crate) fn settings_of(alloc: Global, asked: Asked) -> Option<Settings> {
     })
 }
 
-/// Makes a study and tells of it; false where there is no matrix.
+/// A gate that loses each lease.
+#[derive(Clone, Copy)]
+struct Lost;
+
+impl Gate for Lost {
+    fn before(&self, _lease: &Lease) -> Verdict {
+        Verdict::Lose
+    }
+
+    fn after(&self, _lease: &Lease, _settled: Settled) {}
+}
+
+/// Makes a study and tells of it, where each lease is worked at, or all are lost; false where there is no matrix.
 fn is_made<R: Threads + Wait + Sync>(
     rt: &R,
     alloc: Global,
     page: &Page<'_, R>,
     inputs: &Inputs<'_>,
     asked: Asked,
+    are_lost: bool,
 ) -> bool {
     let Some(settings) = settings_of(alloc, asked) else {
         return false;
@@ -156,9 +178,25 @@ fn is_made<R: Threads + Wait + Sync>(
         return false;
     }
     let report = Report::new(alloc, page, inputs);
-    let made = watch_study(rt, alloc, inputs, &settings, &report, &report).is_ok();
+    let made = if are_lost {
+        watch_study(rt, alloc, inputs, &settings, &Lost, &report).is_ok()
+    } else {
+        watch_study(rt, alloc, inputs, &settings, &report, &report).is_ok()
+    };
     report.ended();
     made
+}
+
+/// A page on which nothing is told yet.
+fn blank<R: Wait>(rt: &R, alloc: Global, asked: Asked) -> Page<'_, R> {
+    Page {
+        rt,
+        text: Mutex::new(Vec::new(alloc)),
+        clock: AtomicU64::new(asked.start),
+        step: asked.step,
+        terminal: asked.terminal,
+        free: asked.free,
+    }
 }
 
 /// That a study is made, and what is told of it.
@@ -169,17 +207,24 @@ fn expect<R: Threads + Wait + Sync + Abort>(
     asked: Asked,
     text: &[u8],
 ) {
-    let page = Page {
-        rt,
-        text: Mutex::new(Vec::new(alloc)),
-        clock: AtomicU64::new(0),
-        step: asked.step,
-        terminal: asked.terminal,
-        free: asked.free,
-    };
-    assert!(rt; is_made(rt, alloc, &page, inputs, asked));
+    let page = blank(rt, alloc, asked);
+    assert!(rt; is_made(rt, alloc, &page, inputs, asked, false));
     let told = page.text.into_inner();
     assert_eq!(rt; told.as_slice(), text);
+}
+
+/// Whether a study of the small feed is made, or lost with all its leases, and what is told of it ends so.
+fn ends<R: Threads + Wait + Sync>(
+    rt: &R,
+    alloc: Global,
+    asked: Asked,
+    are_lost: bool,
+    text: &[u8],
+) -> bool {
+    let page = blank(rt, alloc, asked);
+    let made = is_made(rt, alloc, &page, &small_inputs(), asked, are_lost);
+    let told = page.text.into_inner();
+    made != are_lost && told.as_slice().ends_with(text)
 }
 
 #[test]
@@ -221,7 +266,8 @@ fn a_date_without_trips_or_walks_is_warned_of(rt: HostRuntime) {
     };
     let asked = Asked {
         date: b"20260505",
-        days: 0,
+        back: 0,
+        ahead: 0,
         free: 41,
         ..MONDAY
     };
@@ -284,7 +330,8 @@ fn rows_of_scenarios_move_along_on_a_terminal(rt: HostRuntime) {
         ..small_inputs()
     };
     let asked = Asked {
-        days: 0,
+        back: 0,
+        ahead: 0,
         step: 100,
         terminal: true,
         ..MONDAY
@@ -316,6 +363,131 @@ ttm: rows done: 3 of 3
 ttm: time: 0:00:00
 ttm: bytes taken at most: 500
 ",
+    );
+}
+
+/// The small feed with a trip set aside and two transfers that aren't used.
+fn feed_with_leavings() -> FeedBytes<'static> {
+    FeedBytes {
+        trips: Some(b"route_id,service_id,trip_id\nR1,MON,T1\nR2,MON,T2\nR1,MON,T3\n"),
+        stop_times: Some(
+            b"trip_id,arrival_time,departure_time,stop_id,stop_sequence
+T1,08:00:00,08:00:00,A,1
+T1,08:10:00,08:10:00,B,2
+T2,08:15:00,08:15:00,B,1
+T2,08:30:00,08:30:00,C,2
+T3,09:00:00,09:00:00,,1
+",
+        ),
+        transfers: Some(b"from_stop_id,to_stop_id,transfer_type\nA,B,3\nB,A,3\n"),
+        ..small_inputs().feed
+    }
+}
+
+/// A scenario that shifts a trip by a minute.
+fn late(alloc: Global) -> Option<Vec<NamedFile>> {
+    let mut files = Vec::new(alloc);
+    files
+        .push(scenario_file(alloc, b"late", b"action,id,seconds\nshift_trip,T1,60\n")?)
+        .ok()?;
+    Some(files)
+}
+
+#[test]
+fn each_row_of_a_long_run_is_told(rt: HostRuntime) {
+    let alloc = rt.alloc();
+    let Some(files) = late(alloc) else {
+        assert!(rt; false);
+        return;
+    };
+    let inputs = Inputs {
+        feed: feed_with_leavings(),
+        origins: Some(b"stop_id\nB\nA\n"),
+        scenarios: files.as_slice(),
+        ..small_inputs()
+    };
+    let asked = Asked {
+        back: 2,
+        shares: &[25, 50],
+        start: 7_000_000,
+        step: 1_000_000,
+        free: 336,
+        ..MONDAY
+    };
+    expect(
+        &rt,
+        alloc,
+        &inputs,
+        asked,
+        b"ttm: stops: 3
+ttm: routes: 2
+ttm: trips: 3
+ttm: trips set aside: 1
+ttm: transfers not used: 2
+ttm: direct footpaths: 2
+ttm: origins: 2
+ttm: closed footpaths: 3
+ttm: runs on 2026-05-02: 0
+ttm: runs on 2026-05-03: 0
+ttm: runs on 2026-05-04: 2
+ttm: runs on 2026-05-05: 0
+ttm: runs in scenario base: 2
+ttm: runs in scenario late: 2
+ttm: rows: 4
+ttm: cells: 24
+ttm: bytes of the matrix and its text, about: 336
+ttm: bytes that the machine has free: 336
+ttm: rows done: 1 of 4, 25 percent, about 0:50:00 left
+ttm: rows done: 2 of 4, 50 percent, about 0:33:20 left
+ttm: rows done: 3 of 4, 75 percent, about 0:16:40 left
+ttm: rows done: 4 of 4, 100 percent, about 0:00:00 left
+ttm: rows done: 4 of 4
+ttm: time: 1:40:00
+ttm: bytes taken at most: 500
+",
+    );
+}
+
+#[test]
+fn lines_are_a_minute_apart(rt: HostRuntime) {
+    let sooner = Asked {
+        step: 59_999,
+        ..MONDAY
+    };
+    let later = Asked {
+        step: 60_000,
+        ..MONDAY
+    };
+    assert!(rt;
+        ends(
+            &rt,
+            rt.alloc(),
+            sooner,
+            false,
+            b"free: 1000\nttm: rows done: 1 of 1\nttm: time: 0:02:59\nttm: bytes taken at most: 500\n"
+        )
+    );
+    assert!(rt;
+        ends(
+            &rt,
+            rt.alloc(),
+            later,
+            false,
+            b"free: 1000\nttm: rows done: 1 of 1, 100 percent, about 0:00:00 left\nttm: rows done: 1 of 1\nttm: time: 0:03:00\nttm: bytes taken at most: 500\n"
+        )
+    );
+}
+
+#[test]
+fn rows_that_are_lost_are_not_done(rt: HostRuntime) {
+    assert!(rt;
+        ends(
+            &rt,
+            rt.alloc(),
+            MONDAY,
+            true,
+            b"free: 1000\nttm: rows done: 0 of 1\nttm: time: 0:02:02\nttm: bytes taken at most: 500\n"
+        )
     );
 }
 
