@@ -1,5 +1,6 @@
 //! What is told of faults that a study of the small feed has with one file changed. The texts are written by hand.
 
+use crate::advice::limit_of;
 use crate::explain::explanation;
 use crate::tests::{Asked, MONDAY, scenario_file, settings_of, small_inputs};
 use gtfs_tables::FeedBytes;
@@ -8,6 +9,7 @@ use std::process::Abort;
 use std::sync::Wait;
 use std::thread::Threads;
 use studies::{Inputs, run_study};
+use table_records::{FileName, What};
 use workers::Open;
 
 /// What is told of the fault of a study.
@@ -492,6 +494,52 @@ fn edits_that_are_refused(rt: HostRuntime) {
         b"action,seconds\nremove_trip,\n",
         "ttm: the header lacks column id; it has action, seconds\n",
     );
+}
+
+#[test]
+fn an_open_time_is_not_what_was_refused(rt: HostRuntime) {
+    let inputs = Inputs {
+        feed: FeedBytes {
+            stop_times: Some(
+                b"trip_id,arrival_time,departure_time,stop_id,stop_sequence\nT1,,8:00,A,1\n",
+            ),
+            ..small_inputs().feed
+        },
+        ..small_inputs()
+    };
+    expect(
+        &rt,
+        rt.alloc(),
+        &inputs,
+        MONDAY,
+        "ttm: column departure_time is \"8:00\"; a time is H:MM:SS, 0:00:00 to 167:59:59\n",
+    );
+}
+
+/// That this is the limit of a file.
+fn expect_limit(rt: &impl Abort, file: FileName, words: &'static str) {
+    assert!(rt; limit_of(file, What::TooMany) == Some(words));
+}
+
+#[test]
+fn files_have_their_limits(rt: HostRuntime) {
+    expect_limit(
+        &rt,
+        FileName::Stops,
+        "stops.txt may have 65535 records beside its header",
+    );
+    expect_limit(
+        &rt,
+        FileName::Trips,
+        "trips.txt may have 1000000 records beside its header",
+    );
+    expect_limit(
+        &rt,
+        FileName::StopTimes,
+        "stop_times.txt may have 8000000 records beside its header",
+    );
+    assert!(rt; limit_of(FileName::Trips, What::BadNumber).is_none());
+    assert!(rt; limit_of(FileName::Routes, What::TooMany).is_none());
 }
 
 #[test]
