@@ -154,8 +154,8 @@ fn is_as_expected(alloc: Global, feed: &Feed, expected: Expected<'_>) -> bool {
     }
 }
 
-// Whether the files are read, and a feed is as expected. One function owns the feeds of all tests, since letting go of one
-// is long to prove.
+// Whether the files are read, and a feed is as expected. One function owns the feeds of all tests, so that letting go
+// of one is proved once.
 fn gives(alloc: Global, files: FeedBytes<'static>, expected: Expected<'_>) -> bool {
     match feed_in(alloc, files) {
         Some(feed) => is_as_expected(alloc, &feed, expected),

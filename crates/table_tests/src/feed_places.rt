@@ -20,7 +20,7 @@ enum Expected {
     NoTransfers,
 }
 
-// Whether the files are read, and a feed is as expected. One function owns the feeds of all tests, since letting go of one is long to prove.
+// Whether the files are read, and a feed is as expected. One function owns the feeds of all tests, so that letting go of one is proved once.
 fn reads(alloc: Global, expected: Expected, files: FeedBytes<'static>) -> bool {
     match feed_in(alloc, files) {
         Some(feed) => is_as_expected(&feed, expected),

@@ -4,7 +4,7 @@
 //! - `calendar`, `calendar_dates`, `feed_trips`, `frequencies`, `places`, `routes`, `stop_times`, `transfers`: one file each; `sizes`: files at
 //!   their limits.
 //! - `feeds`, `feed_faults`, `feed_places`, `origins`: whole feeds (`test_feeds`), and an analyst's own files.
-//! - `test_identifiers`: what the files beside name.
+//! - `test_identifiers`: identifiers of trips, stops, routes and services, which several of these are read beside.
 #![tactic(auto)]
 
 #[cfg(test)]

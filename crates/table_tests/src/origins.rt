@@ -53,7 +53,7 @@ enum Expected<'a> {
     OpportunitiesFault(&'a [u8], FeedFault),
 }
 
-// Whether a file gives what is expected. One function owns the feeds of all tests, since letting go of one is long to prove.
+// Whether a file gives what is expected. One function owns the feeds of all tests, so that letting go of one is proved once.
 fn gives(alloc: Global, expected: Expected<'_>) -> bool {
     match feed_in(alloc, small_feed()) {
         Some(feed) => is_as_expected(alloc, &feed, expected),
