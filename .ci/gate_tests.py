@@ -22,6 +22,7 @@ from unittest import mock
 OWN = Path(__file__).resolve().parent
 sys.path.insert(0, str(OWN))
 import gate  # noqa: E402
+import names  # noqa: E402
 
 # what stands in for `rt`: it refuses each edit of LOWER that adds another number, and notes which crates it checks
 STAND_IN = """#!/bin/sh
@@ -306,6 +307,23 @@ class Time(WithStandIn):
         self.assertEqual(gate.counted(0, ["3 passed, 0 failed, 2 skipped"]), gate.Count(3, 0, 2))
         self.assertEqual(gate.counted(1, ["3 passed, 0 failed"]), gate.Count(3, 1))
         self.assertEqual(gate.counted(1, []), gate.Count(0, 1))
+
+
+class Names(unittest.TestCase):
+    """What the pages name is looked for in the sources."""
+
+    README = "# x\n\n## What is proved\n\n1. **Sums.** Added: `lower::bump`, `gone`.\n2. **Hopes.** `lower::bare`.\n\n## Else\n"
+    TABLE = "\n## Each promise\n\n| Crate | Function | Says |\n|---|---|---|\n| `lower` | `bump` | more |\n| | `lost`, `bare` | |\n\n## Else\n"
+
+    def test_what_is_not_there_or_has_no_contract_is_told(self) -> None:
+        with tempfile.TemporaryDirectory(prefix="ttm-gate-test-") as made:
+            repository = Repository(Path(made), {"lower": ""})
+            repository.write("crates/lower/src/lib.rt", LOWER + "\npub fn bare() {\n}\n")
+            repository.write("README.md", self.README)
+            repository.write("docs/ASSURANCE.md", self.TABLE)
+            wrong = [why for why, right in names.judged(Path(made)) if not right]
+        lost = ["README: lower has no gone", "ASSURANCE: lower has no lost"]
+        self.assertEqual(sorted(wrong), sorted(["README: 'Hopes' names no function with a contract", *lost]))
 
 
 class Prover(unittest.TestCase):
