@@ -50,7 +50,7 @@ def stops_of(path: str) -> list[str]:
 
 
 def first_origins(folder: str, count: int, all_of_them: bool = False) -> list[str]:
-    """The first of the folder's `origins.csv`, or else of its stops; with `all_of_them` also where those are too few."""
+    """The first of the folder's `origins.csv`, or else of its stops; with `all_of_them` also where it has too few."""
     own = stops_of(os.path.join(folder, "origins.csv"))
     enough = len(own) >= (count if all_of_them else 1)
     return (own if enough else stops_of(os.path.join(folder, "stops.txt")))[:count]
