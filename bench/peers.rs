@@ -1,11 +1,13 @@
-//! The textbook RAPTOR and the range RAPTOR of a folder of Rust peers, measured and told as `raptor.rs` does with its own.
+//! The textbook RAPTOR and the range RAPTOR of a folder of Rust peers, told as `raptor.rs` tells its own.
 //!
-//! `ratios.py --peers FOLDER` compiles it beside the folder's `src/net.rs` (its feeds and networks) and `src/scalar.rs` (its searches):
+//! `ratios.py --peers FOLDER` compiles it beside the folder's `src/net.rs` (its feeds and networks) and `src/scalar.rs`
+//! (its searches):
 //!
 //!     peers FOLDER YYYYMMDD HH:MM:SS MINUTES TRIPS WALK FOOTPATHS ORIGINS
 //!
-//! The peers read the unpacked feed, `footpaths.csv` and `origins.csv` from FOLDER, by the places of the columns that `feedgen.py` writes, and
-//! let each trip run: date, footpaths and origins of the words aren't read. The checksum of all durations is that of `raptor.rs`.
+//! The peers read the unpacked feed, `footpaths.csv` and `origins.csv` from FOLDER, by the places of the columns that
+//! `feedgen.py` writes, and let each trip run: date, footpaths and origins of the words aren't read. The checksum of
+//! all durations is that of `raptor.rs`.
 
 #![allow(dead_code)]
 mod net;
@@ -39,7 +41,8 @@ fn main() {
         eprintln!("usage: peers FOLDER YYYYMMDD HH:MM:SS MINUTES TRIPS WALK FOOTPATHS ORIGINS");
         std::process::exit(2);
     };
-    let (first, minutes, rides) = (net::time(time.as_bytes()), net::num(minutes.as_bytes()), net::num(rides.as_bytes()));
+    let first = net::time(time.as_bytes());
+    let (minutes, rides) = (net::num(minutes.as_bytes()), net::num(rides.as_bytes()));
     let feed = net::read(folder);
     let feet = net::close(feed.ids.len(), &feed.direct, net::num(walk.as_bytes()));
     let network = net::network(&feed, 0, 0, feet);
