@@ -1,29 +1,22 @@
 #!/usr/bin/env python3
-"""Writes the greatest feed that is allowed: 65,535 stops, 1,000,000 trips of 8 stop times, and footpaths whose chains of at most 600 seconds
-join 4,000,000 pairs of stops.
+"""Writes the greatest feed that is allowed: 65,535 stops, 1,000,000 trips of 8 stop times, and footpaths whose chains
+of at most 600 seconds join 4,000,000 pairs of stops.
 
     greatest.py FOLDER [--past stops|trips|stop_times|walks]      one more of these than may be
-    ttm --feed FOLDER --footpaths FOLDER/footpaths.csv --origins FOLDER/origins.csv --walk 600 --date 20260504 --back 0 --ahead 0 ..
+    ttm --feed FOLDER --footpaths FOLDER/footpaths.csv --origins FOLDER/origins.csv --walk 600 --date 20260504 \\
+        --back 0 --ahead 0 ..
 """
-import argparse
 import itertools
 import os
+from typing import Iterator
+
+from shared import DATE, clock, parser_of, write_lines
 
 STOPS, TRIPS, CALLS, PAIRS = 65_535, 1_000_000, 8, 4_000_000
 TRIPS_OF_A_LINE = 122
 
 
-def write(folder, name, header, rows):
-    with open(os.path.join(folder, name), "w", newline="") as out:
-        out.write(header + "\n")
-        out.writelines(row + "\n" for row in rows)
-
-
-def clock(seconds):
-    return "%02d:%02d:%02d" % (seconds // 3600, seconds // 60 % 60, seconds % 60)
-
-
-def group_sizes(pairs):
+def group_sizes(pairs: int) -> list[int]:
     """How many stops stand in each group, so that those of a group make so many pairs in all, one way each."""
     sizes = [62] * 1008 + [61] * 48 + [110, 1]
     short = pairs - sum(size * (size - 1) for size in sizes)
@@ -36,7 +29,7 @@ def group_sizes(pairs):
     return sizes
 
 
-def footpaths(pairs):
+def footpaths(pairs: int) -> Iterator[str]:
     """A ring of one second between neighbours in each group, both ways."""
     first = 0
     for size in group_sizes(pairs):
@@ -47,7 +40,7 @@ def footpaths(pairs):
         first += size
 
 
-def calls(trips):
+def calls(trips: int) -> Iterator[str]:
     """The stop times of trips in lines of their own stops, some minutes apart."""
     for trip in range(trips):
         line, run = divmod(trip, TRIPS_OF_A_LINE)
@@ -56,22 +49,25 @@ def calls(trips):
             yield "%d,%s,%s,%d,%d" % (trip, time, time, (line * 37 + k * 331) % STOPS, k)
 
 
-def main():
-    words = argparse.ArgumentParser(description=__doc__, formatter_class=argparse.RawDescriptionHelpFormatter)
+def main() -> None:
+    words = parser_of(__doc__)
     words.add_argument("folder")
     words.add_argument("--past", choices=["stops", "trips", "stop_times", "walks"])
-    given = words.parse_args()
-    folder, past = given.folder, given.past
+    asked = words.parse_args()
+    folder, past = asked.folder, asked.past
     os.makedirs(folder, exist_ok=True)
-    trips = TRIPS + (past == "trips")
-    write(folder, "stops.txt", "stop_id", map(str, range(STOPS + (past == "stops"))))
-    write(folder, "routes.txt", "route_id", ["R"])
-    write(folder, "calendar_dates.txt", "service_id,date,exception_type", ["D,20260504,1"])
-    write(folder, "trips.txt", "route_id,service_id,trip_id", ("R,D,%d" % trip for trip in range(trips)))
+    trips = ("R,D,%d" % trip for trip in range(TRIPS + (past == "trips")))
+    times = "trip_id,arrival_time,departure_time,stop_id,stop_sequence"
     more = ["0,28:00:00,28:00:00,0,9"] if past == "stop_times" else []
-    write(folder, "stop_times.txt", "trip_id,arrival_time,departure_time,stop_id,stop_sequence", itertools.chain(calls(TRIPS), more))
-    write(folder, "footpaths.csv", "from_stop_id,to_stop_id,seconds", footpaths(PAIRS + 2 * (past == "walks")))
-    write(folder, "origins.csv", "stop_id", ["0"])
+    walks = footpaths(PAIRS + 2 * (past == "walks"))
+    write_lines(folder, "stops.txt", "stop_id", map(str, range(STOPS + (past == "stops"))))
+    write_lines(folder, "routes.txt", "route_id", ["R"])
+    write_lines(folder, "calendar_dates.txt", "service_id,date,exception_type", ["D,%s,1" % DATE])
+    write_lines(folder, "trips.txt", "route_id,service_id,trip_id", trips)
+    write_lines(folder, "stop_times.txt", times, itertools.chain(calls(TRIPS), more))
+    write_lines(folder, "footpaths.csv", "from_stop_id,to_stop_id,seconds", walks)
+    write_lines(folder, "origins.csv", "stop_id", ["0"])
 
 
-main()
+if __name__ == "__main__":
+    main()

@@ -1,24 +1,27 @@
 #!/usr/bin/env python3
-"""Hostile use of the built program: each growth of memory, start of a thread, open, read and write refused in turn; one byte at a time; each
-file cut short after every byte.
+"""Hostile use of the built program: each growth of memory, start of a thread, open, read and write refused in turn;
+one byte at a time; each file cut short after every byte.
 
     hostile.py PROGRAM [GROWTH_TRIALS]
 
-Over four small studies, the last of several shares and limits: the text of the matrix comes whole and right, or a line and the status that
-belong to what was refused, and nothing else. With the built program of crates/growth_trials each public call that takes memory is refused
-each growth in turn, too: it gives the right value, or tells want of memory and gives it when made again. What it tried is counted, and the
-last line is 'N passed, M failed'. It wants a C compiler (`cc`), which builds bench/refuse.c. Standard library only.
+Over four small studies, the last of several shares and limits: the text of the matrix comes whole and right, or a line
+and the status that belong to what was refused, and nothing else. With the built program of crates/growth_trials each
+public call that takes memory is refused each growth in turn, too: it gives the right value, or tells want of memory and
+gives it when made again. What it tried is counted, and the last line is 'N passed, M failed'. It wants a C compiler
+(`cc`), which builds bench/refuse.c. Standard library only.
 """
 import io
+import itertools
 import os
 import re
 import subprocess
 import sys
 import tempfile
 from pathlib import Path
+from typing import Mapping, Optional, Sequence
 
-sys.path.insert(0, os.path.dirname(os.path.abspath(__file__)))
 import plain
+from shared import HERE
 
 FILES = {
     "stops.txt": "stop_id,stop_name,location_type,parent_station\nA,Alpha,,\nB,Beta,0,S\nC,Gamma,,\nS,Square,1,\n",
@@ -39,7 +42,8 @@ FILES = {
 }
 ASKED = "--feed . --date 20260504 --from 08:00 --to 08:00 --trips 2 --walk 300 --share 50 --within 1800 --tries 2"
 OWN = "--footpaths walks.csv --opportunities chances.csv --origins origins.csv"
-SEVERAL = ASKED.replace("--share 50 --within 1800", "--share 1,25,50,75,100 --within 700,1800").replace("--from 08:00 --to 08:00", "--from 07:58 --to 08:01")
+SHARES = ASKED.replace("--share 50 --within 1800", "--share 1,25,50,75,100 --within 700,1800")
+SEVERAL = SHARES.replace("--from 08:00 --to 08:00", "--from 07:58 --to 08:01")
 # the words of each study
 STUDIES = [
     f"{ASKED} --workers 1 cut.csv late.csv",
@@ -55,41 +59,60 @@ NOT_WRITTEN = (5, r"ttm: write fault\n")
 # what may be told where something is refused
 TOLD = {"growth": NO_MEMORY, "start": NO_MEMORY, "open": NOT_READ, "read": NOT_READ, "write": NOT_WRITTEN}
 
+Answer = tuple[int, str, str]  # a status and both outputs
+
 
 class Trial:
     """The program in a folder of small files."""
 
-    def __init__(self, program, room):
+    def __init__(self, program: str, room: str) -> None:
         self.program, self.room, self.passed, self.failed = os.path.abspath(program), Path(room), 0, 0
         self.library = str(self.room / "refuse.so")
-        source = os.path.join(os.path.dirname(os.path.abspath(__file__)), "refuse.c")
+        source = os.path.join(HERE, "refuse.c")
         subprocess.run(["cc", "-O2", "-shared", "-fPIC", "-o", self.library, source], check=True)
         self.folder = self.room / "feed"
         self.folder.mkdir()
         for name, text in FILES.items():
             (self.folder / name).write_text(text)
 
-    def run(self, words, program=None, **more):
+    def run(
+        self,
+        words: Sequence[str],
+        program: Optional[str] = None,
+        environment: Optional[Mapping[str, str]] = None,
+        handles: Sequence[int] = (),
+    ) -> Answer:
         """The status and both outputs, of the program or of another one."""
-        ran = subprocess.run([program or self.program, *words], cwd=self.folder, capture_output=True, timeout=120, **more)
+        ran = subprocess.run(
+            [program or self.program, *words],
+            cwd=self.folder,
+            env=environment,
+            pass_fds=handles,
+            capture_output=True,
+            timeout=120,
+        )
         return ran.returncode, ran.stdout.decode(), ran.stderr.decode()
 
-    def run_refused(self, words, what, number, program=None, **more):
-        """The same where one call is refused, and whether it came to that."""
+    def run_refused(
+        self, words: Sequence[str], what: str, number: int, program: Optional[str] = None, slow: bool = False
+    ) -> tuple[Answer, bool]:
+        """The same where one call is refused, and whether it came to that; slow: by one byte at a time."""
         ours, its = os.pipe()
-        refusal = {**os.environ, "LD_PRELOAD": self.library, "REFUSE": f"{what}:{number}", "REFUSE_FD": str(its), **more}
-        answer = self.run(words, program, env=refusal, pass_fds=[its])
+        refusal = {**os.environ, "LD_PRELOAD": self.library, "REFUSE": f"{what}:{number}", "REFUSE_FD": str(its)}
+        if slow:
+            refusal["ONE_BYTE"] = "1"
+        answer = self.run(words, program, refusal, [its])
         os.close(its)
         with os.fdopen(ours, "rb") as told:
             return answer, told.read() != b""
 
-    def judge(self, what, right, answer):
+    def judge(self, what: str, right: bool, answer: Answer) -> None:
         self.passed += right
         self.failed += not right
         if not right:
             print(f"wrong: {what}: status {answer[0]}, told {answer[2]!r}\n{answer[1]}", flush=True)
 
-    def matrix(self, words):
+    def matrix(self, words: Sequence[str]) -> Optional[str]:
         """What the plain second program gives; none where it can't read the files."""
         text, here = io.StringIO(), os.getcwd()
         os.chdir(self.folder)
@@ -101,41 +124,46 @@ class Trial:
         finally:
             os.chdir(here)
 
-    def refuse_each(self, words, what, **more):
+    def refuse_each(self, words: Sequence[str], what: str, slow: bool = False) -> int:
         """Refuses the first call of a kind, the second, and so on, until a run has fewer; gives how many there were."""
         wanted, (status, line) = self.matrix(words), TOLD[what]
-        for number in range(1, 1_000_000):
-            answer, came = self.run_refused(words, what, number, **more)
+        assert wanted is not None
+        for number in itertools.count(1):
+            answer, came = self.run_refused(words, what, number, slow=slow)
             if not came:
                 self.judge(f"{what} {number}, none refused", answer == (0, wanted, ""), answer)
-                return number - 1
+                break
             short = answer[0] == status and re.fullmatch(line, answer[2]) and wanted.startswith(answer[1])
-            self.judge(f"{what} {number} refused", answer == (0, wanted, "") or bool(short and (what == "write" or not answer[1])), answer)
+            right = answer == (0, wanted, "") or bool(short and (what == "write" or not answer[1]))
+            self.judge(f"{what} {number} refused", right, answer)
+        return number - 1
 
-    def refuse_call(self, program, name):
-        """Refuses a trial of growth_trials its first growth, its second, and so on, until a run has fewer; gives how many there were once its
-        inputs were made, and of how many of them the call told."""
+    def refuse_call(self, program: str, name: str) -> tuple[int, int]:
+        """Refuses a trial of growth_trials its first growth, its second, and so on, until a run has fewer; gives how
+        many there were once its inputs were made, and of how many of them the call told."""
         right, again = (0, f"{name}: right\n", ""), (0, f"{name}: refused, and right when asked again\n", "")
         growths = told = 0
-        for number in range(1, 1_000_000):
+        for number in itertools.count(1):
             answer, came = self.run_refused([name], "growth", number, program)
             if not came:
                 self.judge(f"{name}: growth {number}, none refused", answer == right, answer)
-                return growths, told
+                break
             if answer not in ((0, "inputs\n", ""), (0, f"{name}: inputs\n", "")):
                 self.judge(f"{name}: growth {number} refused", answer in (right, again), answer)
                 growths, told = growths + 1, told + (answer == again)
+        return growths, told
 
-    def refuse_calls(self, program):
+    def refuse_calls(self, program: str) -> None:
         """The same for each trial, one after another."""
         answer = self.run([], program)
         names = [line.rpartition(": ")[0] for line in answer[1].splitlines()]
-        self.judge("all calls, none refused", bool(names) and answer == (0, "".join(f"{name}: right\n" for name in names), ""), answer)
+        right = bool(names) and answer == (0, "".join(f"{name}: right\n" for name in names), "")
+        self.judge("all calls, none refused", right, answer)
         for name in names:
             growths, told = self.refuse_call(program, name)
             print(f"call {name}: {growths} growths refused in turn, of which it told {told}", flush=True)
 
-    def cut_each(self, words):
+    def cut_each(self, words: Sequence[str]) -> tuple[int, int]:
         """Cuts each file short after every byte; gives how many prefixes there were, and how many were accepted."""
         tried = accepted = 0
         for name, text in FILES.items():
@@ -150,7 +178,7 @@ class Trial:
         return tried, accepted
 
 
-def main():
+def main() -> int:
     if len(sys.argv) not in (2, 3):
         sys.exit("usage: hostile.py PROGRAM [GROWTH_TRIALS]")
     with tempfile.TemporaryDirectory(prefix="ttm-hostile-") as room:
@@ -158,8 +186,9 @@ def main():
         for number, study in enumerate(STUDIES, 1):
             words = study.split()
             counts = [f"{trial.refuse_each(words, what)} of {what}" for what in TOLD]
-            slow = [f"{trial.refuse_each(words, what, ONE_BYTE='1')} of {what}" for what in ("read", "write")]
-            print(f"study {number}: refused in turn: {', '.join(counts)}; one byte at a time: {', '.join(slow)}", flush=True)
+            slow = [f"{trial.refuse_each(words, what, slow=True)} of {what}" for what in ("read", "write")]
+            told = f"study {number}: refused in turn: {', '.join(counts)}; one byte at a time: {', '.join(slow)}"
+            print(told, flush=True)
         tried, accepted = trial.cut_each(STUDIES[2].split())
         print(f"prefixes: {tried}, of which {accepted} were accepted", flush=True)
         if len(sys.argv) == 3:

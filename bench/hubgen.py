@@ -5,33 +5,29 @@ many others, so that every pair of stops is joined through the hub.
     hubgen.py FOLDER [STOPS]      1,974 stops beside the hub by default: 3,898,650 pairs within 120 seconds
     ttm --feed FOLDER --footpaths FOLDER/footpaths.csv --origins FOLDER/origins.csv --walk 120 --date 20260504 ..
 """
-import argparse
 import os
 
-
-def write(folder, name, header, rows):
-    with open(os.path.join(folder, name), "w", newline="") as out:
-        out.write(header + "\n")
-        out.writelines(row + "\n" for row in rows)
+from shared import DATE, parser_of, write_lines
 
 
-def main():
-    words = argparse.ArgumentParser(description=__doc__, formatter_class=argparse.RawDescriptionHelpFormatter)
+def main() -> None:
+    words = parser_of(__doc__)
     words.add_argument("folder")
     words.add_argument("stops", nargs="?", type=int, default=1974)
-    given = words.parse_args()
-    folder, stops = given.folder, given.stops
+    asked = words.parse_args()
+    folder = asked.folder
     os.makedirs(folder, exist_ok=True)
-    names = ["S%d" % i for i in range(stops)]
-    write(folder, "stops.txt", "stop_id", ["HUB"] + names)
-    write(folder, "routes.txt", "route_id", ["R"])
-    write(folder, "calendar_dates.txt", "service_id,date,exception_type", ["D,20260504,1"])
-    write(folder, "trips.txt", "route_id,service_id,trip_id", [])
-    write(folder, "stop_times.txt", "trip_id,stop_id,stop_sequence", [])
-    there = ["HUB,%s,60" % n for n in names]
-    back = ["%s,HUB,60" % n for n in names]
-    write(folder, "origins.csv", "stop_id", ["HUB"])
-    write(folder, "footpaths.csv", "from_stop_id,to_stop_id,seconds", there + back)
+    names = ["S%d" % number for number in range(asked.stops)]
+    write_lines(folder, "stops.txt", "stop_id", ["HUB"] + names)
+    write_lines(folder, "routes.txt", "route_id", ["R"])
+    write_lines(folder, "calendar_dates.txt", "service_id,date,exception_type", ["D,%s,1" % DATE])
+    write_lines(folder, "trips.txt", "route_id,service_id,trip_id", [])
+    write_lines(folder, "stop_times.txt", "trip_id,stop_id,stop_sequence", [])
+    there = ["HUB,%s,60" % name for name in names]
+    back = ["%s,HUB,60" % name for name in names]
+    write_lines(folder, "origins.csv", "stop_id", ["HUB"])
+    write_lines(folder, "footpaths.csv", "from_stop_id,to_stop_id,seconds", there + back)
 
 
-main()
+if __name__ == "__main__":
+    main()

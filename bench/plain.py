@@ -1,8 +1,8 @@
 #!/usr/bin/env python3
 """A plain second program: the same matrix as `ttm`, from the definitions, without any of its code or its speed.
 
-It takes the options of `ttm` (workers and tries are ignored) and prints the matrix, so that both can be compared byte by byte
-on a feed of a town's size:
+It takes the options of `ttm` (workers and tries are ignored) and prints the matrix, so that both can be compared byte
+by byte on a feed of a town's size:
 
     plain.py --feed DIR --date 20260504 --from 08:00 --to 08:04 --trips 3 --walk 300 --share 50,90 --within 900,1800 \\
         --origins origins.csv --footpaths walks.csv cut.csv late.csv | cmp - matrix.csv
@@ -16,95 +16,129 @@ import datetime
 import heapq
 import os
 import sys
+from typing import Iterable, NamedTuple, Optional, Sequence, TextIO, cast
 
 NEVER = 10**9
 DAY = 86400
 WEEKDAYS = ["monday", "tuesday", "wednesday", "thursday", "friday", "saturday", "sunday"]
-Event = collections.namedtuple("Event", "stop arrive depart board alight")
+
+Row = dict[str, str]
+Pair = tuple[int, int]  # of two times; of two stops; or of a stop and a time
+Feet = list[list[Pair]]  # of each stop the others that one walks to, each with the seconds
 
 
-def rows(path):
+class Event(NamedTuple):
+    stop: int
+    arrive: int
+    depart: int
+    board: bool
+    alight: bool
+
+
+def rows(path: str) -> list[Row]:
     if not os.path.exists(path):
         return []
     with open(path, newline="", encoding="utf-8-sig") as file:
         return list(csv.DictReader(file))
 
 
-def seconds(text):
+def seconds(text: str) -> int:
     hours, minutes, rest = text.strip().split(":")
     return int(hours) * 3600 + int(minutes) * 60 + int(rest)
 
 
-def number(row, column):
+def number(row: Row, column: str) -> int:
     return int((row.get(column) or "").strip() or 0)
 
 
-def times_of(calls):
-    """Both times of each record of a trip: one gives the other, and where there is none it lies evenly between those around it."""
-    times = []
+def times_of(calls: Sequence[Row]) -> list[Pair]:
+    """Both times of each record of a trip: one gives the other; without any it lies evenly between those around it."""
+    times: list[Optional[Pair]] = []
     for r in calls:
         arrive, depart = ((r.get(kind + "_time") or "").strip() for kind in ("arrival", "departure"))
         times.append((seconds(arrive or depart), seconds(depart or arrive)) if arrive or depart else None)
     for at in [at for at, time in enumerate(times) if time is None]:
         before = max(k for k in range(at) if calls[k]["arrival_time"].strip() or calls[k]["departure_time"].strip())
-        after = min(k for k in range(at, len(calls)) if calls[k]["arrival_time"].strip() or calls[k]["departure_time"].strip())
-        leaves, reaches = times[before][1], times[after][0]
+        after = min(
+            k for k in range(at, len(calls)) if calls[k]["arrival_time"].strip() or calls[k]["departure_time"].strip()
+        )
+        leaves, reaches = cast(Pair, times[before])[1], cast(Pair, times[after])[0]
         between = leaves + (reaches - leaves) * (at - before) // (after - before)
         times[at] = (between, between)
-    return times
+    return cast(list[Pair], times)
 
 
 class Feed:
-    def __init__(self, folder):
+    """What the files of a feed say."""
+
+    def __init__(self, folder: str) -> None:
         self.folder = folder
         places = rows(self.path("stops.txt"))
         self.kind = {r["stop_id"]: number(r, "location_type") for r in places}
         self.stops = [r["stop_id"] for r in places if self.kind[r["stop_id"]] == 0]
         self.stop_no = {stop: n for n, stop in enumerate(self.stops)}
-        self.children = collections.defaultdict(list)
+        self.children: dict[str, list[str]] = collections.defaultdict(list)
         for r in places:
             if self.kind[r["stop_id"]] == 0 and self.kind.get(r.get("parent_station") or "") == 1:
                 self.children[r["parent_station"]].append(r["stop_id"])
         self.calendar = rows(self.path("calendar.txt"))
         self.exceptions = rows(self.path("calendar_dates.txt"))
         self.trips = rows(self.path("trips.txt"))
-        calls = collections.defaultdict(list)
+        calls: dict[str, list[Row]] = collections.defaultdict(list)
         for r in sorted(rows(self.path("stop_times.txt")), key=lambda r: int(r["stop_sequence"])):
             calls[r["trip_id"]].append(r)
-        self.events = collections.defaultdict(list, {trip: self.events_of(c) for trip, c in calls.items()})
-        self.headways = collections.defaultdict(list)
+        self.events: dict[str, list[Event]] = collections.defaultdict(list)
+        self.events.update({trip: self.events_of(c) for trip, c in calls.items()})
+        self.headways: dict[str, list[tuple[int, int, int]]] = collections.defaultdict(list)
         for r in rows(self.path("frequencies.txt")):
-            self.headways[r["trip_id"]].append((seconds(r["start_time"]), seconds(r["end_time"]), int(r["headway_secs"])))
+            headway = (seconds(r["start_time"]), seconds(r["end_time"]), int(r["headway_secs"]))
+            self.headways[r["trip_id"]].append(headway)
 
-    def path(self, name):
+    def path(self, name: str) -> str:
         return os.path.join(self.folder, name)
 
-    def events_of(self, calls):
+    def events_of(self, calls: Sequence[Row]) -> list[Event]:
         """The events of a trip; a trip with a record that names no stop has none."""
         if any(not r["stop_id"] for r in calls):
             return []
-        return [Event(self.stop_no[r["stop_id"]], arrive, depart, number(r, "pickup_type") != 1, number(r, "drop_off_type") != 1)
-                for r, (arrive, depart) in zip(calls, times_of(calls))]
+        return [
+            Event(
+                self.stop_no[r["stop_id"]],
+                arrive,
+                depart,
+                board=number(r, "pickup_type") != 1,
+                alight=number(r, "drop_off_type") != 1,
+            )
+            for r, (arrive, depart) in zip(calls, times_of(calls))
+        ]
 
-    def runs_on(self, service, date):
-        """Whether a service runs on a date: it is added; or a row covers the date on its weekday, and it isn't removed."""
+    def runs_on(self, service: str, date: datetime.date) -> bool:
+        """Whether a service runs on a date: it is added; or a row covers the date and weekday, and it isn't removed."""
         text = date.strftime("%Y%m%d")
         said = [int(r["exception_type"]) for r in self.exceptions if (r["service_id"], r["date"]) == (service, text)]
-        covered = any(r["service_id"] == service and r["start_date"] <= text <= r["end_date"]
-                      and int(r[WEEKDAYS[date.weekday()]]) == 1 for r in self.calendar)
+        covered = any(
+            r["service_id"] == service
+            and r["start_date"] <= text <= r["end_date"]
+            and int(r[WEEKDAYS[date.weekday()]]) == 1
+            for r in self.calendar
+        )
         return 1 in said or (covered and 2 not in said)
 
-    def ends(self, place):
+    def ends(self, place: str) -> list[str]:
         """The stops that an end of a walk stands for."""
         return {0: [place], 1: self.children[place]}.get(self.kind[place], [])
 
-    def transfers(self):
+    def transfers(self) -> list[Row]:
         """The rows of transfers.txt that state a time for all routes and trips."""
-        return [r for r in rows(self.path("transfers.txt"))
-                if number(r, "transfer_type") <= 2 and (r.get("min_transfer_time") or "").strip()
-                and not any(r.get(way + kind) for way in ("from_", "to_") for kind in ("route_id", "trip_id"))]
+        return [
+            r
+            for r in rows(self.path("transfers.txt"))
+            if number(r, "transfer_type") <= 2
+            and (r.get("min_transfer_time") or "").strip()
+            and not any(r.get(way + kind) for way in ("from_", "to_") for kind in ("route_id", "trip_id"))
+        ]
 
-    def change_times(self):
+    def change_times(self) -> list[int]:
         """Of each stop the greatest time that a row of type 2 states from it, or from its station, to itself."""
         changes = [0] * len(self.stops)
         for r in self.transfers():
@@ -113,9 +147,9 @@ class Feed:
                     changes[self.stop_no[stop]] = max(changes[self.stop_no[stop]], int(r["min_transfer_time"]))
         return changes
 
-    def direct_footpaths(self, own):
+    def direct_footpaths(self, own: Optional[str]) -> dict[Pair, int]:
         """The least seconds of each pair of different stops that a row gives."""
-        least = {}
+        least: dict[Pair, int] = {}
         walks = [(r["from_stop_id"], r["to_stop_id"], r["min_transfer_time"]) for r in self.transfers()]
         walks += [(r["from_stop_id"], r["to_stop_id"], r["seconds"]) for r in (rows(own) if own else [])]
         for origin, target, time in walks:
@@ -127,9 +161,9 @@ class Feed:
         return least
 
 
-def closed_footpaths(stops, direct, limit):
+def closed_footpaths(stops: int, direct: dict[Pair, int], limit: int) -> Feet:
     """For each stop the others within the limit, each with the least sum over chains."""
-    leaving = collections.defaultdict(list)
+    leaving: dict[int, list[Pair]] = collections.defaultdict(list)
     for (a, b), time in direct.items():
         leaving[a].append((b, time))
     closed = []
@@ -145,9 +179,10 @@ def closed_footpaths(stops, direct, limit):
     return closed
 
 
-def network(feed, options, scenario):
+def network(feed: Feed, options: argparse.Namespace, scenario: Optional[str]) -> list[list[Event]]:
     """The events of each run that the scenario keeps, on the axis of times."""
-    removed, shifts = set(), collections.Counter()
+    removed: set[tuple[str, str]] = set()
+    shifts: dict[str, int] = collections.Counter()
     for r in rows(scenario) if scenario else []:
         if r["action"] == "shift_trip":
             shifts[r["id"]] += int(r["seconds"])
@@ -174,7 +209,7 @@ def network(feed, options, scenario):
     return runs
 
 
-def walked(ride, stayed, feet):
+def walked(ride: list[int], stayed: list[int], feet: Feet) -> list[int]:
     """The times after at most one walk from where rides ended; who doesn't walk has those of `stayed`."""
     times = stayed[:]
     for stop, time in enumerate(ride):
@@ -184,7 +219,9 @@ def walked(ride, stayed, feet):
     return times
 
 
-def durations(runs, feet, changes, origin, departure, rides):
+def durations(
+    runs: list[list[Event]], feet: Feet, changes: Sequence[int], origin: int, departure: int, rides: int
+) -> list[Optional[int]]:
     """The least duration to each stop over journeys of at most so many rides."""
     ride = [NEVER] * len(feet)
     ride[origin] = departure
@@ -202,23 +239,25 @@ def durations(runs, feet, changes, origin, departure, rides):
     return [time - departure if time < NEVER else None for time in walked(ride, ride, feet)]
 
 
-def cell(times, share):
+def cell(times: Sequence[Optional[int]], share: int) -> Optional[int]:
     """The least duration that the share of all minutes attains."""
     reached = sorted(t for t in times if t is not None)
     rank = -(-share * len(times) // 100)
     return reached[rank - 1] if rank <= len(reached) else None
 
 
-def access_of(cells, stops, counts, limit):
+def access_of(
+    cells: Iterable[Optional[int]], stops: Iterable[str], counts: Optional[dict[str, int]], limit: int
+) -> int:
     """The opportunities at the stops whose cell is within the limit, one at each where there are no counts."""
     near = [s for s, c in zip(stops, cells) if c is not None and c <= limit]
     return len(near) if counts is None else sum(counts.get(s, 0) for s in near)
 
 
-def options(words):
+def options(words: Sequence[str]) -> argparse.Namespace:
     parser = argparse.ArgumentParser(usage=__doc__)
-    for name in ["feed", "date", "from", "to", "trips", "walk", "share", "within", "workers", "tries", "back", "ahead",
-                 "origins", "opportunities", "footpaths"]:
+    names = ["feed", "date", "from", "to", "trips", "walk", "share", "within", "workers", "tries", "back", "ahead"]
+    for name in names + ["origins", "opportunities", "footpaths"]:
         parser.add_argument("--" + name, default="1" if name in ("back", "ahead") else None)
     parser.add_argument("scenario", nargs="*")
     chosen = parser.parse_args(words)
@@ -232,7 +271,7 @@ def options(words):
     return chosen
 
 
-def write_matrix(words, file):
+def write_matrix(words: Sequence[str], file: TextIO) -> None:
     """Writes the matrix that these words ask for."""
     asked = options(words)
     feed = Feed(asked.feed)

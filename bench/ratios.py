@@ -1,94 +1,176 @@
 #!/usr/bin/env python3
-"""Times the least durations of `ttm` beside textbook RAPTOR and range RAPTOR, in turns, and prints a Markdown table with a row for each feed.
+"""Times the least durations of `ttm` beside textbook RAPTOR and range RAPTOR, in turns, and prints a Markdown table
+with a row for each feed.
 
     ratios.py [--times N] [--origins N] [--minutes N] [--trips N] [--walk SECONDS] FOLDER ..
+    ratios.py --peers FOLDER --beside MEASURE --origins origins500.csv --first 200 FOLDER ..
 
-Each folder holds an unpacked feed, and may have `footpaths.csv` and `origins.csv` (else the first stops are the origins). All three compute the
-same: departures each minute from 07:00, on one service day, one thread. `bench/raptor.rs` is compiled by rustc for the processor that
-Rattle compiles for; `ttm`'s part is `measure durations`, so `rt run` in crates/measure comes first. Each origin's time is the least of the
-runs, and a feed's is the mean over its origins, in milliseconds. Where the sums of all durations differ, the script fails.
-Standard library only.
+Each folder holds an unpacked feed, and may have `footpaths.csv` and `origins.csv` (else the first stops are the
+origins). All compute the same: departures each minute from 07:00, on one service day, one thread. `bench/raptor.rs` is
+compiled by rustc for the processor that Rattle compiles for; `ttm`'s part is `measure durations`, so `rt run` in
+crates/measure comes first. With --peers a folder of Rust peers is measured, too: its textbook RAPTOR `a` and its range
+RAPTOR `b`, over feeds of `feedgen.py`; with --beside the `measure` that another commit built. Each origin's time is the
+least of the runs, and a feed's is the mean over its origins, in milliseconds. Where the sums of all durations differ,
+the script fails. Standard library only.
 """
-import argparse
-import csv
 import os
 import re
+import shutil
 import subprocess
 import sys
 import tempfile
+from dataclasses import dataclass
+from typing import Optional, Sequence
 
-HERE = os.path.dirname(os.path.abspath(__file__))
-MEASURE = os.path.join(HERE, "..", "crates", "measure", "out", "measure")
-NAMES = ["textbook", "range", "durations"]
+from shared import DATE, HERE, built, first_origins, name_of, parser_of, print_head, print_row, stops_of, there
+from shared import write_lines, write_origins
 
+OWN = "durations"  # what `measure` calls its part
+BESIDE = "beside"
+COUNT = 10
 
-def write_origins(folder, count, path):
-    """Writes the first origins of a feed, and returns how many there are."""
-    own = os.path.join(folder, "origins.csv")
-    with open(own if os.path.exists(own) else os.path.join(folder, "stops.txt"), newline="", encoding="utf-8-sig") as file:
-        stops = [row["stop_id"] for row in csv.DictReader(file) if (row.get("location_type") or "").strip() in ("", "0")]
-    with open(path, "w", newline="", encoding="utf-8") as file:
-        out = csv.writer(file, lineterminator="\n")
-        out.writerows([["stop_id"]] + [[stop] for stop in stops[:count]])
-    return len(stops[:count])
+Millis = dict[str, list[float]]  # of each origin, by the names of the algorithms
 
 
-def run(words):
-    """The milliseconds of each origin and the sums of all durations, by the names of the algorithms."""
-    text = subprocess.run(words, stdout=subprocess.PIPE, text=True, check=True).stdout
-    millis, sums = {}, {}
-    for name, unit, time in re.findall(r"^(\w+), origin \d+, (ms|us): ([\d.]+)$", text, re.M):
-        millis.setdefault(name, []).append(float(time) / (1 if unit == "ms" else 1000))
-    for name, made in re.findall(r"^(\w+), checksum: (\d+)$", text, re.M):
-        sums[name] = made
-    return millis, sums
+@dataclass(frozen=True)
+class Asked:
+    """What the command line asks for."""
+
+    times: int
+    origins: str  # how many, or a file
+    first: Optional[int]
+    minutes: int
+    trips: int
+    walk: int  # seconds
+    date: str
+    peers: Optional[str]
+    beside: Optional[str]
+    folder: list[str]
+
+    def origins_of(self, folder: str) -> list[str]:
+        """The identifiers of the stops from which a feed's durations are computed."""
+        if self.origins.isdecimal():
+            return first_origins(folder, int(self.origins))[: self.first]
+        paths = [path for path in (os.path.join(folder, self.origins), self.origins) if os.path.exists(path)]
+        if not paths:
+            sys.exit("%s: no such file, in %s or by itself" % (self.origins, folder))
+        return stops_of(paths[0])[: self.first or COUNT]
 
 
-def least(runs):
+@dataclass(frozen=True)
+class Program:
+    """A program that prints the milliseconds of each origin and a sum, and what stands for the names that it prints."""
+
+    words: list[str]
+    names: dict[str, str]  # by the printed names, in the order of the columns
+
+    def run(self, words: Sequence[str]) -> tuple[Millis, dict[str, str]]:
+        """The milliseconds of each origin and the sums of all durations."""
+        text = subprocess.run([*self.words, *words], stdout=subprocess.PIPE, text=True, check=True).stdout
+        millis: Millis = {}
+        for name, unit, time in re.findall(r"^(\w+), origin \d+, (ms|us): ([\d.]+)$", text, re.M):
+            millis.setdefault(self.names[name], []).append(float(time) / (1 if unit == "ms" else 1000))
+        sums = re.findall(r"^(\w+), checksum: (\d+)$", text, re.M)
+        return millis, {self.names[name]: made for name, made in sums}
+
+
+def compiled(source: str, program: str, *more: str) -> str:
+    """Compiles a Rust program for the processor that Rattle compiles for."""
+    words = ["rustc", "--edition", "2021", "-C", "codegen-units=1", "-C", "target-cpu=x86-64-v2", *more]
+    subprocess.run([*words, source, "-o", program], check=True)
+    return program
+
+
+def compiled_peers(folder: str, place: str) -> str:
+    """Compiles `peers.rs` beside the modules of a folder of peers."""
+    sources = os.path.join(place, "sources")
+    os.mkdir(sources)
+    main = shutil.copy(os.path.join(HERE, "peers.rs"), sources)
+    for name in ("net.rs", "scalar.rs"):
+        shutil.copy(os.path.join(folder, "src", name), sources)
+    flags = ["-C", "opt-level=3", "-C", "lto=fat", "-C", "panic=abort", "-A", "warnings"]
+    return compiled(main, os.path.join(place, "peers"), *flags)
+
+
+def programs_of(asked: Asked, place: str) -> list[Program]:
+    """All that is run in turns; `ttm`'s own part comes last."""
+    own = built("measure")
+    raptor = compiled(os.path.join(HERE, "raptor.rs"), os.path.join(place, "raptor"), "-O")
+    programs = [Program([raptor], {"textbook": "textbook", "range": "range"})]
+    if asked.peers:
+        programs.append(Program([compiled_peers(asked.peers, place)], {"a": "a", "b": "b"}))
+    if asked.beside:
+        programs.append(Program([os.path.abspath(asked.beside), OWN], {OWN: BESIDE}))
+    return programs + [Program([own, OWN], {OWN: "ttm"})]
+
+
+def least(runs: Sequence[Millis]) -> dict[str, float]:
     """The mean over the origins of the least time of each, by the names of the algorithms."""
-    best = {}
+    best: Millis = {}
     for millis in runs:
         for name, times in millis.items():
             best[name] = [min(it) for it in zip(times, best.get(name, times))]
     return {name: sum(times) / len(times) for name, times in best.items()}
 
 
-def row_of(folder, asked, raptor, origins):
-    count = write_origins(folder, asked.origins, origins)
-    walks = os.path.join(folder, "footpaths.csv")
-    words = [folder, asked.date, "07:00:00", str(asked.minutes), str(asked.trips), str(asked.walk), walks if os.path.exists(walks) else "-", origins]
-    runs, sums = [], {}
+def linked(folder: str, origins: Sequence[str], place: str) -> str:
+    """A folder with the feed's files and these origins, for peers that read all from one folder."""
+    feed = tempfile.mkdtemp(dir=place)
+    for path in there(folder, *(name for name in os.listdir(folder) if name != "origins.csv")):
+        os.symlink(os.path.abspath(path), os.path.join(feed, os.path.basename(path)))
+    write_origins(os.path.join(feed, "origins.csv"), origins)
+    if not there(feed, "footpaths.csv"):
+        write_lines(feed, "footpaths.csv", "from_stop_id,to_stop_id,seconds", [])
+    return feed
+
+
+def row_of(folder: str, asked: Asked, programs: Sequence[Program], place: str) -> list[str]:
+    """The cells of a feed."""
+    origins = asked.origins_of(folder)
+    feed = linked(folder, origins, place)
+    window = [asked.date, "07:00:00", str(asked.minutes), str(asked.trips), str(asked.walk)]
+    words = [feed, *window, *(there(folder, "footpaths.csv") or ["-"]), os.path.join(feed, "origins.csv")]
+    names = [name for program in programs for name in program.names.values()]
+    runs: list[Millis] = []
+    sums: dict[str, str] = {}
     for _ in range(asked.times):
-        for program in ([raptor] + words, [MEASURE, "durations"] + words):
-            millis, made = run(program)
+        for program in programs:
+            millis, made = program.run(words)
             runs.append(millis)
             sums.update(made)
-    if set(sums) != set(NAMES) or len(set(sums.values())) != 1:
+    if set(sums) != set(names) or len(set(sums.values())) != 1:
         sys.exit("%s: the durations differ: %s" % (folder, sums))
     mean = least(runs)
-    own = mean["durations"]
-    figures = ["%.1f" % mean[name] for name in NAMES] + ["%.2f" % (mean[name] / own) for name in NAMES[:2]]
-    return [os.path.basename(os.path.abspath(folder)), str(count)] + figures
+    ratios = ["%.2f" % (mean[name] / mean["ttm"]) for name in names[:-1]]
+    return [name_of(folder), str(len(origins))] + ["%.1f" % mean[name] for name in names] + ratios
 
 
-def main():
-    parser = argparse.ArgumentParser(description=__doc__, formatter_class=argparse.RawDescriptionHelpFormatter)
-    for name, value in (("times", 3), ("origins", 10), ("minutes", 120), ("trips", 4), ("walk", 600)):
-        parser.add_argument("--" + name, type=int, default=value)
-    parser.add_argument("--date", default="20260504")
-    parser.add_argument("folder", nargs="+")
-    asked = parser.parse_args()
-    if not os.path.exists(MEASURE):
-        sys.exit("%s is not built: run 'rt run' in crates/measure first" % os.path.normpath(MEASURE))
-    header = ["feed", "origins", "textbook, ms", "range, ms", "ttm, ms", "over textbook", "over range"]
-    print("| " + " | ".join(header) + " |")
-    print("|" + "---|" * len(header))
+def asked_of(words: Optional[Sequence[str]] = None) -> Asked:
+    """What the words of the command line ask for."""
+    parser = parser_of(__doc__)
+    which = "how many origins, of the folder's origins.csv or else of its stops; or a file of origins, in each folder"
+    parser.add_argument("--times", type=int, default=3, help="runs of each program (default: 3)")
+    parser.add_argument("--origins", metavar="N|FILE", default=str(COUNT), help=which + " or by its path (default: 10)")
+    parser.add_argument("--first", metavar="N", type=int, help="how many of the file's origins (default: 10)")
+    parser.add_argument("--minutes", type=int, default=120, help="departures, from 07:00 on (default: 120)")
+    parser.add_argument("--trips", type=int, default=4, help="most rides of a journey, 1 to 8 (default: 4)")
+    parser.add_argument("--walk", type=int, default=600, help="longest walk, in seconds (default: 600)")
+    parser.add_argument("--date", default=DATE, help="YYYYMMDD (default: %s)" % DATE)
+    parser.add_argument("--peers", metavar="FOLDER", help="a folder of Rust peers with src/net.rs and src/scalar.rs")
+    parser.add_argument("--beside", metavar="PROGRAM", help="the program of crates/measure as another commit builds it")
+    parser.add_argument("folder", nargs="+", metavar="FOLDER", help="an unpacked feed")
+    return Asked(**vars(parser.parse_args(words)))
+
+
+def main() -> None:
+    asked = asked_of()
     with tempfile.TemporaryDirectory() as place:
-        raptor, origins = os.path.join(place, "raptor"), os.path.join(place, "origins.csv")
-        source = os.path.join(HERE, "raptor.rs")
-        subprocess.run(["rustc", "--edition", "2021", "-O", "-C", "codegen-units=1", "-C", "target-cpu=x86-64-v2", source, "-o", raptor], check=True)
+        programs = programs_of(asked, place)
+        names = [name for program in programs for name in program.names.values()]
+        print_head(["feed", "origins"] + [name + ", ms" for name in names] + ["over " + name for name in names[:-1]])
         for folder in asked.folder:
-            print("| " + " | ".join(row_of(folder, asked, raptor, origins)) + " |", flush=True)
+            print_row(row_of(folder, asked, programs, place))
 
 
-main()
+if __name__ == "__main__":
+    main()

@@ -1,0 +1,232 @@
+#!/usr/bin/env python3
+"""Makes the tar file and the Debian package of a built program, twice, looks at what is in them, installs them, and
+runs the worked example of README.
+
+    packaging_checks.py PROGRAM
+
+The package is installed by `dpkg` into an empty room, and into a Debian 12 of its own where debootstrap and a mirror
+can be had: else that is skipped, and so is what wants root, or `man`. The last line is 'N passed, M failed', with
+', K skipped' behind it where something was.
+"""
+import gzip
+import os
+import re
+import shutil
+import subprocess
+import sys
+import tempfile
+from pathlib import Path
+from typing import Callable, Iterator
+
+ROOT = Path(__file__).resolve().parent.parent
+PACKAGING = ROOT / "packaging"
+NO_ROOM = 75
+SECONDS = 900
+COMMANDS = ("ttm", "ttm-tools")
+BASH = """source "$1"; COMP_WORDS=("${@:3}"); COMP_CWORD=$(($# - 3)); "$2"; echo "${COMPREPLY[*]}" """
+
+
+class Skipped(Exception):
+    """What can't be tried on this machine."""
+
+
+class Packages:
+    """What `packaging/build.sh` makes of a program, unpacked."""
+
+    def __init__(self, program: Path, room: Path) -> None:
+        self.program, self.room = program, room
+        self.deb, self.tar = self.made("once")
+        self.tree, self.folder = room / "tree", room / "folder"
+        self.output("dpkg-deb", "--extract", self.deb, self.tree)
+        self.folder.mkdir()
+        self.output("tar", "--extract", "--file", self.tar, "--directory", self.folder, "--strip-components=1")
+
+    @staticmethod
+    def output(*words: object, **more: str) -> str:
+        """What a command prints; its failure is a fault."""
+        ran = subprocess.run(
+            list(map(str, words)), env={**os.environ, **more}, capture_output=True, text=True, timeout=SECONDS
+        )
+        if ran.returncode:
+            raise AssertionError(f"{words[0]}: status {ran.returncode}: {ran.stderr}")
+        return ran.stdout
+
+    def made(self, name: str) -> tuple[Path, Path]:
+        """The Debian package and the tar file, made into a folder."""
+        said = self.output(PACKAGING / "build.sh", "--out", self.room / name, self.program)
+        deb, tar = map(Path, said.split())
+        return deb, tar
+
+    def share(self, name: str) -> str:
+        """A file of the package below share; unpacked where it is."""
+        data = (self.tree / "usr/share" / name).read_bytes()
+        return (gzip.decompress(data) if name.endswith(".gz") else data).decode()
+
+    def install(self, kind: str) -> None:
+        """Installs the package into a room of a kind, and runs the example there."""
+        ran = subprocess.run(
+            [PACKAGING / "try.sh", "--room", kind, self.deb], capture_output=True, text=True, timeout=SECONDS
+        )
+        if ran.returncode == NO_ROOM:
+            raise Skipped(ran.stderr.strip())
+        assert ran.returncode == 0, ran.stderr + ran.stdout
+
+
+def example() -> str:
+    """The worked example of README: what the program prints without words."""
+    found = re.search(r"^    \$ crates/ttm/out/ttm\n((?:    .*\n)+)", (ROOT / "README.md").read_text(), re.M)
+    assert found, "README.md: no worked example"
+    return re.sub("^    ", "", found[1], flags=re.M)
+
+
+def same_bytes_again(of: Packages) -> None:
+    """the same commit and program give the same bytes"""
+    for first, second in zip((of.deb, of.tar), of.made("again")):
+        assert (first.name, first.read_bytes()) == (second.name, second.read_bytes()), f"{first.name} differs"
+
+
+def program_is_the_built_one(of: Packages) -> None:
+    """both have the program byte for byte"""
+    for it in (of.tree / "usr/bin/ttm", of.folder / "bin/ttm"):
+        assert it.read_bytes() == of.program.read_bytes(), f"{it} differs"
+
+
+def every_file_in_both(of: Packages) -> None:
+    """the tar file has what the package has"""
+    names = [sorted(str(it.relative_to(top)) for it in top.rglob("*")) for top in (of.tree / "usr", of.folder)]
+    assert names[0] == names[1], set(names[0]) ^ set(names[1])
+
+
+def toolchain_is_named(of: Packages) -> None:
+    """the package names the toolchain that proved the program, as README does"""
+    named = re.search(r"^    (rattle-kit-\S+ logic \S+)$", (ROOT / "README.md").read_text(), re.M)
+    told = of.share("doc/ttm/PROVED")
+    assert named and f"proved with {named[1]}\n" in told and "\ncommit " in told, told
+
+
+def documents_are_there(of: Packages) -> None:
+    """the changelog and the pages of docs are there"""
+    wanted = [ROOT / "README.md", ROOT / "CHANGELOG.md", *(ROOT / "docs").glob("*.md")]
+    for it in wanted:
+        assert of.share(f"doc/ttm/{it.name}") == it.read_text(), f"{it.name} differs"
+
+
+def folder_gives_the_example(of: Packages) -> None:
+    """the program of the tar file gives the worked example"""
+    assert of.output(of.folder / "bin/ttm") == example()
+
+
+def tools_of_the_folder_run(of: Packages) -> None:
+    """the tools of the tar file say what they take"""
+    assert "usage: ttm-tools" in of.output("/usr/bin/python3", of.folder / "bin/ttm-tools", "--help")
+
+
+def control_says_what_is_needed(of: Packages) -> None:
+    """the package depends on the C library alone, and recommends what the tools stand on"""
+    depends, recommends = (of.output("dpkg-deb", "--field", of.deb, it) for it in ("Depends", "Recommends"))
+    assert re.fullmatch(r"libc6( \(>= 2\.\d+\))?\n", depends), depends
+    assert "python3-numpy" in recommends and "python3-pandas" in recommends, recommends
+
+
+def manuals_have_every_option(of: Packages) -> None:
+    """the manual pages have each option of the helps"""
+    programs: tuple[list[object], ...] = ([of.program], ["/usr/bin/python3", of.folder / "bin/ttm-tools"])
+    for name, program in zip(COMMANDS, programs):
+        page = of.share(f"man/man1/{name}.1.gz").replace("\\-", "-")
+        missing = [it for it in re.findall(r"(?<![\w-])--[a-z][\w-]*", of.output(*program, "--help")) if it not in page]
+        assert not missing, f"{name}.1: {missing}"
+
+
+def manuals_are_read_without_warnings(of: Packages) -> None:
+    """man reads the manual pages without a warning"""
+    if not shutil.which("man"):
+        raise Skipped("no man on this machine")
+    for name in COMMANDS:
+        page = of.tree / f"usr/share/man/man1/{name}.1.gz"
+        ran = subprocess.run(
+            ["man", "--warnings", "-E", "UTF-8", "-l", "-Tutf8", "-Z", page],
+            env={**os.environ, "LC_ALL": "C.UTF-8", "MANWIDTH": "100"},
+            capture_output=True,
+            text=True,
+        )
+        assert (ran.returncode, ran.stderr) == (0, ""), ran.stderr
+
+
+def words_are_completed(of: Packages) -> None:
+    """bash completes options, commands and files"""
+    completions = of.tree / "usr/share/bash-completion/completions"
+    wanted = [
+        (("ttm", "--wo"), "--workers"),
+        (("ttm", "--feed", "doc"), "docs"),
+        (("ttm", "--date", "doc"), ""),
+        (("ttm", "READ"), "README.md"),
+        (("ttm-tools", "com"), "compare"),
+        (("ttm-tools", "walks", "--lim"), "--limit"),
+    ]
+    for words, found in wanted:
+        function = "_" + words[0].replace("-", "_")
+        script = f"cd {ROOT}; {BASH}"
+        told = of.output("bash", "--norc", "-c", script, "bash", completions / words[0], function, *words)
+        assert told == found + "\n", f"{words}: {told}"
+
+
+def installed_by_dpkg(of: Packages) -> None:
+    """installed by dpkg into an empty room, it gives the worked example, and is removed whole"""
+    of.install("dpkg")
+
+
+def installed_in_debian(of: Packages) -> None:
+    """installed in a Debian 12 of its own, it gives the worked example, and is removed whole"""
+    if not shutil.which("debootstrap", path=os.environ["PATH"] + ":/usr/sbin"):
+        raise Skipped("no debootstrap on this machine")
+    of.install("debian")
+
+
+CHECKS: tuple[Callable[[Packages], None], ...] = (
+    same_bytes_again,
+    program_is_the_built_one,
+    every_file_in_both,
+    toolchain_is_named,
+    documents_are_there,
+    folder_gives_the_example,
+    tools_of_the_folder_run,
+    control_says_what_is_needed,
+    manuals_have_every_option,
+    manuals_are_read_without_warnings,
+    words_are_completed,
+    installed_by_dpkg,
+    installed_in_debian,
+)
+
+
+def results(program: Path) -> Iterator[str]:
+    """How each check ended: passed, failed or skipped."""
+    with tempfile.TemporaryDirectory(prefix="ttm-packaging-") as made:
+        of = Packages(program, Path(made))
+        for check in CHECKS:
+            try:
+                check(of)
+                yield "passed"
+            except Skipped as why:
+                print(f"skipped: {check.__doc__}: {why}", flush=True)
+                yield "skipped"
+            except (AssertionError, OSError, subprocess.SubprocessError) as fault:
+                print(f"wrong: {check.__doc__}: {fault}", flush=True)
+                yield "failed"
+
+
+def main() -> int:
+    if len(sys.argv) != 2:
+        sys.exit("usage: packaging_checks.py PROGRAM")
+    try:
+        ended = list(results(Path(sys.argv[1]).resolve()))
+    except (AssertionError, OSError, subprocess.SubprocessError) as fault:
+        print(f"wrong: both packages are made: {fault}", flush=True)
+        ended = ["failed"]
+    passed, failed, skipped = (ended.count(it) for it in ("passed", "failed", "skipped"))
+    print(f"{passed} passed, {failed} failed" + (f", {skipped} skipped" if skipped else ""))
+    return 1 if failed else 0
+
+
+if __name__ == "__main__":
+    sys.exit(main())

@@ -1,0 +1,66 @@
+"""Tests of what the scripts of this folder stand on, for pytest."""
+import hashlib
+from pathlib import Path
+
+import pytest
+
+import feedgen
+import ratios
+import shared
+
+# of all files of the town that seed 1 makes: results of other days are of these bytes
+TOWN = "58955af162bcfc04fb364acd8aca7f8b3f51f3be99fd5ac4ae8dd0ecf852cf0d"
+
+
+def write_stops(folder: Path, name: str, *stops: str) -> None:
+    shared.write_lines(str(folder), name, "stop_id,location_type", stops)
+
+
+def test_the_town_has_the_same_bytes_for_ever(tmp_path: Path) -> None:
+    told = feedgen.write_feed("town", 1, str(tmp_path))
+    assert told == (
+        "size town seed 1: stops 482, stations 6, routes 37, trips 4993, stop_times 61617, direct footpaths 3444\n"
+    )
+    files = sorted(tmp_path.iterdir())
+    sums = "".join("%s %s\n" % (hashlib.sha256(it.read_bytes()).hexdigest(), it.name) for it in files)
+    assert len(files) == 13 and hashlib.sha256(sums.encode()).hexdigest() == TOWN
+
+
+def test_another_seed_makes_another_town(tmp_path: Path) -> None:
+    told = [feedgen.write_feed("town", seed, str(tmp_path / str(seed))) for seed in (1, 2, 2)]
+    assert told[0] != told[1] == told[2]
+
+
+def test_origins_are_the_folders_own_or_its_first_stops(tmp_path: Path) -> None:
+    write_stops(tmp_path, "stops.txt", "G,1", "A,0", "B,", "C,0")
+    assert shared.first_origins(str(tmp_path), 2) == ["A", "B"]
+    write_stops(tmp_path, "origins.csv", "C,")
+    assert shared.first_origins(str(tmp_path), 2) == ["C"]
+    assert shared.first_origins(str(tmp_path), 2, all_of_them=True) == ["A", "B"]
+
+
+def test_origins_of_ratios_are_so_many_or_those_of_a_file(tmp_path: Path) -> None:
+    write_stops(tmp_path, "stops.txt", "A,0", "B,0", "C,0")
+    write_stops(tmp_path, "mine.csv", "C,", "A,")
+    folder = str(tmp_path)
+    assert ratios.asked_of(["--origins", "2", folder]).origins_of(folder) == ["A", "B"]
+    assert ratios.asked_of(["--origins", "mine.csv", folder]).origins_of(folder) == ["C", "A"]
+    assert ratios.asked_of(["--origins", folder + "/mine.csv", "--first", "1", folder]).origins_of(folder) == ["C"]
+    with pytest.raises(SystemExit):
+        ratios.asked_of(["--origins", "none.csv", folder]).origins_of(folder)
+
+
+def test_a_programs_times_are_read_in_milliseconds() -> None:
+    program = ratios.Program(
+        ["printf", "durations, origin 1, us: 1500\ndurations, checksum: 7\n"], {"durations": "ttm"}
+    )
+    assert program.run([]) == ({"ttm": [1.5]}, {"ttm": "7"})
+
+
+def test_the_words_of_a_study_name_footpaths_that_are_there(tmp_path: Path) -> None:
+    folder = str(tmp_path)
+    words = shared.Study(minutes=61, shares=(50, 90)).words(folder, "origins.csv", 2)
+    assert words[words.index("--to") + 1] == "08:00" and words[words.index("--share") + 1] == "50,90"
+    assert "--footpaths" not in words
+    write_stops(tmp_path, "footpaths.csv")
+    assert shared.Study().words(folder, "origins.csv", 2)[-2:] == ["--footpaths", folder + "/footpaths.csv"]

@@ -1,0 +1,119 @@
+#!/bin/sh
+# Makes a tar file and a Debian package of the program, the tools for analysts, their manual pages, completion for bash
+# and the documents. The same commit and program give the same bytes.
+# usage: packaging/build.sh [--out FOLDER] [PROGRAM]
+#   FOLDER   where both are written; packaging/out by default
+#   PROGRAM  a proved build: crates/ttm/out/ttm by default, which `rt run` proves and builds where it isn't there
+# Needs python3, dpkg-deb and git (or SOURCE_DATE_EPOCH in the environment where there is no clone).
+set -eu
+umask 022
+export LC_ALL=C.UTF-8
+here=$(cd "$(dirname "$0")/.." && pwd)
+out=$here/packaging/out
+if [ "${1:-}" = --out ]; then
+    mkdir -p "$2"
+    out=$(cd "$2" && pwd)
+    shift 2
+fi
+[ $# -le 1 ] || { sed -n '4,6s/^# //p' "$0" >&2; exit 2; }
+program=${1:-$here/crates/ttm/out/ttm}
+[ $# -eq 1 ] || [ -x "$program" ] || (cd "$here/crates/ttm" && rt run > /dev/null)
+program=$(realpath "$program")
+room=$(mktemp -d)
+trap 'rm -rf "$room"' EXIT
+trap 'exit 1' HUP INT TERM
+
+# What it is: the version, the commit and its time.
+said=$("$program" --version)
+version=$(echo "$said" | sed -n '1s/^ttm //p')
+commit=$(git -C "$here" rev-parse HEAD 2> /dev/null || echo unknown)
+[ -z "$(git -C "$here" status --porcelain 2> /dev/null)" ] || commit="$commit, with changes"
+SOURCE_DATE_EPOCH=${SOURCE_DATE_EPOCH:-$(git -C "$here" log -1 --format=%ct)}
+export SOURCE_DATE_EPOCH
+stamp=$(date -u -d "@$SOURCE_DATE_EPOCH" +%Y%m%d%H%M%S).$(echo "$commit" | cut -c 1-7)
+machine=$(dpkg --print-architecture)
+
+# The files, under usr.
+usr=$room/deb/usr
+docs=$usr/share/doc/ttm
+completions=$usr/share/bash-completion/completions
+mkdir -p "$usr/bin" "$usr/lib/python3/dist-packages" "$usr/share/man/man1" "$completions" "$docs"
+install -m 755 "$program" "$usr/bin/ttm"
+install -m 755 "$here/packaging/ttm-tools" "$usr/bin/ttm-tools"
+cp -r "$here/tools/src/ttm_tools" "$usr/lib/python3/dist-packages/"
+find "$usr/lib" -name __pycache__ -prune -exec rm -r {} +
+tools=$(sed -n 's/^version = "\(.*\)"/\1/p' "$here/tools/pyproject.toml")
+mkdir "$usr/lib/python3/dist-packages/ttm_tools-$tools.dist-info"
+printf 'Metadata-Version: 2.1\nName: ttm-tools\nVersion: %s\n' "$tools" \
+    > "$usr/lib/python3/dist-packages/ttm_tools-$tools.dist-info/METADATA"
+cp "$here/README.md" "$here/CHANGELOG.md" "$here"/docs/*.md "$here"/docs/*.png "$docs"
+{
+    echo "$said"
+    ! at_hand=$(rt version 2> /dev/null) || echo "packed beside $at_hand"
+    echo "commit $commit"
+    echo "sha256 of the program $(sha256sum < "$program" | cut -d ' ' -f 1)"
+} > "$docs/PROVED"
+for name in ttm ttm-tools; do
+    page=
+    [ $name != ttm ] || page="--page $here/docs/ANALYSTS.md"
+    # shellcheck disable=SC2086
+    PYTHONDONTWRITEBYTECODE=1 python3 "$here/packaging/manual.py" $name "$usr/bin/$name" --version "$version" $page \
+        | gzip -9n > "$usr/share/man/man1/$name.1.gz"
+    PYTHONDONTWRITEBYTECODE=1 python3 "$here/packaging/completion.py" $name "$usr/bin/$name" > "$completions/$name"
+done
+find "$usr/lib" -name __pycache__ -prune -exec rm -r {} +
+chmod -R u=rwX,go=rX "$room/deb"
+
+# The tar file: the same files, under a folder of its own.
+mkdir -p "$out"
+tar --directory "$room/deb" --sort=name --mtime="@$SOURCE_DATE_EPOCH" --owner=0 --group=0 --numeric-owner \
+    --transform "s,^usr,ttm-$version," -cf "$room/ttm.tar" usr
+gzip -9n "$room/ttm.tar"
+
+# The Debian package. The program needs the C library alone; Python and its packages are for the tools.
+tools_need="python3 (>= 3.11), python3-numpy (>= 1:1.24), python3-pandas (>= 1.5), python3-tqdm"
+some_tools_need="python3-matplotlib (>= 3.6), python3-h5py, python3-geopandas"
+needed=$(grep -ao 'GLIBC_2\.[0-9]*' "$program" | sort -u -t . -k 2n | sed -n '$s/GLIBC_//p')
+mkdir "$room/deb/DEBIAN"
+cat > "$room/deb/DEBIAN/control" << END
+Package: ttm
+Version: $version+git$stamp
+Architecture: $machine
+Maintainer: ttm <ttm@localhost>
+Section: science
+Priority: optional
+Installed-Size: $(du -k -s --apparent-size "$usr" | cut -f 1)
+Depends: libc6${needed:+ (>= $needed)}
+Recommends: $tools_need, $some_tools_need
+Suggests: python3-scipy, python3-pyosmium, parallel, slurm-client
+Description: travel time matrices over a GTFS feed, proved
+ From every origin stop, for every minute of a departure window, the least
+ travel time to every stop, as percentiles over the minutes, for a base network
+ and for scenarios that remove or shift trips. What it answers is stated by
+ contracts over plain definitions of timetables, and proved.
+ .
+ ttm-tools makes walks, parts, comparisons, maps and tables for analysts.
+END
+cat > "$room/deb/DEBIAN/postinst" << 'END'
+#!/bin/sh
+set -e
+if [ "$1" = configure ] && [ -z "${DPKG_ROOT:-}" ] && command -v py3compile > /dev/null; then
+    py3compile -p ttm
+fi
+END
+cat > "$room/deb/DEBIAN/prerm" << 'END'
+#!/bin/sh
+set -e
+find "${DPKG_ROOT:-}/usr/lib/python3/dist-packages/ttm_tools" -name __pycache__ -prune -exec rm -r {} +
+END
+chmod 755 "$room/deb/DEBIAN/postinst" "$room/deb/DEBIAN/prerm"
+(cd "$room/deb" && find usr -type f | LC_ALL=C sort | xargs md5sum) > "$room/deb/DEBIAN/md5sums"
+dpkg-deb --root-owner-group --threads-max=1 -Zxz --build "$room/deb" "$room/ttm.deb" > /dev/null
+
+# Both get their names when they are whole.
+deb=$out/ttm_$version+git${stamp}_$machine.deb
+tar=$out/ttm-$version-linux-$machine.tar.gz
+cp "$room/ttm.deb" "$deb.new" && mv "$deb.new" "$deb"
+cp "$room/ttm.tar.gz" "$tar.new" && mv "$tar.new" "$tar"
+echo "$deb"
+echo "$tar"

@@ -1,0 +1,176 @@
+#!/usr/bin/env python3
+"""Writes the manual page of a program, from its `--help` and a page of docs/, to the standard output.
+
+    manual.py ttm PROGRAM [--page docs/ANALYSTS.md]
+    manual.py ttm-tools PROGRAM
+
+Of the page the sections count that `SECTIONS` names: a manual has no stories and no pictures. The date is that of
+SOURCE_DATE_EPOCH. Standard library only.
+"""
+import argparse
+import os
+import re
+import sys
+import time
+from pathlib import Path
+from typing import Iterable, Iterator, Sequence
+
+from helps import Help, Item, commands_of, read_help, text_of
+
+# the sections of docs/ANALYSTS.md that the manual has, and what they are called there
+SECTIONS = {
+    "Getting a feed ready": "THE FEED",
+    "One run": "A RUN",
+    "A report": "REPORT",
+    "Scenarios": "SCENARIOS",
+    "The matrix": "THE MATRIX",
+    "Refusals": "DIAGNOSTICS AND EXIT STATUS",
+}
+MARKER = re.compile(r"(-|\d+\.) +")
+
+
+def escaped(text: str) -> str:
+    """A line of text as troff wants it."""
+    text = text.replace("\\", "\\e").replace("-", "\\-")
+    return "\\&" + text if text.startswith((".", "'")) else text
+
+
+def inline(text: str) -> str:
+    """A paragraph of Markdown as one line of troff: code and bold words are bold, other marked words are slanted."""
+    text = escaped(" ".join(text.split()))
+    text = re.sub(r"\[([^]]*)\]\([^)]*\)", r"\1", text)
+    text = re.sub(r"\*\*(.+?)\*\*", r"\\fB\1\\fR", re.sub(r"`([^`]+)`", r"\\fB\1\\fR", text))
+    return re.sub(r"(?<![\w*])\*([^*\s][^*]*)\*(?![\w*])", r"\\fI\1\\fR", text)
+
+
+def code(lines: Sequence[str]) -> list[str]:
+    """Lines that stay as they are."""
+    indent = min(len(line) - len(line.lstrip()) for line in lines)
+    return [".PP", ".RS 4", ".nf", *(escaped(line[indent:]) for line in lines), ".fi", ".RE"]
+
+
+def list_of(lines: Sequence[str]) -> list[str]:
+    """A list, of which each item begins with its marker."""
+    made: list[str] = []
+    items: list[list[str]] = []
+    for line in lines:
+        if MARKER.match(line):
+            items.append([line])
+        else:
+            items[-1].append(line)
+    for item in items:
+        marker = MARKER.match(item[0])
+        assert marker is not None
+        text = inline(" ".join(item)[marker.end() :])
+        made += [".IP \\(bu 2" if marker[1] == "-" else ".IP %s 4" % marker[1], text]
+    return made
+
+
+def table(lines: Sequence[str]) -> list[str]:
+    """A table as a list: its first column, and what stands beside it. A number keeps its column's name.
+
+    A table of options is left out: they are those of the help.
+    """
+    rows = [[cell.strip() for cell in re.split(r"(?<!\\)\|", line)[1:-1]] for line in lines]
+    made: list[str] = []
+    if rows[0][0] == "Option":
+        return made
+    for first, *cells in rows[2:]:
+        named = [f"{name} {cell}" if cell.isdecimal() else cell for name, cell in zip(rows[0][1:], cells)]
+        made += [".TP", inline(first), inline("; ".join(it for it in named if it))]
+    return made
+
+
+def section(text: str) -> Iterator[str]:
+    """The troff of a section of a page."""
+    for block in re.split(r"\n[ \t]*\n", text.strip("\n")):
+        lines = block.splitlines()
+        if lines[0].startswith("!["):
+            continue
+        if lines[0].startswith("|"):
+            yield from table(lines)
+        elif MARKER.match(lines[0]):
+            yield from list_of(lines)
+        elif all(line.startswith("    ") for line in lines):
+            yield from code(lines)
+        else:
+            yield from (".PP", inline(block))
+
+
+def sections(page: Path) -> Iterator[str]:
+    """The troff of the sections of a page that the manual has."""
+    parts = re.split(r"^## (.*)\n", page.read_text(encoding="utf-8"), flags=re.M)
+    texts = dict(zip(parts[1::2], parts[2::2]))
+    for heading, name in SECTIONS.items():
+        if heading not in texts:
+            sys.exit("%s: no section '%s', which the manual has" % (page, heading))
+        yield '.SH "%s"' % name
+        yield from section(texts[heading])
+
+
+def items(given: Iterable[Item]) -> Iterator[str]:
+    """Options or arguments, each with its text."""
+    for item in given:
+        text = item.text or ("one of the commands below" if item.head == "COMMAND" else "")
+        yield from (".TP", "\\fB%s\\fR" % escaped(item.head), escaped(text))
+
+
+def paragraphs(blocks: Iterable[str]) -> Iterator[str]:
+    """Paragraphs of a help; those that are indented stay as they are."""
+    for block in blocks:
+        lines = block.splitlines()
+        yield from code(lines) if all(line.startswith("  ") for line in lines) else (".PP", escaped(" ".join(lines)))
+
+
+def usage(name: str, own: Help) -> str:
+    """How a program is called, by its installed name."""
+    return ".B %s\n%s" % (escaped(name), escaped(" ".join(own.usage.split()[1:])))
+
+
+def head(name: str, about: str, version: str) -> Iterator[str]:
+    """The lines that a manual page begins with."""
+    date = time.strftime("%Y-%m-%d", time.gmtime(int(os.environ.get("SOURCE_DATE_EPOCH", "0"))))
+    yield '.TH %s 1 "%s" "ttm %s" "User Commands"' % (name.upper(), date, version)
+    short = about.split(". ")[0].rstrip(".")
+    yield from (".SH NAME", "%s \\- %s" % (escaped(name), escaped(short[:1].lower() + short[1:])))
+
+
+def command(program: Sequence[str], name: str) -> Iterator[str]:
+    """The part of a command of the tools."""
+    own = read_help(text_of(program, name))
+    yield from ('.SS "%s"' % name, ".PP", "\\fBUsage:\\fR " + escaped(own.usage))
+    yield from paragraphs(own.about)
+    yield from items(own.arguments + own.options)
+    yield from paragraphs(own.more)
+
+
+def manual(name: str, program: Sequence[str], version: str, page: str) -> Iterator[str]:
+    """The whole page."""
+    own = read_help(text_of(program))
+    yield from head(name, " ".join(own.about[:1]).replace("\n", " "), version)
+    yield from (".SH SYNOPSIS", usage(name, own), ".SH DESCRIPTION", *paragraphs(own.about))
+    commands = commands_of(own)
+    arguments = [it for it in own.arguments if it.head not in commands]
+    yield from (".SH OPTIONS", *items(arguments + own.options), *paragraphs(own.more))
+    if commands:
+        yield ".SH COMMANDS"
+    for it in commands:
+        yield from command(program, it)
+    if page:
+        yield from sections(Path(page))
+    other = "ttm\\-tools" if name == "ttm" else "ttm"
+    yield from (".SH SEE ALSO", ".BR %s (1)" % other, ".PP", "\\fI/usr/share/doc/ttm\\fR has the exact words of all")
+
+
+def main() -> None:
+    words = argparse.ArgumentParser(description=__doc__, formatter_class=argparse.RawDescriptionHelpFormatter)
+    words.add_argument("name", help="of the program as it is installed")
+    words.add_argument("program", nargs="+", help="the program as it is run here, with its first words")
+    words.add_argument("--version", default="", help="the version that the page names")
+    words.add_argument("--page", default="", help="a page of docs/ whose sections the manual has, too")
+    asked = words.parse_args()
+    sys.stdout.write("\n".join(manual(asked.name, asked.program, asked.version, asked.page)) + "\n")
+
+
+if __name__ == "__main__":
+    main()

@@ -1,0 +1,71 @@
+#!/bin/sh
+# Installs a Debian package of build.sh into a room of its own, runs the worked example of README there, and removes the
+# package again, which must leave none of its files.
+# usage: packaging/try.sh [--room debian|dpkg] DEB
+#   debian  a Debian 12 that debootstrap makes: wants root, debootstrap and a mirror; its address may stand in MIRROR
+#   dpkg    an empty one by `dpkg --root`, over this machine's libraries: wants root
+# By default debian where that can be had, else dpkg. Status 0: all is right; 1: something isn't; 75: no such room can be had.
+set -eu
+umask 022
+export LC_ALL=C.UTF-8 PATH="$PATH:/usr/sbin:/sbin" DEBIAN_FRONTEND=noninteractive
+NO_ROOM=75
+here=$(cd "$(dirname "$0")/.." && pwd)
+kind=
+if [ "${1:-}" = --room ]; then
+    kind=$2
+    shift 2
+fi
+[ $# -eq 1 ] || { sed -n '4,6s/^# //p' "$0" >&2; exit 2; }
+deb=$(realpath "$1")
+[ "$(id -u)" = 0 ] || { echo "$0: a room can be had by root alone" >&2; exit $NO_ROOM; }
+room=$(mktemp -d)
+trap 'rm -rf --one-file-system "$room"' EXIT
+trap 'exit 1' HUP INT TERM
+
+make_debian() {
+    mkdir "$room/debian"
+    # shellcheck disable=SC2086
+    debootstrap --variant=minbase --include=python3-minimal,libpython3-stdlib bookworm "$room/debian" ${MIRROR:-} > "$room/log" 2>&1
+}
+make_dpkg() {
+    mkdir -p "$room/dpkg/var/lib/dpkg/info" "$room/dpkg/var/lib/dpkg/updates" "$room/dpkg/var/log"
+    touch "$room/dpkg/var/lib/dpkg/status"
+}
+case $kind in
+    debian) make_debian || { tail -n 3 "$room/log" >&2; exit $NO_ROOM; } ;;
+    dpkg) make_dpkg ;;
+    '') if make_debian; then kind=debian; else kind=dpkg; make_dpkg; fi ;;
+    *) echo "$0: no such room: $kind" >&2; exit 2 ;;
+esac
+inside=$room/$kind
+if [ $kind = debian ]; then
+    cp "$deb" "$inside/tmp/ttm.deb"
+    install_it() { chroot "$inside" dpkg --install /tmp/ttm.deb; }
+    remove_it() { chroot "$inside" dpkg --purge ttm; }
+    run_it() { chroot "$inside" "$@"; }
+else
+    # maintainer scripts can't be run in an empty room; they are told by DPKG_ROOT where it is
+    in_room="dpkg --root=$inside --log=$inside/var/log/dpkg.log --force-depends --force-script-chrootless"
+    install_it() { $in_room --install "$deb"; }
+    remove_it() { $in_room --purge ttm; }
+    run_it() { PATH="$inside/usr/bin:$PATH" "$@"; }
+fi
+
+awk '/^    \$ crates\/ttm\/out\/ttm$/ { on = 1; next } on && /^    / { print substr($0, 5); next } on { exit }' \
+    "$here/README.md" > "$room/wanted"
+[ -s "$room/wanted" ] || { echo "README.md: no worked example" >&2; exit 1; }
+find "$inside" -xdev -path "$inside/var" -prune -o -print | sort > "$room/before"
+install_it > "$room/log" 2>&1 || { cat "$room/log" >&2; exit 1; }
+run_it ttm > "$room/made"
+cmp "$room/wanted" "$room/made"
+run_it ttm --help > "$room/help"
+grep -q '^Usage: ' "$room/help"
+if run_it python3 --version > /dev/null 2>&1 && [ -e "$inside/usr/bin/ttm-tools" ]; then
+    run_it ttm-tools --help > "$room/help"
+    grep -q '^usage: ttm-tools ' "$room/help"
+fi
+remove_it > "$room/log" 2>&1 || { cat "$room/log" >&2; exit 1; }
+find "$inside" -xdev -path "$inside/var" -prune -o -print | sort > "$room/after"
+left=$(comm -13 "$room/before" "$room/after" | grep ttm || true)
+[ -z "$left" ] || { echo "left behind: $left" >&2; exit 1; }
+echo "installed in a room of $kind, gave the worked example, and was removed"
