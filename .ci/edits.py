@@ -54,7 +54,9 @@ class Edit:
         parts = self.name.split(".")
         module = re.fullmatch(r"src/(.+)\.rt", self.replacements[0][0]) if self.replacements else None
         known = len(parts) == 4 and module
-        self.function: Optional[tuple[str, str]] = (module[1].replace("/", "::"), parts[1]) if known and module else None
+        self.function: Optional[tuple[str, str]] = (
+            (module[1].replace("/", "::"), parts[1]) if known and module else None
+        )
 
     def spans(self, texts: Texts) -> Optional[list[Span]]:
         """Where it replaces what in files as they stand: file, start, end, text. Nothing where a text isn't there once."""

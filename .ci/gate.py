@@ -103,12 +103,13 @@ def scripts(room: Path) -> list[list[str]]:
     return [it for it in every if (room / it[0]).is_file()]
 
 
-def run_script(room: Path, words: list[str]) -> Count:
+def run_script(room: Path, words: list[str], environment: dict[str, str]) -> Count:
     """Runs a script of the repository, and prints what it said once it has ended."""
     began = time.monotonic()
     ran = subprocess.run(
         [sys.executable, *words],
         cwd=room,
+        env=environment,
         stdin=subprocess.DEVNULL,
         stdout=subprocess.PIPE,
         stderr=subprocess.STDOUT,
@@ -119,9 +120,12 @@ def run_script(room: Path, words: list[str]) -> Count:
     return counted(ran.returncode, ran.stdout.splitlines())
 
 
-def run_scripts(room: Path) -> Count:
+def run_scripts(root: Path, room: Path) -> Count:
+    """Runs the scripts on the copy, so many at once; what they make bears the commit's time, as the copy is no clone."""
+    made_at = output_of(root, "git", "log", "-1", "--format=%ct") or "0"
+    environment = {"SOURCE_DATE_EPOCH": made_at, **os.environ}
     with ThreadPoolExecutor(jobs()) as pool:
-        return sum(pool.map(lambda words: run_script(room, words), scripts(room)), Count())
+        return sum(pool.map(lambda words: run_script(room, words, environment), scripts(room)), Count())
 
 
 def try_edits(room: Path, names: list[str], refusals: Refusals, clock: Clock) -> Count:
@@ -149,7 +153,7 @@ def gate(root: Path, chosen: list[str], refusals: Refusals, clock: Clock) -> Cou
             for edit in repository.edits_of(proved, name):
                 edit.unlink()
         count = prove(proved)
-        count += run_scripts(proved)
+        count += run_scripts(root, proved)
         return count + try_edits(tried, chosen, refusals, clock)
 
 

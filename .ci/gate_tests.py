@@ -63,7 +63,9 @@ EDIT = "file: src/lib.rt\nold:     count + 1\nnew:     count + 2\n"
 PROVES = "file: src/lib.rt\nold:     count + 1\nnew:     1 + count\n"
 
 
-TWICE = LOWER + """
+TWICE = (
+    LOWER
+    + """
 /// Two more.
 pub fn twice(count: u32) -> u32
     requires { count < 500 }
@@ -72,6 +74,7 @@ pub fn twice(count: u32) -> u32
     bump(bump(count))
 }
 """
+)
 ONCE = "file: src/lib.rt\nold:     bump(bump(count))\nnew:     bump(count)\n"
 UNKNOWN_NAME = "file: src/lib.rt\nold:     bump(bump(count))\nnew:     bump(bump(counts))\n"
 UNREAD = "file: src/lib.rt\nold:     bump(bump(count))\nnew:     bump(bump(count)\n"
@@ -180,7 +183,9 @@ class Choice(WithStandIn):
     def test_a_body_below_changes_nothing_above_and_a_contract_does(self) -> None:
         self.tried()
         self.change("    count + 1\n}", "    let more = 1;\n    count + more\n}")
-        self.repository.write("crates/lower/must-fail/lib.bump.two_more.edit", EDIT.replace("count + 1", "count + more"))
+        self.repository.write(
+            "crates/lower/must-fail/lib.bump.two_more.edit", EDIT.replace("count + 1", "count + more")
+        )
         self.assertEqual(self.tried()[0], ["lower"])
         self.change("count < 1000", "count < 900")
         self.repository.write("crates/lower/must-fail/lib.bump.two_more.edit", EDIT)

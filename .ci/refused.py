@@ -11,9 +11,7 @@ from pathlib import Path
 import repository
 from repository import Crates
 
-HEAD = (
-    "# Crates whose must-fail edits the prover refused: name, sum of what that rests on, toolchain. Written by .ci/run.\n"
-)
+HEAD = "# Crates whose must-fail edits the prover refused: name, sum of what that rests on, toolchain. Written by .ci/run.\n"
 DRAWN = 2
 
 Rows = dict[tuple[str, str], str]

@@ -22,7 +22,9 @@ from program_runs import FEED, OWN
 
 SECONDS = 600
 MIB = 1 << 20
-ASKED = "--date 20260504 --from 08:00 --to 08:00 --trips 2 --walk 0 --share 50 --within 1800 --workers 2 --tries 1".split()
+ASKED = (
+    "--date 20260504 --from 08:00 --to 08:00 --trips 2 --walk 0 --share 50 --within 1800 --workers 2 --tries 1".split()
+)
 GREATEST = Path(__file__).resolve().parent.parent / "bench/greatest.py"
 
 
@@ -123,7 +125,11 @@ def great_sums(room: Path) -> Run:
     most = 4_294_967_295
     (room / "chances.csv").write_text(f"stop_id,opportunities\nA,{most}\nB,{most}\nC,{most}\n")
     words = ["--feed", "feed", *ASKED, "--opportunities", "chances.csv", "--origins", "a.csv"]
-    return Run("a sum of access past 10^10", words, f"scenario,origin,share,access_1800,A,B,C\nbase,A,50,{3 * most},0,600,1800\n")
+    return Run(
+        "a sum of access past 10^10",
+        words,
+        f"scenario,origin,share,access_1800,A,B,C\nbase,A,50,{3 * most},0,600,1800\n",
+    )
 
 
 EXAMPLE = "scenario,origin,share,access_1800,A,B,C\nbase,A,50,3,0,600,1800\n"
@@ -137,14 +143,18 @@ def long_path(room: Path) -> Run:
     (room / "feed").rename(deep / "feed")
     (room / "a.csv").rename(deep / "a.csv")
     inside = str(deep.relative_to(room))
-    return Run("a path of over 400 bytes", ["--feed", f"{inside}/feed", *ASKED, "--origins", f"{inside}/a.csv"], EXAMPLE)
+    return Run(
+        "a path of over 400 bytes", ["--feed", f"{inside}/feed", *ASKED, "--origins", f"{inside}/a.csv"], EXAMPLE
+    )
 
 
 def long_line(room: Path) -> Run:
     """A path that is longer than the system takes is told whole."""
     small(room)
     name = "x" * 9000
-    return Run("a told line past 4 KiB", ["--feed", "feed", *ASKED, "--origins", name], "", f"ttm: {name}: read fault\n", 5)
+    return Run(
+        "a told line past 4 KiB", ["--feed", "feed", *ASKED, "--origins", name], "", f"ttm: {name}: read fault\n", 5
+    )
 
 
 def past_a_mebibyte(room: Path) -> Run:
@@ -211,7 +221,9 @@ def first_difference(was: Left, wanted: Left) -> str:
     """Where two answers differ, in a line."""
     for name, one, other in zip(("output", "error"), was, wanted):
         if one != other:
-            at = next((n for n, (a, b) in enumerate(zip(str(one), str(other))) if a != b), min(len(str(one)), len(str(other))))
+            at = next(
+                (n for n, (a, b) in enumerate(zip(str(one), str(other))) if a != b), min(len(str(one)), len(str(other)))
+            )
             return f"{name} differs at byte {at + 1}: {str(one)[at:at + 60]!r} in place of {str(other)[at:at + 60]!r}; {was[1][:200]}"
     return f"status {was[2]} in place of {wanted[2]}"
 
@@ -219,7 +231,9 @@ def first_difference(was: Left, wanted: Left) -> str:
 def greatest(program: str, room: Path) -> Iterator[tuple[str, str]]:
     """The greatest feed that is allowed, and then one more of each that has a limit; gives each with what was wrong, if anything was."""
     subprocess.run([sys.executable, str(GREATEST), str(room)], check=True)
-    words = "--feed . --footpaths footpaths.csv --origins origins.csv --walk 600 --date 20260504 --back 0 --ahead 0".split()
+    words = (
+        "--feed . --footpaths footpaths.csv --origins origins.csv --walk 600 --date 20260504 --back 0 --ahead 0".split()
+    )
     words += "--from 08:00 --to 08:00 --trips 4 --share 50 --within 600 --workers 1 --tries 1".split()
     out, err, status = left_by(program, words, room)
     head, row = (out.split("\n") + ["", ""])[:2]
