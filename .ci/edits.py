@@ -1,14 +1,15 @@
 """Tries must-fail edits, many by one check: those that change different functions are planted together.
 
-A function is proved from its own body and the contracts of what it calls, so whether the prover refuses it has nothing to do with what was planted
-in other bodies. An edit is refused where the check says of its function that it is not proved. Where it says that a function has no proof, since
-one that it calls isn't proved, the edit waits for the next check; so does one whose function or text another edit has taken. What can't be told so
-(an edit of a constant or a definition, or of one of two functions of one name) is tried alone: then the crate must not be proved. An edit that the
-prover can't read is not refused, and no edit is where the crate isn't proved without any. What a check that was cut off would have told is unknown:
-its edits are skipped, and never called refused.
+A function is proved from its own body and the contracts of what it calls, so whether the prover refuses it has nothing
+to do with what was planted in other bodies. An edit is refused where the check says of its function that it is not
+proved. Where it says that a function has no proof, since one that it calls isn't proved, the edit waits for the next
+check; so does one whose function or text another edit has taken. What can't be told so (an edit of a constant or a
+definition, or of one of two functions of one name) is tried alone: then the crate must not be proved. An edit that the
+prover can't read is not refused, and no edit is where the crate isn't proved without any. What a check that was cut off
+would have told is unknown: its edits are skipped, and never called refused.
 
-Each crate is tried in a copy of its own, since only one `rt` at a time works in a crate's folder; the libraries below it are built once and handed to
-each copy. Standard library only.
+Each crate is tried in a copy of its own, since only one `rt` at a time works in a crate's folder; the libraries below
+it are built once and handed to each copy. Standard library only.
 """
 
 from __future__ import annotations
@@ -37,7 +38,9 @@ Span = tuple[str, int, int, str]
 
 
 class Edit:
-    """A planted bug: what of which file is replaced by what, and the function that it changes, where its name tells it."""
+    """A planted bug: what of which file is replaced by what, and the function that it changes, where its name tells
+    it.
+    """
 
     def __init__(self, path: Path) -> None:
         self.path, self.name = path, path.name
@@ -59,7 +62,10 @@ class Edit:
         )
 
     def spans(self, texts: Texts) -> Optional[list[Span]]:
-        """Where it replaces what in files as they stand: file, start, end, text. Nothing where a text isn't there once."""
+        """Where it replaces what in files as they stand: file, start, end, text.
+
+        Nothing where a text isn't there once.
+        """
         found = []
         for file, old, new in self.replacements:
             if texts(file).count(old) != 1:
@@ -69,7 +75,9 @@ class Edit:
         return found
 
     def applied(self, texts: Texts) -> Optional[dict[str, str]]:
-        """The texts of the files that it changes, one replacement after another; nothing where a text isn't there once."""
+        """The texts of the files that it changes, one replacement after another; nothing where a text isn't there
+        once.
+        """
         made: dict[str, str] = {}
         for file, old, new in self.replacements:
             text = made.get(file, texts(file))
@@ -92,7 +100,9 @@ def overlap(spans: list[Span], others: list[Span]) -> bool:
 
 
 def choose(edits: list[Edit], texts: Texts) -> tuple[list[Edit], list[Span]]:
-    """The edits of the next check, one for each function, no two of which replace the same text; with all that they replace."""
+    """The edits of the next check, one for each function, no two of which replace the same text; with all that they
+    replace.
+    """
     chosen: list[Edit] = []
     spans: list[Span] = []
     taken = set()
@@ -106,7 +116,9 @@ def choose(edits: list[Edit], texts: Texts) -> tuple[list[Edit], list[Span]]:
 
 
 def unread(lines: list[str]) -> str:
-    """What says that the prover could not read a text, where an edit that only makes a statement false reads well; nothing where it read all."""
+    """What says that the prover could not read a text, where an edit that only makes a statement false reads well;
+    nothing where it read all.
+    """
     for line in lines:
         found = ERROR.match(line)
         if found and (found[1] or not found[2] or UNREADABLE.search(re.sub(r"`[^`]*`", "", found[3]))):
@@ -133,7 +145,9 @@ def logic_of(lines: list[str]) -> Optional[str]:
 
 @dataclass
 class Outcome:
-    """What came of a crate's edits: the names of those refused, why each other one wasn't, and the names of those that there was no time for."""
+    """What came of a crate's edits: the names of those refused, why each other one wasn't, and the names of those that
+    there was no time for.
+    """
 
     crate: str
     refused: list[str] = field(default_factory=list)
@@ -185,7 +199,10 @@ class Trial:
         return f"it did not reach the prover: {' '.join(lines[-3:])[:200]}"
 
     def together(self, edits: list[Edit]) -> list[Edit]:
-        """Tries edits by one check, and gives those that were refused. Where the check comes to no verdict on any, half as many are tried."""
+        """Tries edits by one check, and gives those that were refused.
+
+        Where the check comes to no verdict on any, half as many are tried.
+        """
         chosen, spans = choose(edits, self.texts)
         if not chosen:
             return []
@@ -230,7 +247,9 @@ class Trial:
 
 
 class Rooms:
-    """A folder for each crate, with a copy of it and of the crates below, whose libraries are built once and linked into the other copies."""
+    """A folder for each crate, with a copy of it and of the crates below, whose libraries are built once and linked
+    into the other copies.
+    """
 
     def __init__(self, root: Path, top: Path, clock: Clock) -> None:
         self.root, self.top, self.clock = root, top, clock
@@ -298,7 +317,8 @@ def run_tasks(tasks: dict[str, Task], at_once: int) -> Iterator[Outcome]:
 
 
 def try_all(root: Path, room: Path, paths: dict[str, list[Path]], clock: Clock, jobs: int) -> Iterator[Outcome]:
-    """Tries the edits that lie at these paths, given by their crate, the first crate first; gives what came of each crate as it is done.
+    """Tries the edits that lie at these paths, given by their crate, the first crate first; gives what came of each
+    crate as it is done.
 
     The crates' files are those below `root`; the copies stand in `room`.
     """

@@ -1,12 +1,13 @@
 #!/usr/bin/env python3
 """The merge gate: every proof from nothing, every test, every program; and then, while time is left, must-fail edits.
 
-A crate's edits are tried where something that their refusal rests on changed since they were last refused: a file of the
-crate, a definition or contract of a crate below it, or the toolchain. Two more crates are tried each time, drawn by
+A crate's edits are tried where something that their refusal rests on changed since they were last refused: a file of
+the crate, a definition or contract of a crate below it, or the toolchain. Two more crates are tried each time, drawn by
 the commit's name. What changed comes first. What was refused stands in .ci/refused.txt, which this script alone writes.
 
-The last line is 'N passed, M failed, K skipped': skipped are the edits that there was no time for, each named above it, and what
-can't be tried on this machine. It works on a copy of the files that git knows or doesn't ignore, so what earlier checks kept stays as it is.
+The last line is 'N passed, M failed, K skipped': skipped are the edits that there was no time for, each named above it,
+and what can't be tried on this machine. It works on a copy of the files that git knows or doesn't ignore, so what
+earlier checks kept stays as it is.
 """
 
 from __future__ import annotations
@@ -68,7 +69,9 @@ def counted(status: int, lines: list[str]) -> Count:
 
 
 def prove(room: Path) -> Count:
-    """Proves every crate and its tests from nothing, and runs each test and program; what it says is printed as it comes."""
+    """Proves every crate and its tests from nothing, and runs each test and program; what it says is printed as it
+    comes.
+    """
     environment = {**os.environ, "RT_JOBS": str(jobs())}
     lines = []
     with subprocess.Popen(
@@ -121,7 +124,9 @@ def run_script(room: Path, words: list[str], environment: dict[str, str]) -> Cou
 
 
 def run_scripts(root: Path, room: Path) -> Count:
-    """Runs the scripts on the copy, so many at once; what they make bears the commit's time, as the copy is no clone."""
+    """Runs the scripts on the copy, so many at once; what they make bears the commit's time, as the copy is no
+    clone.
+    """
     made_at = output_of(root, "git", "log", "-1", "--format=%ct") or "0"
     environment = {"SOURCE_DATE_EPOCH": made_at, **os.environ}
     with ThreadPoolExecutor(jobs()) as pool:
@@ -167,7 +172,8 @@ def options_of(words: list[str]) -> argparse.Namespace:
         type=float,
         default=MINUTES,
         metavar="MINUTES",
-        help=f"begin no check of edits later than this, and cut off those at work then (default: {MINUTES}); proofs, tests and programs always run to their end",
+        help=f"begin no check of edits later than this, and cut off those at work then (default: {MINUTES}); "
+        "proofs, tests and programs always run to their end",
     )
     budget.add_argument("--all", action="store_true", help="try the edits of all crates, however long it takes")
     asked.add_argument(

@@ -1,7 +1,9 @@
 #!/usr/bin/env python3
-"""Tests of the gate: which edits it tries and in which order, what it writes down, that it ends in time, and that an edit that proves makes it fail.
+"""Tests of the gate: which edits it tries and in which order, what it writes down, that it ends in time, and that an
+edit that proves makes it fail.
 
-The choice and the time are tested over a stand-in for `rt`, each case with a clock of its own; one class goes through the toolchain itself.
+The choice and the time are tested over a stand-in for `rt`, each case with a clock of its own; one class goes through
+the toolchain itself.
 """
 
 from __future__ import annotations
@@ -21,6 +23,7 @@ from unittest import mock
 
 OWN = Path(__file__).resolve().parent
 sys.path.insert(0, str(OWN))
+import edits  # noqa: E402
 import gate  # noqa: E402
 import names  # noqa: E402
 
@@ -121,6 +124,15 @@ class Hands:
 
     def __call__(self) -> float:
         return self.seconds
+
+    def set_by_proof(self, seconds: float) -> Callable[[Path], gate.Count]:
+        """What stands in for the proof of all, which passes and takes until then."""
+
+        def prove(room: Path) -> gate.Count:
+            self.seconds = seconds
+            return gate.Count(1)
+
+        return prove
 
 
 class WithStandIn(unittest.TestCase):
@@ -243,7 +255,7 @@ class Time(WithStandIn):
 
     def test_what_there_was_no_time_for_is_named_and_counted_and_never_called_refused(self) -> None:
         hands = Hands()
-        with mock.patch.object(gate, "prove", lambda room: setattr(hands, "seconds", 60.0) or gate.Count(1)):
+        with mock.patch.object(gate, "prove", hands.set_by_proof(60.0)):
             status, said, _ = self.repository.gate("--budget", "1", now=hands)
         self.assertEqual((status, said[-1]), (0, "1 passed, 0 failed, 4 skipped"), said)
         for crate in ("lower", "one", "two", "upper"):
@@ -264,7 +276,7 @@ class Time(WithStandIn):
 
     def test_all_and_edits_have_no_budget(self) -> None:
         hands = Hands()
-        with mock.patch.object(gate, "prove", lambda room: setattr(hands, "seconds", 1e9) or gate.Count(1)):
+        with mock.patch.object(gate, "prove", hands.set_by_proof(1e9)):
             self.assertEqual(self.repository.gate("--all", now=hands)[1][-1], "5 passed, 0 failed")
         self.assertEqual(self.repository.gate("--edits", "one", "upper", now=hands)[1][-1], "2 passed, 0 failed")
 
@@ -289,14 +301,14 @@ class Time(WithStandIn):
         names: list[str] = []
         for _ in range(4):
             hands = Hands()
-            was = gate.edits.Rooms.try_edits
+            was = edits.Rooms.try_edits
 
-            def try_one(rooms: gate.edits.Rooms, *asked: object, was: Callable[..., object] = was) -> object:
+            def try_one(rooms: edits.Rooms, *asked: object, was: Callable[..., object] = was) -> object:
                 outcome = was(rooms, *asked)
                 hands.seconds = 60.0
                 return outcome
 
-            with mock.patch.object(gate, "jobs", lambda: 1), mock.patch.object(gate.edits.Rooms, "try_edits", try_one):
+            with mock.patch.object(gate, "jobs", lambda: 1), mock.patch.object(edits.Rooms, "try_edits", try_one):
                 self.repository.gate("--budget", "1", now=hands)
             self.assertGreater(len(self.repository.rows()), len(names))
             names = self.repository.rows()
@@ -317,8 +329,14 @@ class Time(WithStandIn):
 class Names(unittest.TestCase):
     """What the pages name is looked for in the sources."""
 
-    README = "# x\n\n## What is proved\n\n1. **Sums.** Added: `lower::bump`, `gone`.\n2. **Hopes.** `lower::bare`.\n\n## Else\n"
-    TABLE = "\n## Each promise\n\n| Crate | Function | Says |\n|---|---|---|\n| `lower` | `bump` | more |\n| | `lost`, `bare` | |\n\n## Else\n"
+    README = (
+        "# x\n\n## What is proved\n\n1. **Sums.** Added: `lower::bump`, `gone`.\n"
+        "2. **Hopes.** `lower::bare`.\n\n## Else\n"
+    )
+    TABLE = (
+        "\n## Each promise\n\n| Crate | Function | Says |\n|---|---|---|\n"
+        "| `lower` | `bump` | more |\n| | `lost`, `bare` | |\n\n## Else\n"
+    )
 
     def test_what_is_not_there_or_has_no_contract_is_told(self) -> None:
         with tempfile.TemporaryDirectory(prefix="ttm-gate-test-") as made:
@@ -335,7 +353,9 @@ class Prover(unittest.TestCase):
     """Through the toolchain itself."""
 
     def run_gate(self, edits: dict[str, str], *words: str, source: str = TWICE) -> tuple[int, list[str], list[str]]:
-        """What the gate says of one crate with these edits beside its own: its status, what it said, and what it wrote down."""
+        """What the gate says of one crate with these edits beside its own: its status, what it said, and what it wrote
+        down.
+        """
         with tempfile.TemporaryDirectory(prefix="ttm-gate-test-") as made:
             repository = Repository(Path(made), {"counts": ""})
             repository.write("crates/counts/src/lib.rt", source)

@@ -1,6 +1,7 @@
 #!/usr/bin/env python3
-"""Looks that the pages claim nothing of what isn't there: each function and law that README's list of promises and ASSURANCE's table name exists in its
-crate, and each promise of README names a function that has a contract. The last line is 'N passed, M failed'. Standard library only.
+"""Looks that the pages claim nothing of what isn't there: each function and law that README's list of promises and
+ASSURANCE's table name exists in its crate, and each promise of README names a function that has a contract. The last
+line is 'N passed, M failed'. Standard library only.
 """
 
 from __future__ import annotations

@@ -1,6 +1,8 @@
-"""Which must-fail edits were refused: the file `.ci/refused.txt`, which the gate alone writes, and what is to be tried again.
+"""Which must-fail edits were refused: the file `.ci/refused.txt`, which the gate alone writes, and what is to be tried
+again.
 
-A row is for a crate and a toolchain: a sum of all that the refusal of the crate's edits rests on, once each of them was refused.
+A row is for a crate and a toolchain: a sum of all that the refusal of the crate's edits rests on, once each of them was
+refused.
 """
 
 from __future__ import annotations
@@ -11,7 +13,10 @@ from pathlib import Path
 import repository
 from repository import Crates
 
-HEAD = "# Crates whose must-fail edits the prover refused: name, sum of what that rests on, toolchain. Written by .ci/run.\n"
+HEAD = (
+    "# Crates whose must-fail edits the prover refused: name, sum of what that rests on, toolchain. "
+    "Written by .ci/run.\n"
+)
 DRAWN = 2
 
 Rows = dict[tuple[str, str], str]
@@ -43,7 +48,9 @@ class Refusals:
         }
 
     def choose(self, commit: str, all_of_them: bool) -> dict[str, str]:
-        """The crates whose edits are tried, each with the reason; what changed comes first, then what this toolchain never saw, then what is drawn."""
+        """The crates whose edits are tried, each with the reason; what changed comes first, then what this toolchain
+        never saw, then what is drawn.
+        """
         rows = read_rows(self.file)
         changed, unseen, rest = {}, {}, []
         for name, made in self.sums.items():
@@ -59,7 +66,10 @@ class Refusals:
         return {**changed, **unseen, **{name: "all are" if all_of_them else "drawn" for name in drawn}}
 
     def note(self, name: str) -> None:
-        """Writes down that every edit of a crate was refused. What other toolchains refused stays; a crate without edits has no row."""
+        """Writes down that every edit of a crate was refused.
+
+        What other toolchains refused stays; a crate without edits has no row.
+        """
         rows = {it: made for it, made in read_rows(self.file).items() if it[0] in self.sums}
         write_rows(self.file, {**rows, (name, self.toolchain): self.sums[name]})
 

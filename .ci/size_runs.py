@@ -1,10 +1,12 @@
 #!/usr/bin/env python3
-"""Runs the built program over inputs of sizes at which one might give up too early: want of memory told for size alone can't be refused by a contract.
+"""Runs the built program over inputs of sizes at which one might give up too early: want of memory told for size alone
+can't be refused by a contract.
 
     size_runs.py PROGRAM
 
-Each expected text follows from the feed that is made here, by the rule beside it, and is compared byte for byte; of the greatest feed the first ring of
-footpaths is. The last line is 'N passed, M failed'. Standard library only; it takes about 1.2 GB of memory and 1 GB of the disk.
+Each expected text follows from the feed that is made here, by the rule beside it, and is compared byte for byte; of the
+greatest feed the first ring of footpaths is. The last line is 'N passed, M failed'. Standard library only; it takes
+about 1.2 GB of memory and 1 GB of the disk.
 """
 
 from __future__ import annotations
@@ -49,7 +51,9 @@ def small(room: Path, **files: str) -> None:
 
 
 def line_of_stops(room: Path, count: int) -> None:
-    """Writes a feed of so many stops, named by their numbers, and one trip: from stop 0 at 08:00 to the last at 08:10."""
+    """Writes a feed of so many stops, named by their numbers, and one trip: from stop 0 at 08:00 to the last at
+    08:10.
+    """
     (room / "feed").mkdir()
     files = {
         "stops.txt": "stop_id\n" + "".join(f"{stop}\n" for stop in range(count)),
@@ -70,11 +74,14 @@ def shifted(name: str, minutes: int, trip: str, room: Path) -> str:
 
 
 def all_options(room: Path) -> Run:
-    """Fifteen scenarios, the k-th of which has T1 k minutes later: while T1 is at B by 08:15, T2 goes on to C at 08:30."""
+    """Fifteen scenarios, the k-th of which has T1 k minutes later: while T1 is at B by 08:15, T2 goes on to C at
+    08:30.
+    """
     small(room)
     scenarios = [shifted(f"s{k}", k, "T1", room) for k in range(1, 16)]
-    words = "--feed feed --date 20260504 --from 08:00 --to 08:00 --trips 8 --walk 7200 --share 1,50 --within 900,1800".split()
-    words += "--workers 64 --tries 8 --back 6 --ahead 6 --origins a.csv --opportunities chances.csv --footpaths walks.csv".split()
+    words = "--feed feed --date 20260504 --from 08:00 --to 08:00 --trips 8 --walk 7200 --share 1,50".split()
+    words += "--within 900,1800 --workers 64 --tries 8 --back 6 --ahead 6 --origins a.csv".split()
+    words += "--opportunities chances.csv --footpaths walks.csv".split()
     out = "scenario,origin,share,access_900,access_1800,A,B,C\n"
     for k, name in enumerate(["base", *(it[:-4] for it in scenarios)]):
         near, far = 10 * (600 + 60 * k <= 900), 10 + 5 * (k <= 5)
@@ -96,9 +103,12 @@ def many_rows(room: Path) -> Run:
 
 
 def window(room: Path, first: str, last: str, minutes: int, before: int, shares: list[int]) -> Run:
-    """A long window: of its departures `before` are not after 08:00, when T1 leaves A, and the k-th share of a hundred takes the rank that it fills."""
+    """A long window: of its departures `before` are not after 08:00, when T1 leaves A, and the k-th share of a hundred
+    takes the rank that it fills.
+    """
     small(room)
-    words = f"--feed feed --date 20260504 --from {first} --to {last} --trips 2 --walk 0 --within 1800 --workers 1 --tries 1".split()
+    words = f"--feed feed --date 20260504 --from {first} --to {last} --trips 2 --walk 0 --within 1800".split()
+    words += "--workers 1 --tries 1".split()
     out = "scenario,origin,share,access_1800,A,B,C\n"
     for share in shares:
         rank = math.ceil(share * minutes / 100)
@@ -224,12 +234,15 @@ def first_difference(was: Left, wanted: Left) -> str:
             at = next(
                 (n for n, (a, b) in enumerate(zip(str(one), str(other))) if a != b), min(len(str(one)), len(str(other)))
             )
-            return f"{name} differs at byte {at + 1}: {str(one)[at:at + 60]!r} in place of {str(other)[at:at + 60]!r}; {was[1][:200]}"
+            found, expected = str(one)[at : at + 60], str(other)[at : at + 60]
+            return f"{name} differs at byte {at + 1}: {found!r} in place of {expected!r}; {was[1][:200]}"
     return f"status {was[2]} in place of {wanted[2]}"
 
 
 def greatest(program: str, room: Path) -> Iterator[tuple[str, str]]:
-    """The greatest feed that is allowed, and then one more of each that has a limit; gives each with what was wrong, if anything was."""
+    """The greatest feed that is allowed, and then one more of each that has a limit; gives each with what was wrong, if
+    anything was.
+    """
     subprocess.run([sys.executable, str(GREATEST), str(room)], check=True)
     words = (
         "--feed . --footpaths footpaths.csv --origins origins.csv --walk 600 --date 20260504 --back 0 --ahead 0".split()
