@@ -41,7 +41,7 @@ case $kind in
     *) echo "$0: no such room: $kind" >&2; exit 2 ;;
 esac
 inside=$room/$kind
-if [ $kind = analysts ]; then
+if [ "$kind" = analysts ]; then
     inside=$room/debian
     python3 "$here/bench/feedgen.py" town "$room/made" > "$room/log"
     mkdir "$inside/study"
@@ -61,7 +61,7 @@ if [ $kind = analysts ]; then
     grep -c '^+ ' "$room/log" | sed 's/$/ commands of docs\/ANALYSTS.md ran in a Debian of their own/'
     exit
 fi
-if [ $kind = debian ]; then
+if [ "$kind" = debian ]; then
     cp "$deb" "$inside/tmp/ttm.deb"
     install_it() { chroot "$inside" dpkg --install /tmp/ttm.deb; }
     remove_it() { chroot "$inside" dpkg --purge ttm; }
