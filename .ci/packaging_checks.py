@@ -122,9 +122,9 @@ def tools_of_the_folder_run(of: Packages) -> None:
 
 
 def control_says_what_is_needed(of: Packages) -> None:
-    """the package depends on the C library alone, and recommends what the tools stand on"""
+    """the package depends on the libraries of C alone, and recommends what the tools stand on"""
     depends, recommends = (of.output("dpkg-deb", "--field", of.deb, it) for it in ("Depends", "Recommends"))
-    assert re.fullmatch(r"libc6( \(>= 2\.\d+\))?\n", depends), depends
+    assert re.fullmatch(r"libc6( \(>= 2\.\d+\))?(, libgcc-s1)?\n", depends), depends
     assert "python3-numpy" in recommends and "python3-pandas" in recommends, recommends
 
 

@@ -1,7 +1,7 @@
 #!/usr/bin/env python3
 """Deterministic generator of city-like GTFS feeds for the benchmark of `ttm`.
 
-    feedgen.py SIZE FOLDER [SEED]        SIZE is town, city or metro
+    feedgen.py SIZE FOLDER [SEED] [--changes SECONDS]        SIZE is town, city or metro
 
 Writes the unpacked feed (stops, routes, calendar, calendar_dates, trips, stop_times, transfers)
 plus footpaths.csv, origins.csv (and one as origins1000.csv with more), opportunities.csv, cut.csv, late.csv and
@@ -13,7 +13,8 @@ record (location_type 1) with two platforms. Bus lines: radial (outer node to th
 (straight with few bends), local (a winding walk round a hub). Each line runs in both directions, with headways by
 class and time of day, running times that grow by a quarter in the peaks, and a few short workings.
 Walking: direct footpaths between stops within 500 m as the crow flies, 0.96 s a metre (so 480 s), closed by the
-program with its limit.
+program with its limit. With --changes each change between two vehicles at a stop takes so long, by transfers.txt; all
+other files are the same.
 
 Whatever draws takes the one `random.Random` of the feed: another order of the draws makes another feed.
 """
@@ -440,15 +441,16 @@ def footpaths(stops: Sequence[Stop]) -> Iterator[str]:
 # Files.
 
 
-def write_places(folder: str, stops: Stops) -> None:
-    """Writes stops.txt, where stations come first, and transfers.txt."""
+def write_places(folder: str, stops: Stops, change: int) -> None:
+    """Writes stops.txt, where stations come first, and transfers.txt, with a change time of each stop that isn't 0."""
     stations = [stops.stations[node].name for node in sorted(stops.stations)]
     rows = ['%s,"Station, %s",,,1,' % (name, name) for name in stations]
     for it in stops.stops:
         latitude, longitude = 51.5 + it.north / 111320, -0.1 + it.east / 69300
         rows.append("%s,%s,%.6f,%.6f,0,%s" % (it.name, it.label, latitude, longitude, it.station))
     write_lines(folder, "stops.txt", "stop_id,stop_name,stop_lat,stop_lon,location_type,parent_station", rows)
-    changes = ("%s,%s,2,90" % (name, name) for name in stations)
+    changes = ["%s,%s,2,90" % (name, name) for name in stations]
+    changes += ["%s,%s,2,%d" % (it.name, it.name, change) for it in stops.stops if change]
     write_lines(folder, "transfers.txt", "from_stop_id,to_stop_id,transfer_type,min_transfer_time", changes)
 
 
@@ -481,7 +483,7 @@ def write_scenarios(folder: str, routes: Sequence[str], trips: Sequence[str], rn
     write_lines(folder, "late.csv", "action,id,seconds", shifted)
 
 
-def write_feed(name: str, seed: int, folder: str) -> str:
+def write_feed(name: str, seed: int, folder: str, change: int = 0) -> str:
     """Draws and writes a feed with all that belongs to it, and tells its counts."""
     size, rnd = SIZES[name], random.Random("ttm-%s-%d" % (name, seed))
     os.makedirs(folder, exist_ok=True)
@@ -490,7 +492,7 @@ def write_feed(name: str, seed: int, folder: str) -> str:
     stops = stops_of(streets, lines)
     with open(os.path.join(folder, "stop_times.txt"), "w", newline="") as file:
         trips = write_stop_times(file, courses_of(streets, stops, lines), rnd)
-    write_places(folder, stops)
+    write_places(folder, stops, change)
     write_routes_and_days(folder, lines)
     write_lines(folder, "trips.txt", "route_id,service_id,trip_id,direction_id", trips.records)
     walks = list(footpaths(stops.stops))
@@ -508,8 +510,11 @@ def main() -> None:
     words.add_argument("size", choices=SIZES, metavar="SIZE", help="town, city or metro")
     words.add_argument("folder", metavar="FOLDER", help="where the feed is written; made if it isn't there")
     words.add_argument("seed", metavar="SEED", nargs="?", type=int, default=1, help="a whole number; 1 by default")
+    words.add_argument(
+        "--changes", metavar="SECONDS", type=int, default=0, help="of a change at each stop (default: 0)"
+    )
     asked = words.parse_args()
-    told = write_feed(asked.size, asked.seed, asked.folder)
+    told = write_feed(asked.size, asked.seed, asked.folder, asked.changes)
     write_lines(asked.folder, "SIZE.txt", told.rstrip("\n"), [])
     sys.stdout.write(told)
 

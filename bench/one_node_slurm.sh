@@ -1,5 +1,6 @@
 #!/bin/sh
-# Starts a Slurm of one node on this machine, runs a command with it, and ends it; nothing of the system's own Slurm or munge is touched.
+# Starts a Slurm of one node on this machine, runs a command with it, and ends it; nothing of the system's own Slurm or
+# munge is touched.
 # usage: bench/one_node_slurm.sh COMMAND ..        (as root; Debian: apt-get install slurm-wlm)
 set -eu
 [ $# -gt 0 ] || { echo "usage: $0 COMMAND .." >&2; exit 2; }

@@ -4,14 +4,16 @@ with a row for each feed.
 
     ratios.py [--times N] [--origins N] [--minutes N] [--trips N] [--walk SECONDS] FOLDER ..
     ratios.py --peers FOLDER --beside MEASURE --origins origins500.csv --first 200 FOLDER ..
+    ratios.py --alone [--beside MEASURE] FOLDER ..
 
 Each folder holds an unpacked feed, and may have `footpaths.csv` and `origins.csv` (else the first stops are the
 origins). All compute the same: departures each minute from 07:00, on one service day, one thread. `bench/raptor.rs` is
 compiled by rustc for the processor that Rattle compiles for; `ttm`'s part is `measure durations`, so `rt run` in
 crates/measure comes first. With --peers a folder of Rust peers is measured, too: its textbook RAPTOR `a` and its range
-RAPTOR `b`, over feeds of `feedgen.py`; with --beside the `measure` that another commit built. Each origin's time is the
-least of the runs, and a feed's is the mean over its origins, in milliseconds. Where the sums of all durations differ,
-the script fails. Standard library only.
+RAPTOR `b`, over feeds of `feedgen.py`; with --beside the `measure` that another commit built; with --alone no RAPTOR of
+bench/, as for feeds with change times, which they don't know. Each origin's time is the least of the runs, and a feed's
+is the mean over its origins, in milliseconds. Where the sums of all durations differ, the script fails. Standard
+library only.
 """
 import os
 import re
@@ -45,6 +47,7 @@ class Asked:
     date: str
     peers: Optional[str]
     beside: Optional[str]
+    alone: bool
     folder: list[str]
 
     def origins_of(self, folder: str) -> list[str]:
@@ -95,8 +98,10 @@ def compiled_peers(folder: str, place: str) -> str:
 def programs_of(asked: Asked, place: str) -> list[Program]:
     """All that is run in turns; `ttm`'s own part comes last."""
     own = built("measure")
-    raptor = compiled(os.path.join(HERE, "raptor.rs"), os.path.join(place, "raptor"), "-O")
-    programs = [Program([raptor], {"textbook": "textbook", "range": "range"})]
+    programs = []
+    if not asked.alone:
+        raptor = compiled(os.path.join(HERE, "raptor.rs"), os.path.join(place, "raptor"), "-O")
+        programs.append(Program([raptor], {"textbook": "textbook", "range": "range"}))
     if asked.peers:
         programs.append(Program([compiled_peers(asked.peers, place)], {"a": "a", "b": "b"}))
     if asked.beside:
@@ -158,6 +163,7 @@ def asked_of(words: Optional[Sequence[str]] = None) -> Asked:
     parser.add_argument("--date", default=DATE, help="YYYYMMDD (default: %s)" % DATE)
     parser.add_argument("--peers", metavar="FOLDER", help="a folder of Rust peers with src/net.rs and src/scalar.rs")
     parser.add_argument("--beside", metavar="PROGRAM", help="the program of crates/measure as another commit builds it")
+    parser.add_argument("--alone", action="store_true", help="without bench/raptor.rs")
     parser.add_argument("folder", nargs="+", metavar="FOLDER", help="an unpacked feed")
     return Asked(**vars(parser.parse_args(words)))
 

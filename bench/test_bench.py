@@ -26,6 +26,16 @@ def test_the_town_has_the_same_bytes_for_ever(tmp_path: Path) -> None:
     assert len(files) == 13 and hashlib.sha256(sums.encode()).hexdigest() == TOWN
 
 
+def test_change_times_are_in_the_transfers_alone(tmp_path: Path) -> None:
+    plain, changed = tmp_path / "plain", tmp_path / "changed"
+    feedgen.write_feed("town", 1, str(plain))
+    feedgen.write_feed("town", 1, str(changed), 120)
+    other = [it.name for it in sorted(plain.iterdir()) if it.read_bytes() != (changed / it.name).read_bytes()]
+    assert other == ["transfers.txt"]
+    rows = (changed / "transfers.txt").read_text().splitlines()
+    assert len([it for it in rows if it.endswith(",2,120")]) == 482 and "B00000N,B00000N,2,120" in rows
+
+
 def test_another_seed_makes_another_town(tmp_path: Path) -> None:
     told = [feedgen.write_feed("town", seed, str(tmp_path / str(seed))) for seed in (1, 2, 2)]
     assert told[0] != told[1] == told[2]

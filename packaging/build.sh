@@ -74,6 +74,8 @@ gzip -9n "$room/ttm.tar"
 tools_need="python3 (>= 3.11), python3-numpy (>= 1:1.24), python3-pandas (>= 1.5), python3-tqdm"
 some_tools_need="python3-matplotlib (>= 3.6), python3-h5py, python3-geopandas"
 needed=$(grep -ao 'GLIBC_2\.[0-9]*' "$program" | sort -u -t . -k 2n | sed -n '$s/GLIBC_//p')
+libraries="libc6${needed:+ (>= $needed)}"
+! grep -aq 'libgcc_s\.so\.1' "$program" || libraries="$libraries, libgcc-s1"
 mkdir "$room/deb/DEBIAN"
 cat > "$room/deb/DEBIAN/control" << END
 Package: ttm
@@ -83,7 +85,7 @@ Maintainer: ttm <ttm@localhost>
 Section: science
 Priority: optional
 Installed-Size: $(du -k -s --apparent-size "$usr" | cut -f 1)
-Depends: libc6${needed:+ (>= $needed)}
+Depends: $libraries
 Recommends: $tools_need, $some_tools_need
 Suggests: python3-scipy, python3-pyosmium, parallel, slurm-client
 Description: travel time matrices over a GTFS feed, proved

@@ -1,10 +1,12 @@
 #!/bin/sh
 # Installs a Debian package of build.sh into a room of its own, runs the worked example of README there, and removes the
 # package again, which must leave none of its files.
-# usage: packaging/try.sh [--room debian|dpkg] DEB
-#   debian  a Debian 12 that debootstrap makes: wants root, debootstrap and a mirror; its address may stand in MIRROR
-#   dpkg    an empty one by `dpkg --root`, over this machine's libraries: wants root
-# By default debian where that can be had, else dpkg. Status 0: all is right; 1: something isn't; 75: no such room can be had.
+# usage: packaging/try.sh [--room debian|dpkg|analysts] DEB
+#   debian    a Debian 12 that debootstrap makes: wants root, debootstrap and a mirror; its address may stand in MIRROR
+#   dpkg      an empty one by `dpkg --root`, over this machine's libraries: wants root
+#   analysts  a Debian 12 where apt installs the package with all that it recommends (some minutes); the commands of
+#             docs/ANALYSTS.md, from zip to picture, run there as printed, and each must be a success
+# By default debian where that can be had, else dpkg. Status 0: all is right; 1: something isn't; 75: there is no room.
 set -eu
 umask 022
 export LC_ALL=C.UTF-8 PATH="$PATH:/usr/sbin:/sbin" DEBIAN_FRONTEND=noninteractive
@@ -15,7 +17,7 @@ if [ "${1:-}" = --room ]; then
     kind=$2
     shift 2
 fi
-[ $# -eq 1 ] || { sed -n '4,6s/^# //p' "$0" >&2; exit 2; }
+[ $# -eq 1 ] || { sed -n '4,9s/^# //p' "$0" >&2; exit 2; }
 deb=$(realpath "$1")
 [ "$(id -u)" = 0 ] || { echo "$0: a room can be had by root alone" >&2; exit $NO_ROOM; }
 room=$(mktemp -d)
@@ -25,20 +27,41 @@ trap 'exit 1' HUP INT TERM
 make_debian() {
     mkdir "$room/debian"
     # shellcheck disable=SC2086
-    debootstrap --variant=minbase --include=python3-minimal,libpython3-stdlib bookworm "$room/debian" ${MIRROR:-} > "$room/log" 2>&1
+    debootstrap --variant=minbase --include=python3-minimal,libpython3-stdlib bookworm "$room/debian" ${MIRROR:-} \
+        > "$room/log" 2>&1
 }
 make_dpkg() {
     mkdir -p "$room/dpkg/var/lib/dpkg/info" "$room/dpkg/var/lib/dpkg/updates" "$room/dpkg/var/log"
     touch "$room/dpkg/var/lib/dpkg/status"
 }
 case $kind in
-    debian) make_debian || { tail -n 3 "$room/log" >&2; exit $NO_ROOM; } ;;
+    debian | analysts) make_debian || { tail -n 3 "$room/log" >&2; exit $NO_ROOM; } ;;
     dpkg) make_dpkg ;;
     '') if make_debian; then kind=debian; else kind=dpkg; make_dpkg; fi ;;
     *) echo "$0: no such room: $kind" >&2; exit 2 ;;
 esac
 inside=$room/$kind
-if [ $kind = debian ]; then
+if [ "$kind" = analysts ]; then
+    inside=$room/debian
+    python3 "$here/bench/feedgen.py" town "$room/made" > "$room/log"
+    mkdir "$inside/study"
+    feed="calendar.txt calendar_dates.txt routes.txt stop_times.txt stops.txt transfers.txt trips.txt"
+    # shellcheck disable=SC2086
+    (cd "$room/made" && python3 -m zipfile -c "$inside/study/town.zip" $feed)
+    cp "$room/made/opportunities.csv" "$inside/study/jobs.csv"
+    cp "$deb" "$inside/tmp/ttm.deb"
+    {
+        echo 'set -ex; cd /study'
+        awk '/^## / { on = /from zip to picture/ } on && /^    \$ / { line = substr($0, 7); more = 1 }
+            on && more && !/^    \$ / { line = substr($0, 5) }
+            more { print line; more = line ~ /\\$/ }' "$here/docs/ANALYSTS.md"
+    } > "$inside/tmp/page.sh"
+    chroot "$inside" apt-get install -q -y unzip /tmp/ttm.deb > "$room/log" 2>&1 || { tail "$room/log" >&2; exit 1; }
+    chroot "$inside" bash /tmp/page.sh > "$room/log" 2>&1 || { cat "$room/log" >&2; exit 1; }
+    grep -c '^+ ' "$room/log" | sed 's/$/ commands of docs\/ANALYSTS.md ran in a Debian of their own/'
+    exit
+fi
+if [ "$kind" = debian ]; then
     cp "$deb" "$inside/tmp/ttm.deb"
     install_it() { chroot "$inside" dpkg --install /tmp/ttm.deb; }
     remove_it() { chroot "$inside" dpkg --purge ttm; }
