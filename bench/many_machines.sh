@@ -3,7 +3,7 @@
 # first, or is lost, and is computed again, as docs/ANALYSTS.md says. FOLDER has a scenario file cut.csv, and footpaths.csv and opportunities.csv where --walk
 # and access shall mean something. Hosts are this machine by two names: an ssh server on a port of its own is started and ended where there is one.
 # Three minutes on the feed of a town: Slurm lets a task that is begun again wait for two.
-# usage: bench/many_machines.sh FOLDER        (after `rt run` in crates/ttm; as root; Debian: apt-get install parallel slurm-wlm openssh-server)
+# usage: bench/many_machines.sh FOLDER        (after `rt run` in crates/ttm; as root; Debian: apt-get install python3-numpy parallel slurm-wlm openssh-server)
 set -eu
 [ $# -eq 1 ] || { echo "usage: $0 FOLDER" >&2; exit 2; }
 here=$(cd "$(dirname "$0")/.." && pwd)
@@ -24,7 +24,7 @@ for file in footpaths opportunities; do
 done
 study="$study $feed/cut.csv"
 join() {
-    python3 "$here/tools/join.py" --origins parts/origins.csv --out joined.csv parts/matrix_part_*.csv
+    "$here/tools/ttm-tools" join --origins parts/origins.csv --out joined.csv parts/matrix_part_*.csv
 }
 same() {
     join
@@ -33,7 +33,7 @@ same() {
     rm -f joined.csv parts/matrix_* parts/log
 }
 
-python3 "$here/tools/split.py" --feed "$feed" --parts 7 --out parts
+"$here/tools/ttm-tools" split --feed "$feed" --parts 7 --out parts
 ttm $study > whole.csv
 
 # The line of the recipe, on this machine; the third part can't be computed at first.

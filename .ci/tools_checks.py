@@ -1,0 +1,150 @@
+#!/usr/bin/env python3
+"""Checks the Python of this repository: its layout, its types, and the tests of the tools.
+
+    tools_checks.py [PROGRAM]        with the built `ttm`, the tests that run it too
+
+`black`, `flake8` and `mypy --strict` look at the folders below, and `pytest` runs the tests of the tools. What is
+missing is installed from Debian where that can be had, in five minutes at most; a linter, and a test that needs a
+package, counts as skipped where it can't. Each linter counts as one. The last line is 'N passed, M failed, K skipped'.
+"""
+
+import os
+import re
+import shutil
+import subprocess
+import sys
+import time
+from dataclasses import dataclass
+from pathlib import Path
+
+ROOT = Path(__file__).resolve().parent.parent
+PYTHON = "/usr/bin/python3"  # that of Debian's packages
+CHECKED = ["tools", "bench/madematrix.py", ".ci/tools_checks.py"]  # folders, and files, that pass all linters
+COMMANDS = {"black": "black", "flake8": "flake8", "mypy": "mypy"}
+PACKAGES = {
+    "numpy": "python3-numpy",
+    "pandas": "python3-pandas",
+    "matplotlib": "python3-matplotlib",
+    "h5py": "python3-h5py",
+    "geopandas": "python3-geopandas",
+    "scipy": "python3-scipy",
+    "pytest": "python3-pytest",
+    "tqdm": "python3-tqdm",
+}
+SECONDS_TO_INSTALL = 300
+
+
+@dataclass
+class Counts:
+    passed: int = 0
+    failed: int = 0
+    skipped: int = 0
+
+    def add(self, passed: int, failed: int, skipped: int) -> None:
+        self.passed, self.failed, self.skipped = self.passed + passed, self.failed + failed, self.skipped + skipped
+
+
+def lacking() -> list[str]:
+    """The Debian packages of what isn't there."""
+    made = "import importlib.util, sys; print(*[it for it in sys.argv[1:] if importlib.util.find_spec(it) is None])"
+    found = subprocess.run([PYTHON, "-c", made, *PACKAGES], capture_output=True, text=True)
+    modules = [PACKAGES[name] for name in found.stdout.split()] if found.returncode == 0 else list(PACKAGES.values())
+    return modules + [package for command, package in COMMANDS.items() if shutil.which(command) is None]
+
+
+def install() -> None:
+    """Installs what is lacking, where this is Debian and root runs it."""
+    if not lacking() or os.geteuid() != 0 or shutil.which("apt-get") is None:
+        return
+    environment, end = {**os.environ, "DEBIAN_FRONTEND": "noninteractive"}, time.monotonic() + SECONDS_TO_INSTALL
+    for words in (["update", "-q"], ["install", "-q", "-y", "--no-install-recommends", *lacking()]):
+        try:
+            left = max(1.0, end - time.monotonic())
+            subprocess.run(["apt-get", *words], env=environment, timeout=left, capture_output=True)
+        except subprocess.TimeoutExpired:
+            print(f"apt-get {words[0]}: not done in {SECONDS_TO_INSTALL} seconds", flush=True)
+
+
+def run(words: list[str], folder: Path) -> tuple[int, str]:
+    """Runs a command, prints what it says, and gives its status and its words."""
+    environment = {**os.environ, "PYTHONDONTWRITEBYTECODE": "1"}
+    ran = subprocess.run(
+        words, cwd=folder, env=environment, stdout=subprocess.PIPE, stderr=subprocess.STDOUT, text=True
+    )
+    print(ran.stdout, end="", flush=True)
+    return ran.returncode, ran.stdout
+
+
+def python_files(folders: list[str]) -> list[str]:
+    """All files of Python in some folders, scripts without a suffix too."""
+    found = []
+    for path in sorted(path for folder in folders for path in [ROOT / folder, *(ROOT / folder).rglob("*")]):
+        script = path.is_file() and not path.suffix and path.read_bytes()[:64].startswith(b"#!/usr/bin/env python3")
+        if path.is_file() and (path.suffix == ".py" or script):
+            found.append(str(path.relative_to(ROOT)))
+    return found
+
+
+def lint(counts: Counts) -> None:
+    """Each linter over the folders."""
+    files, settings = python_files(CHECKED), "tools/pyproject.toml"
+    linters = {
+        "black": ["black", "--check", "-q", "--config", settings, *files],
+        "flake8": ["flake8", *files],
+        "mypy": [
+            "mypy",
+            "--strict",
+            "--no-error-summary",
+            "--cache-dir",
+            os.devnull,
+            "--config-file",
+            settings,
+            *packages(),
+        ],
+    }
+    for name, words in linters.items():
+        if shutil.which(name) is None:
+            print(f"1 check is skipped: {name} isn't installed (Debian: apt-get install {COMMANDS[name]})")
+            counts.add(0, 0, 1)
+            continue
+        status, _ = run(words, ROOT)
+        print(f"{name}: {'passed' if status == 0 else 'FAILED'}", flush=True)
+        counts.add(status == 0, status != 0, 0)
+
+
+def packages() -> list[str]:
+    """What mypy looks at: the package, the tests, and the other folders."""
+    return ["tools/src", "tools/tests", *[folder for folder in CHECKED if folder != "tools"]]
+
+
+def test(counts: Counts, program: str | None) -> None:
+    """The tests of the tools."""
+    if subprocess.run([PYTHON, "-c", "import pytest, numpy"], stderr=subprocess.DEVNULL).returncode != 0:
+        print("the tests of the tools are skipped: without python3-pytest and python3-numpy")
+        counts.add(0, 0, 1)
+        return
+    words = [PYTHON, "-m", "pytest", "-rs", *([f"--program={Path(program).resolve()}"] if program else [])]
+    status, said = run(words, ROOT / "tools")
+    found = {
+        word: int(number)
+        for number, word in re.findall(
+            r"(\d+) (passed|failed|error|errors|skipped)\b", said.splitlines()[-1] if said else ""
+        )
+    }
+    failed = found.get("failed", 0) + found.get("error", 0) + found.get("errors", 0)
+    counts.add(found.get("passed", 0), max(failed, 1 if status else 0), found.get("skipped", 0))
+
+
+def main() -> int:
+    install()
+    missing, counts = lacking(), Counts()
+    if missing:
+        print(f"what needs {', '.join(missing)} is skipped: apt-get can't install that here")
+    lint(counts)
+    test(counts, sys.argv[1] if len(sys.argv) > 1 else None)
+    print(f"{counts.passed} passed, {counts.failed} failed, {counts.skipped} skipped")
+    return 1 if counts.failed else 0
+
+
+if __name__ == "__main__":
+    sys.exit(main())

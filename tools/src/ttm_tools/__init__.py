@@ -1,0 +1,21 @@
+"""What analysts do before and after a run of `ttm`: `ttm-tools --help` names the commands, and `matrix(..)` runs
+`ttm`.
+"""
+
+from typing import TYPE_CHECKING
+
+if TYPE_CHECKING:
+    from .engine import EngineFault, Result, Run, matrix
+    from .faults import BadInput
+
+__version__ = "0.1.0"
+__all__ = ["BadInput", "EngineFault", "Result", "Run", "matrix"]
+
+
+def __getattr__(name: str) -> object:
+    """Names of the package that need numpy, from it only when they are asked for."""
+    from importlib import import_module
+
+    if name in __all__:
+        return getattr(import_module(".faults" if name == "BadInput" else ".engine", __name__), name)
+    raise AttributeError(name)

@@ -1,0 +1,96 @@
+"""ttm-tools long."""
+
+import argparse
+from typing import TYPE_CHECKING
+
+from .options import add_feed, add_matrix, add_out, add_share, add_text, add_within
+
+if TYPE_CHECKING:
+    from ..matrices import Matrix
+    from ..views.long import Choice
+
+TOLD = "a line for each pair, with names and coordinates"
+HELP = """\
+Turns a matrix from wide to long: a line for each origin and destination. A line has scenario, share (where the matrix
+names it), origin, destination and seconds: the travel time, empty where the share of departures doesn't reach the
+destination. With --feed come origin_name, origin_lat, origin_lon, destination_name, destination_lat and destination_lon
+(degrees). With --access there are no destinations: a line has scenario, share, origin, within (the limit in seconds,
+where the matrix names it) and access.
+
+With --names r5py the columns are called as that library calls them: from_id, to_id, and for each share a column such as
+travel_time_p50, in minutes. A name of --out that ends in .parquet writes Parquet (with pyarrow or fastparquet, where
+one is installed), each other a CSV. Rows are turned some at a time, so a matrix may be larger than the memory. Memory:
+some 200 MB."""
+
+
+def describe(parser: argparse.ArgumentParser) -> None:
+    add_feed(parser, "an unpacked feed, for names and coordinates", "there are none")
+    add_text(parser, "--origins", "FILE", "the origins that are taken, a file with the column stop_id", without="all")
+    add_text(
+        parser,
+        "--destinations",
+        "FILE",
+        "the destinations that are taken, a file with the column stop_id",
+        without="all",
+    )
+    told = "a scenario that is taken; may be given several times (without it, all are)"
+    parser.add_argument("--scenario", metavar="NAME", action="append", help=told)
+    add_share(parser, without="all")
+    add_within(parser, without="all; goes with --access")
+    told = "leave out the pairs without a travel time (without it, their seconds are empty)"
+    parser.add_argument("--reached", action="store_true", help=told)
+    told = "access of the origins in place of travel times (without it, travel times)"
+    parser.add_argument("--access", action="store_true", help=told)
+    told = "whose names the columns bear (default ttm); r5py's have one scenario and minutes"
+    parser.add_argument("--names", choices=("ttm", "r5py"), default="ttm", help=told)
+    add_out(parser, "where the lines are written, as CSV or, where it ends in .parquet, as Parquet")
+    add_matrix(parser)
+
+
+def run(words: argparse.Namespace) -> int:
+    from ..faults import WrongWords, needs
+
+    if words.within is not None and not words.access:
+        raise WrongWords("--within goes with --access")
+    if words.names == "r5py" and words.access:
+        raise WrongWords("--names r5py goes with travel times, not with --access")
+    parquet = words.out is not None and words.out.endswith(".parquet")
+    if parquet and words.access:
+        raise WrongWords("--access is written as CSV")
+    needs("numpy", *(["pandas"] if parquet else []))
+    from ..feed import read_stops
+    from ..files import output
+    from ..matrices import open_matrix
+    from ..views import long
+
+    matrix = open_matrix(words.matrix)
+    stops = read_stops(words.feed) if words.feed else None
+    choice = choice_of(words, matrix)
+    if parquet:
+        long.write_parquet(words.out, long.frames_of(matrix, choice, stops))
+        return 0
+    with output(words.out) as file:
+        if words.access:
+            long.write_access(file, matrix, choice, words.within, stops)
+        else:
+            long.write_times(file, matrix, choice, stops)
+    return 0
+
+
+def choice_of(words: argparse.Namespace, matrix: "Matrix") -> "Choice":
+    """What is taken of the matrix."""
+    from ..faults import BadInput
+    from ..feed import read_list
+    from ..views.long import Choice
+
+    named = [matrix.scenario(name) for name in words.scenario or matrix.scenarios]
+    scenarios = [name for name in matrix.scenarios if name in named]
+    if words.names == "r5py" and len(scenarios) > 1:
+        raise BadInput(
+            words.matrix, f"r5py's columns name no scenario, and it has {', '.join(scenarios)}: name one by --scenario"
+        )
+    shares = matrix.shares if words.share is None else [matrix.share(words.share)]
+    known = [name for scenario in matrix.scenarios for name in matrix.origins(scenario, shares[0])]
+    origins = read_list(words.origins, known, "origin") if words.origins else None
+    destinations = read_list(words.destinations, matrix.stops, "stop") if words.destinations else matrix.stops
+    return Choice(scenarios, shares, origins, destinations, words.reached, words.names == "r5py")

@@ -1,0 +1,86 @@
+"""ttm-tools map."""
+
+import argparse
+import math
+
+from .options import add_base, add_matrix, add_number, add_share, add_text, add_within
+
+TOLD = "a picture of travel times, of access, or of a difference"
+HELP = """\
+Draws a map of a matrix, a PNG file: travel times from an origin (times), access over all origins (access), or who loses
+and who gains in a scenario beside the base (difference): access at each origin, or with --origin the travel time to
+each stop. Who is cut off is a class of its own: a stop that isn't reached any more, an origin from which half of the
+stops that were reached, or more, aren't any more.
+
+Stops are drawn where the feed's stops.txt has them, over the lines of its shapes.txt, or over straight ones from stop
+to stop where it has none. With --edits the lines of the trips that a scenario file removes are drawn black; in a
+difference from a base that has a scenario file of its own, name both files, and the trips that the base lacks and the
+scenario has are drawn as added. Needs matplotlib. Memory: some 400 MB, and 60 bytes for each stop time of the feed."""
+
+
+def breaks_of(text: str) -> tuple[float, ...]:
+    """Numbers that grow."""
+    try:
+        numbers = [float(part) for part in text.split(",")]
+    except ValueError:
+        numbers = [math.nan]
+    grows = all(low < high for low, high in zip(numbers, numbers[1:]))
+    if not (numbers[0] > 0 and grows and math.isfinite(numbers[-1])):
+        raise argparse.ArgumentTypeError(f"{text!r} is not numbers above 0 that grow, parted by commas")
+    return tuple(int(number) if number.is_integer() else number for number in numbers)
+
+
+def describe(parser: argparse.ArgumentParser) -> None:
+    parser.add_argument("picture", choices=("times", "access", "difference"), help="what is drawn")
+    add_matrix(parser)
+    parser.add_argument("--feed", metavar="FOLDER", required=True, help="the unpacked feed of the matrix (needed)")
+    add_text(parser, "--origin", "STOP", "the stop from which one starts", without="access is drawn; times needs it")
+    add_text(
+        parser,
+        "--scenario",
+        "NAME",
+        "the scenario that is drawn",
+        without="the base, in a difference the only other one",
+    )
+    add_base(parser)
+    add_share(parser)
+    add_within(parser)
+    told = (
+        "a scenario file, named as its scenario, whose trips are drawn; may be given more than once (without it, none)"
+    )
+    parser.add_argument("--edits", metavar="FILE", action="append", default=[], help=told)
+    add_text(parser, "--unit", "WORD", "what is counted as access, such as jobs", default="opportunities")
+    told = "where classes begin, ascending numbers above 0 between commas: of minutes, of access, or of percent"
+    missing = (
+        "default 10,20,30,45,60,90 minutes; in a difference 1,5,15 minutes or 1,5,10,25 %%; of access round numbers"
+    )
+    parser.add_argument("--breaks", metavar="N,N..", type=breaks_of, help=f"{told} ({missing})")
+    add_text(parser, "--title", "TEXT", "what stands above the map", without="what is drawn")
+    add_text(parser, "--note", "TEXT", "what else a reader needs to know", without="nothing")
+    add_number(parser, "--width", "how wide the picture is", "pixels", (300, 10000), default=1350)
+    add_text(
+        parser, "--out", "FILE", "where the picture is written; it gets its name when it is whole", default="map.png"
+    )
+
+
+def run(words: argparse.Namespace) -> int:
+    from ..faults import WrongWords, needs
+
+    if words.picture == "times" and words.origin is None:
+        raise WrongWords("times needs --origin")
+    needs("numpy", "pandas", "matplotlib")
+    from ..files import output
+    from ..matrices import open_matrix
+    from ..views.maps import Sheet, figure_of, matrix_stops, picture_of
+    from ..views.pictures import Wish
+
+    matrix = open_matrix(words.matrix)
+    stops = matrix_stops(words.feed, matrix)
+    wish = Wish(words.scenario, words.base, words.share, words.within, words.breaks, words.unit)
+    picture = picture_of(words.picture, matrix, stops, words.origin, wish)
+    sheet = Sheet(words.title, words.note or "", words.width, words.edits)
+    base = words.base if words.picture == "difference" else None
+    figure = figure_of(picture, matrix, stops, words.feed, sheet, base)
+    with output(words.out) as file:
+        figure.savefig(file, format="png", dpi="figure")
+    return 0

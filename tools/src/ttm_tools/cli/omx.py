@@ -1,0 +1,27 @@
+"""ttm-tools omx."""
+
+import argparse
+
+TOLD = "an Open Matrix file"
+HELP = """\
+Writes a matrix as an Open Matrix file (OMX, an HDF5 file), which AequilibraE, Visum, Emme and TransCAD load: a matrix
+for each scenario and share, such as base_50, in seconds, NaN where a stop isn't reached; lookups with the identifiers
+of origins and destinations and with numbers from 1 on; the sums of access beside. All scenarios and shares have the
+same origins. Every command of ttm-tools takes such a file in place of the matrix, so that a large one is read once.
+Needs h5py. Memory: some 200 MB."""
+
+
+def describe(parser: argparse.ArgumentParser) -> None:
+    told = "where the Open Matrix file is written; it gets its name when it is whole (needed)"
+    parser.add_argument("--out", metavar="FILE", required=True, help=told)
+    parser.add_argument("matrix", metavar="MATRIX", help="a matrix as ttm prints it")
+
+
+def run(words: argparse.Namespace) -> int:
+    from ..faults import needs
+
+    needs("numpy", "h5py")
+    from ..matrices import open_matrix, write_open_matrix
+
+    write_open_matrix(open_matrix(words.matrix), words.out)
+    return 0

@@ -1,0 +1,80 @@
+"""How options are described: each with what it says, its unit, its range, and what holds without it."""
+
+import argparse
+import math
+from typing import Callable
+
+
+def number(unit: str, least: float, most: float, whole: bool = True) -> Callable[[str], float]:
+    """A reader of numbers of a range, whole ones or any."""
+
+    def read(text: str) -> float:
+        try:
+            made = int(text) if whole else float(text)
+        except ValueError:
+            made = math.nan
+        if not least <= made <= most:
+            raise argparse.ArgumentTypeError(f"{text!r} is not {range_told(unit, least, most)}")
+        return made
+
+    return read
+
+
+def range_told(unit: str, least: float, most: float) -> str:
+    return f"{least:g} to {most:,.10g}{' ' + unit if unit else ''}"
+
+
+def add_number(
+    parser: argparse.ArgumentParser,
+    name: str,
+    told: str,
+    unit: str,
+    bounds: tuple[float, float],
+    default: float | None = None,
+    without: str = "",
+    whole: bool = True,
+) -> None:
+    """An option with a number of a unit and a range; without a default it says what holds without it."""
+    missing = f"default {default:g}" if default is not None else f"without it, {without}"
+    parser.add_argument(
+        name,
+        type=number(unit, *bounds, whole),
+        default=default,
+        metavar=unit.upper().replace(" ", "_") if unit.isascii() and unit.replace(" ", "").isalpha() else "N",
+        help=f"{told}: {range_told(unit, *bounds).replace('%', '%%')} ({missing.replace('%', '%%')})",
+    )
+
+
+def add_text(
+    parser: argparse.ArgumentParser, name: str, metavar: str, told: str, default: str | None = None, without: str = ""
+) -> None:
+    """An option with a text, such as a path or a name."""
+    missing = f"default {default}" if default is not None else f"without it, {without}"
+    parser.add_argument(name, metavar=metavar, default=default, help=f"{told} ({missing})")
+
+
+def add_matrix(parser: argparse.ArgumentParser) -> None:
+    parser.add_argument(
+        "matrix", metavar="MATRIX", help="a matrix as ttm prints it, or an Open Matrix file of ttm-tools omx"
+    )
+
+
+def add_share(parser: argparse.ArgumentParser, without: str = "the only one") -> None:
+    told = "the share of departures whose travel times are taken, in percent"
+    add_number(parser, "--share", told, "percent", (1, 100), without=without)
+
+
+def add_within(parser: argparse.ArgumentParser, without: str = "the only one") -> None:
+    add_number(parser, "--within", "the limit of the access that is taken", "seconds", (0, 4294967295), without=without)
+
+
+def add_base(parser: argparse.ArgumentParser) -> None:
+    add_text(parser, "--base", "NAME", "the scenario that others are compared with", default="base")
+
+
+def add_feed(parser: argparse.ArgumentParser, told: str, without: str) -> None:
+    add_text(parser, "--feed", "FOLDER", told, without=without)
+
+
+def add_out(parser: argparse.ArgumentParser, told: str, without: str = "standard output") -> None:
+    add_text(parser, "--out", "FILE", f"{told}; it gets its name when it is whole", without=without)

@@ -1,0 +1,53 @@
+"""ttm-tools walks."""
+
+import argparse
+import os
+import sys
+
+from .options import add_number, add_out, add_text
+
+TOLD = "footpaths of a feed from the coordinates of its stops"
+HELP = """\
+Writes the footpaths of a feed from the coordinates of its stops: straight lines, made longer by a detour factor. Two
+stops have a footpath, in each direction, where the way between them takes at most the limit: the distance over ground
+times the detour factor at the walking speed, rounded up to whole seconds. ttm closes chains of footpaths itself, within
+its own --walk, so a limit above that adds nothing.
+
+Stops are those at which vehicles call: location_type 0 or empty. Where their station lists entrances (location_type 2),
+one reaches or leaves it only by an entrance; within one station one walks directly (GTFS reference, stops.txt). A stop
+without coordinates, at 0 and 0, or at none on earth has no footpath, which a line on standard error counts. The file
+has the columns from_stop_id, to_stop_id and seconds; hand it to ttm by --footpaths."""
+
+
+def describe(parser: argparse.ArgumentParser) -> None:
+    add_number(parser, "--limit", "the longest walk", "seconds", (1, 86400), default=600, whole=False)
+    add_number(parser, "--speed", "how fast one walks", "m/s", (0.01, 100), default=1.33, whole=False)
+    told = "metres of way for a metre of straight line"
+    add_number(parser, "--detour", told, "", (1, 100), default=1.3, whole=False)
+    told = "walks of your own, a table with from_stop_id, to_stop_id and seconds; decimals are rounded up, and counted"
+    add_text(parser, "--table", "FILE", told, without="straight lines")
+    add_out(parser, "where the footpaths are written", without="footpaths.csv in FOLDER")
+    parser.add_argument("folder", metavar="FOLDER", help="an unpacked feed")
+
+
+def run(words: argparse.Namespace) -> int:
+    from ..faults import needs
+
+    needs("numpy")
+    from ..feed import read_stops
+    from ..files import output
+    from ..records import Rounded, write_rows
+    from ..walks import Pace, read_walks, straight_walks
+
+    stops, rounded = read_stops(words.folder), Rounded()
+    out = words.out or os.path.join(words.folder, "footpaths.csv")
+    if words.table:
+        rows = read_walks(words.table, stops, rounded)
+        told = f"{rounded.count} seconds with decimals were rounded up"
+    else:
+        found = straight_walks(stops, Pace(words.limit, words.speed, words.detour))
+        rows, told = found.rows(), f"{found.lost} stops have no coordinates"
+    with output(out) as file:
+        write_rows(file, ["from_stop_id", "to_stop_id", "seconds"], rows)
+    print(f"{out}: {len(rows)} footpaths; {told}", file=sys.stderr)
+    return 0

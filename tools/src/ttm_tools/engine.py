@@ -1,0 +1,219 @@
+"""One run of `ttm` from Python: its words from one dataclass, its faults as exceptions, its matrix as arrays."""
+
+import os
+import re
+import shutil
+import subprocess
+import tempfile
+from dataclasses import dataclass, field
+from pathlib import Path
+from typing import Any, Iterable, Mapping, Sequence
+
+import numpy as np
+
+from .faults import BadInput, Lacking, WrongWords
+from .files import output
+from .matrices import Matrix, Seconds, Sums, open_matrix
+from .records import Rounded, write_rows
+
+FAULT = re.compile(r"ttm: (?:(?P<file>.+?): )?(?:record (?P<record>[0-9]+): )?(?P<what>[^:]*)")
+BUILT = Path(__file__).resolve().parents[3] / "crates" / "ttm" / "out" / "ttm"  # in a clone
+Pathlike = str | os.PathLike[str]
+
+
+class EngineFault(BadInput):
+    """What `ttm` told where it ended without a matrix; `ended` is its exit status, `line` what it said."""
+
+    def __init__(self, line: str, ended: int) -> None:
+        self.line, self.ended = line, ended
+        found = FAULT.fullmatch(line.split("\n")[0])
+        record = found["record"] if found else None
+        what = found["what"] if found else line
+        super().__init__((found and found["file"]) or "ttm", what, record=int(record) if record else None)
+
+
+@dataclass(frozen=True)
+class Run:
+    """What is asked of `ttm`; docs/ANALYSTS.md says what each word means."""
+
+    feed: Pathlike  # the folder of an unpacked feed
+    date: str  # YYYYMMDD
+    window: tuple[str, str]  # the first and the last departure, HH:MM
+    trips: int = 4  # 1 to 8
+    walk: int = 600  # seconds, 0 to 7200
+    shares: Sequence[int] = (50,)  # percent, ascending
+    limits: Sequence[int] = (1800,)  # seconds, ascending
+    scenarios: Sequence[Pathlike] = ()  # scenario files
+    workers: int = 1  # threads, 1 to 64
+    tries: int = 1  # 1 to 8
+    back: int = 1  # service days before the date, 0 to 6
+    ahead: int = 1  # and after it
+    files: Mapping[str, Pathlike] = field(default_factory=dict)  # origins, opportunities, footpaths
+
+    def words(self) -> list[str]:
+        """The words of the command line, without the program."""
+        numbers = {"trips": self.trips, "walk": self.walk, "workers": self.workers, "tries": self.tries}
+        lists = {"share": ",".join(map(str, self.shares)), "within": ",".join(map(str, self.limits))}
+        named: dict[str, object] = {"feed": self.feed, "date": self.date, "from": self.window[0], "to": self.window[1]}
+        days = {"back": self.back, "ahead": self.ahead}
+        every = {**named, **numbers, **lists, **days, **self.files}
+        words = [word for name, value in every.items() for word in (f"--{name}", str(value))]
+        return words + [str(path) for path in self.scenarios]
+
+
+def program_at(path: Pathlike | None) -> str:
+    """The program that is named, that of TTM_PROGRAM, the one on the PATH, or the one that a clone has built."""
+    named = path or os.environ.get("TTM_PROGRAM") or shutil.which("ttm")
+    if named is None and BUILT.is_file():
+        named = BUILT
+    if named is None or shutil.which(str(named)) is None:
+        raise Lacking(
+            f"no program ttm {named or ''}: put it on the PATH, name it by TTM_PROGRAM, or by program=".strip()
+        )
+    return str(named)
+
+
+def run(asked: Run, out: Pathlike, program: Pathlike | None = None) -> None:
+    """Runs `ttm`; the matrix gets its name when it is whole, and a fault leaves none."""
+    with output(str(out)) as file:
+        words = [program_at(program), *asked.words()]
+        ran = subprocess.run(words, stdout=file, stderr=subprocess.PIPE)
+        if ran.returncode != 0:
+            raise EngineFault(ran.stderr.decode("utf-8", "replace").strip(), ran.returncode)
+
+
+@dataclass(frozen=True)
+class Result:
+    """A matrix in memory: four bytes for each cell."""
+
+    scenarios: list[str]
+    shares: list[int]  # percent
+    limits: list[int]  # seconds
+    origins: list[str]
+    stops: list[str]
+    seconds: Mapping[tuple[str, int], Seconds]  # by scenario and share: rows of origins, columns of stops, NaN
+    sums: Mapping[tuple[str, int], Sums]  # by scenario and share: rows of origins, columns of limits
+    rounded: int  # how many numbers with decimals were made whole for `ttm`
+
+    def array(self, scenario: str = "base", share: int | None = None) -> Seconds:
+        """Travel times in seconds as an array: a row for each origin, a column for each stop, NaN where one isn't
+        reached.
+        """
+        return self.seconds[self.key(scenario, share)]
+
+    def times(self, scenario: str = "base", share: int | None = None) -> Any:
+        """The same as a frame of pandas, with origins as its index and stops as its columns."""
+        import pandas
+
+        return pandas.DataFrame(self.array(scenario, share), index=self.origins, columns=self.stops)
+
+    def access(self) -> Any:
+        """The sums of access as a frame of pandas: scenario, share, origin, within, access."""
+        import pandas
+
+        frames = []
+        for (scenario, share), sums in self.sums.items():
+            columns = {"within": np.tile(self.limits, len(self.origins)), "access": sums.ravel()}
+            origins = np.repeat(np.array(self.origins, dtype=object), len(self.limits))
+            frames.append(pandas.DataFrame({"scenario": scenario, "share": share, "origin": origins, **columns}))
+        return pandas.concat(frames, ignore_index=True)
+
+    def key(self, scenario: str, share: int | None) -> tuple[str, int]:
+        """A scenario and a share that are there; the share needs to be named only where there are several."""
+        if share is None and len(self.shares) > 1:
+            raise WrongWords(f"the matrix has the shares {', '.join(map(str, self.shares))}: name one")
+        key = (scenario, self.shares[0] if share is None else share)
+        if key not in self.seconds:
+            names, shares = ", ".join(self.scenarios), ", ".join(map(str, self.shares))
+            raise WrongWords(f"no scenario {scenario} with the share {key[1]}: it has {names} with {shares}")
+        return key
+
+
+def result_of(matrix: Matrix, rounded: int) -> Result:
+    """All of a matrix that names its shares."""
+    keys = [(scenario, share) for scenario in matrix.scenarios for share in matrix.shares if share is not None]
+    origins = matrix.origins(*keys[0])
+    seconds = {key: matrix.rows(*key, 0, len(origins)) for key in keys}
+    shares, limits = [share for share in matrix.shares if share is not None], [
+        limit or 0 for limit in matrix.layout.limits
+    ]
+    sums = {key: matrix.access(*key) for key in keys}
+    return Result(matrix.scenarios, shares, limits, origins, matrix.stops, seconds, sums, rounded)
+
+
+def written(folder: Path, name: str, header: Sequence[str], rows: Iterable[Sequence[object]]) -> Path:
+    """Writes a table of a run."""
+    with open(folder / name, "wb") as file:
+        write_rows(file, header, rows)
+    return folder / name
+
+
+def origins_file(folder: Path, origins: Pathlike | Sequence[str]) -> Pathlike:
+    """A file of origins as it is, or one of these stops."""
+    if isinstance(origins, (str, os.PathLike)):
+        return origins
+    return written(folder, "origins.csv", ["stop_id"], [[stop] for stop in origins])
+
+
+def opportunities_file(folder: Path, given: Pathlike | Mapping[str, float], rounded: Rounded) -> Pathlike:
+    """A file of opportunities as it is, or one of these numbers, each rounded to the nearest whole one."""
+    if isinstance(given, (str, os.PathLike)):
+        return given
+    header = ["stop_id", "opportunities"]
+    rows = [
+        [stop, rounded.whole(str(count), "opportunities", number, header[1], up=False)]
+        for number, (stop, count) in enumerate(given.items(), 2)
+    ]
+    return written(folder, "opportunities.csv", header, rows)
+
+
+def footpaths_file(folder: Path, given: Pathlike | Iterable[tuple[str, str, float]], rounded: Rounded) -> Pathlike:
+    """A file of footpaths as it is, or one of these walks, whose seconds are rounded up."""
+    if isinstance(given, (str, os.PathLike)):
+        return given
+    header = ["from_stop_id", "to_stop_id", "seconds"]
+    rows = [
+        [a, b, rounded.whole(str(seconds), "footpaths", number, header[2], up=True)]
+        for number, (a, b, seconds) in enumerate(given, 2)
+    ]
+    return written(folder, "footpaths.csv", header, rows)
+
+
+def matrix(
+    feed: Pathlike,
+    date: str,
+    window: tuple[str, str],
+    *,
+    trips: int = 4,
+    walk: int = 600,
+    shares: Sequence[int] = (50,),
+    limits: Sequence[int] = (1800,),
+    scenarios: Sequence[Pathlike] = (),
+    origins: Pathlike | Sequence[str] | None = None,
+    opportunities: Pathlike | Mapping[str, float] | None = None,
+    footpaths: Pathlike | Iterable[tuple[str, str, float]] | None = None,
+    workers: int = 1,
+    tries: int = 1,
+    back: int = 1,
+    ahead: int = 1,
+    program: Pathlike | None = None,
+) -> Result:
+    """Runs `ttm` on the folder of a feed, and gives its matrix.
+
+    The window is the first and the last departure, as ("08:00", "08:59"). Scenarios are scenario files. Origins are a
+    file or identifiers of stops; opportunities a file or a number for each stop; footpaths a file or walks between two
+    stops with their seconds. Faults of the inputs are raised as `EngineFault`, with file and record.
+    """
+    rounded = Rounded()
+    with tempfile.TemporaryDirectory(prefix="ttm-matrix-") as made:
+        folder, files = Path(made), dict[str, Pathlike]()
+        if origins is not None:
+            files["origins"] = origins_file(folder, origins)
+        if opportunities is not None:
+            files["opportunities"] = opportunities_file(folder, opportunities, rounded)
+        if footpaths is not None:
+            files["footpaths"] = footpaths_file(folder, footpaths, rounded)
+        counts = {"trips": trips, "walk": walk, "workers": workers, "tries": tries, "back": back, "ahead": ahead}
+        asked = Run(feed, date, window, shares=shares, limits=limits, scenarios=scenarios, files=files, **counts)
+        run(asked, folder / "matrix.csv", program)
+        return result_of(open_matrix(str(folder / "matrix.csv")), rounded.count)

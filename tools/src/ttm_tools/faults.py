@@ -1,0 +1,61 @@
+"""Faults, told in one line to the person who gave the input: which file, record and column, what stands there, and what
+is allowed.
+"""
+
+import importlib.util
+import sys
+from typing import Sequence
+
+
+class BadInput(Exception):
+    """What is wrong with an input. The header of a file is record 1."""
+
+    status = 1
+
+    def __init__(
+        self,
+        file: object,
+        what: str,
+        *,
+        record: int | None = None,
+        column: str | None = None,
+        value: str | None = None,
+        allowed: str | None = None,
+    ) -> None:
+        self.file, self.record, self.column, self.value, self.allowed = str(file), record, column, value, allowed
+        place = self.file if record is None else f"{self.file}: record {record}"
+        found = " ".join([*([column] if column else []), *([repr(value)] if value is not None else []), what])
+        super().__init__(f"{place}: {found}" + (f"; allowed: {allowed}" if allowed else ""))
+
+
+class Lacking(Exception):
+    """A package that a command needs and that this Python hasn't."""
+
+    status = 1
+
+
+class WrongWords(Exception):
+    """Options that don't go together, or a value that no option takes."""
+
+    status = 2
+
+
+def one_line(told: object) -> str:
+    """A fault's text as one line that any terminal shows."""
+    return " ".join(str(told).split()).encode("utf-8", "backslashreplace").decode("utf-8")
+
+
+def needs(*packages: str) -> None:
+    """Tells in one line which of these packages this Python lacks, before anything is imported from them."""
+    lacking = [name for name in packages if importlib.util.find_spec(name) is None]
+    if lacking:
+        debian = " ".join(f"python3-{name}" for name in lacking)
+        raise Lacking(
+            f"this Python, {sys.executable}, has no {' and no '.join(lacking)}: "
+            f"apt-get install {debian} and take /usr/bin/python3, or pip install {' '.join(lacking)}"
+        )
+
+
+def some(names: Sequence[str], most: int = 4) -> str:
+    """A few of many names, for a fault's line: all where they are few, else the first and the last."""
+    return ", ".join(names) if len(names) <= most else f"{names[0]} .. {names[-1]}"

@@ -1,0 +1,145 @@
+"""Files and folders that get their names when they are whole, and leave nothing behind where they don't, whatever
+signal ends the run.
+"""
+
+import contextlib
+import hashlib
+import os
+import re
+import shutil
+import signal
+import sys
+import threading
+from pathlib import Path
+from types import FrameType
+from typing import BinaryIO, Iterator, NoReturn
+
+ENDING = [
+    getattr(signal, name)
+    for name in "SIGHUP SIGINT SIGQUIT SIGALRM SIGTERM SIGUSR1 SIGUSR2 SIGVTALRM SIGPROF SIGXCPU SIGIO SIGPWR".split()
+    if hasattr(signal, name)
+]
+
+
+class Interrupted(BaseException):
+    """A signal that ends the run; what was begun is cleared away on its way up."""
+
+    def __init__(self, number: int) -> None:
+        self.number = number
+        super().__init__(f"ended by {signal.Signals(number).name}")
+
+    @property
+    def status(self) -> int:
+        return 128 + self.number
+
+
+def unwind_on_signals() -> None:
+    """Has each signal that would end this process end it by `Interrupted`, once, so that files are cleared away."""
+
+    def unwind(number: int, _: FrameType | None) -> NoReturn:
+        for other in ENDING:
+            signal.signal(other, signal.SIG_IGN)
+        raise Interrupted(number)
+
+    for number in ENDING:
+        if signal.getsignal(number) is not signal.SIG_IGN:
+            signal.signal(number, unwind)
+
+
+@contextlib.contextmanager
+def no_signals() -> Iterator[None]:
+    """Lets signals wait while several names are given at once."""
+    if threading.current_thread() is not threading.main_thread():
+        yield
+        return
+    before = signal.pthread_sigmask(signal.SIG_BLOCK, ENDING)
+    try:
+        yield
+    finally:
+        signal.pthread_sigmask(signal.SIG_SETMASK, before)
+
+
+def aside_name(path: Path) -> Path:
+    """Where a file is written until it is whole: beside it, under a name with this process' number."""
+    return path.with_name(f".part.{os.getpid()}.{path.name}")
+
+
+def is_running(process: int) -> bool:
+    try:
+        os.kill(process, 0)
+    except ProcessLookupError:
+        return False
+    except PermissionError:
+        pass
+    return True
+
+
+def remove(path: Path) -> None:
+    if path.is_dir() and not path.is_symlink():
+        shutil.rmtree(path, ignore_errors=True)
+    else:
+        path.unlink(missing_ok=True)
+
+
+def remove_leavings(path: Path) -> None:
+    """Removes what runs that were killed at once (SIGKILL, a power cut) left beside a file."""
+    form = re.compile(r"\.part\.([0-9]+)\." + re.escape(path.name))
+    for other in path.parent.iterdir() if path.parent.is_dir() else ():
+        found = form.fullmatch(other.name)
+        if found and not is_running(int(found[1])):
+            remove(other)
+
+
+@contextlib.contextmanager
+def written_aside(path: str | Path) -> Iterator[Path]:
+    """Gives a path to write to; what is written there is named `path` when the block ends well, and removed when it
+    doesn't.
+    """
+    whole = Path(path)
+    remove_leavings(whole)
+    made = aside_name(whole)
+    try:
+        yield made
+        with no_signals():
+            os.replace(made, whole)
+    finally:
+        remove(made)
+
+
+@contextlib.contextmanager
+def many_written_aside(folder: str | Path) -> Iterator[Path]:
+    """Gives an empty folder to write to; its files are moved to `folder`, all at once, when the block ends well."""
+    whole = Path(folder)
+    found = next(parent for parent in (whole, *whole.parents) if parent.exists())
+    made = found / f".part.{os.getpid()}.{whole.name or 'files'}"
+    remove_leavings(found / (whole.name or "files"))
+    try:
+        made.mkdir()
+        yield made
+        with no_signals():
+            whole.mkdir(parents=True, exist_ok=True)
+            for file in sorted(made.iterdir()):
+                os.replace(file, whole / file.name)
+    finally:
+        remove(made)
+
+
+@contextlib.contextmanager
+def output(path: str | None) -> Iterator[BinaryIO]:
+    """Standard output, or a file that gets its name when it is whole."""
+    if path is None:
+        yield sys.stdout.buffer
+        sys.stdout.buffer.flush()
+        return
+    with written_aside(path) as made:
+        with open(made, "wb") as file:
+            yield file
+
+
+def sum_of(path: str | Path) -> str:
+    """The SHA-256 of a file's bytes."""
+    made = hashlib.sha256()
+    with open(path, "rb") as file:
+        while block := file.read(1 << 20):
+            made.update(block)
+    return made.hexdigest()

@@ -1,0 +1,136 @@
+"""Matrices as `ttm` prints them. A first pass notes where each line's cells stand; cells are read when they are asked
+for.
+"""
+
+import os
+from dataclasses import dataclass, field
+from typing import BinaryIO
+
+import numpy as np
+
+from .. import progress
+from ..faults import BadInput
+from ..records import shown
+from .layout import Layout, layout_of
+from .lines import (
+    MOST,
+    Seconds,
+    content,
+    count_of_fields,
+    fields_of,
+    first_bad,
+    head_of,
+    read_record,
+    records_of,
+    seconds_of,
+)
+from .matrix import Matrix, Share, Sums
+
+NO_MATRIX = "not a matrix: it begins neither with scenario,origin,access nor with scenario,origin,share,access_.."
+TRAVEL_TIMES = f"whole seconds up to {MOST}, or nothing"
+
+
+@dataclass(frozen=True)
+class Line:
+    """A line of a matrix: its record, its access for each limit, and where the bytes of its cells begin and end in the
+    file.
+    """
+
+    record: int
+    access: list[int]
+    begin: int
+    end: int
+
+
+@dataclass
+class Index:
+    """The lines of a scenario and a share, and the place of each origin among them, in the file's order."""
+
+    lines: list[Line] = field(default_factory=list)
+    places: dict[str, int] = field(default_factory=dict)
+
+
+class CsvMatrix(Matrix):
+    """A matrix that `ttm` printed; each of its lines has as many fields as the header, or it is told."""
+
+    def __init__(self, path: str) -> None:
+        self.path = path
+        self.index: dict[tuple[str, Share], Index] = {}
+        try:
+            with open(path, "rb") as file:
+                self.layout = self.read_layout(file)
+                self.read_lines(file)
+        except OSError as fault:
+            raise BadInput(path, fault.strerror) from None
+        if not self.index:
+            raise BadInput(path, "no rows")
+
+    def read_layout(self, file: BinaryIO) -> Layout:
+        record = read_record(file)
+        found = layout_of(fields_of(record.removeprefix(b"\xef\xbb\xbf")))
+        if found is None:
+            raise BadInput(self.path, NO_MATRIX, record=1)
+        if not record.endswith(b"\n"):
+            raise BadInput(self.path, "cut short: the last line has no end")
+        return found
+
+    def read_lines(self, file: BinaryIO) -> None:
+        """Notes each line of the file, whose header was read."""
+        begin, number = file.tell(), 1
+        rows = os.fstat(file.fileno()).st_size // (5 * self.layout.width)
+        for record in progress.told(records_of(file), rows, "reading", "rows"):
+            if content(record):
+                number += 1
+                self.read_line(record, number, begin)
+            begin += len(record)
+        self.scenarios = list(dict.fromkeys(scenario for scenario, _ in self.index))
+        self.shares = sorted({share for _, share in self.index}, key=lambda share: share or 0)
+
+    def read_line(self, record: bytes, number: int, begin: int) -> None:
+        """Notes one line, which begins at a place in the file."""
+        layout, line = self.layout, content(record)
+        heads, first = head_of(line, layout.first_cell)
+        count = len(heads) + count_of_fields(line, first)
+        if not record.endswith(b"\n"):
+            raise BadInput(self.path, "cut short: the last line has no end")
+        if count != layout.width:
+            raise BadInput(self.path, f"{count} fields, and the header has {layout.width}", record=number)
+        numbers = [self.number(number, name, text) for name, text in zip(layout.heads[2:], heads[2:])]
+        share = numbers.pop(0) if layout.names_share else None
+        index = self.index.setdefault((heads[0], share), Index())
+        if heads[1] in index.places:
+            raise BadInput(self.path, f"{shown(heads[1])} is there twice in {shown(heads[0])}", record=number)
+        index.places[heads[1]] = len(index.lines)
+        index.lines.append(Line(number, numbers, begin + first, begin + len(line)))
+
+    def number(self, record: int, column: str, text: str) -> int:
+        if not (text.isascii() and text.isdigit() and len(text) <= 18):
+            raise BadInput(self.path, "is no number", record=record, column=column, value=text, allowed="whole numbers")
+        return int(text)
+
+    def of(self, scenario: str, share: Share) -> Index:
+        return self.index.get((scenario, share), Index())
+
+    def origins(self, scenario: str, share: Share) -> list[str]:
+        return list(self.of(scenario, share).places)
+
+    def access(self, scenario: str, share: Share) -> Sums:
+        sums = [line.access for line in self.of(scenario, share).lines]
+        return np.array(sums, dtype=np.int64).reshape(-1, len(self.layout.limits))
+
+    def rows(self, scenario: str, share: Share, begin: int, end: int) -> Seconds:
+        lines = self.of(scenario, share).lines[begin:end]
+        made = np.empty((len(lines), len(self.stops)), np.float32)
+        with open(self.path, "rb", buffering=0) as file:
+            for row, line in enumerate(lines):
+                cells = os.pread(file.fileno(), line.end - line.begin, line.begin)
+                seconds = seconds_of(cells, len(self.stops))
+                if seconds is None:
+                    self.tell_bad(cells, line.record)
+                made[row] = seconds
+        return made
+
+    def tell_bad(self, cells: bytes, record: int) -> None:
+        place, text = first_bad(cells)
+        column = shown(self.stops[place]) if place < len(self.stops) else None
+        raise BadInput(self.path, "is no travel time", record=record, column=column, value=text, allowed=TRAVEL_TIMES)

@@ -1,0 +1,108 @@
+"""The records of a matrix as lines of bytes, and the cells of a line as numbers, all at once and never one by one."""
+
+from typing import BinaryIO, Iterator
+
+import numpy as np
+import numpy.typing as npt
+
+from ..records import read_text
+
+Seconds = npt.NDArray[np.float32]  # NaN where a stop isn't reached; whole seconds up to MOST are exact
+Bytes = npt.NDArray[np.uint8]
+COMMA, ZERO, QUOTE = ord(","), ord("0"), b'"'
+MOST = (1 << 24) - 1  # seconds
+MOST_DIGITS = 9
+POWERS = [10**place for place in range(MOST_DIGITS)]
+
+
+def read_record(file: BinaryIO) -> bytes:
+    """The bytes of one record: up to a line end outside of quotes."""
+    record = file.readline()
+    while record.count(QUOTE) % 2 == 1:
+        more = file.readline()
+        if not more:
+            break
+        record += more
+    return record
+
+
+def records_of(file: BinaryIO) -> Iterator[bytes]:
+    """Each record from here on, with its line end."""
+    return iter(lambda: read_record(file), b"")
+
+
+def content(record: bytes) -> bytes:
+    """A record without its line end."""
+    return record[: -2 if record.endswith(b"\r\n") else -1 if record.endswith(b"\n") else None]
+
+
+def fields_of(record: bytes) -> list[str]:
+    """All fields of a record as text."""
+    return next(iter(read_text(record.decode("utf-8", "surrogateescape"))), [])
+
+
+def head_of(line: bytes, count: int) -> tuple[list[str], int]:
+    """The first fields of a record and where the next one begins; fewer where the record has fewer."""
+    if QUOTE not in line:
+        fields = line.split(b",", count)
+        begin = sum(map(len, fields[:count])) + len(fields[:count])
+        return [field.decode("utf-8", "surrogateescape") for field in fields[:count]], begin
+    begin, found = 0, 0
+    while found < count and begin <= len(line):
+        end = line.find(b",", begin)
+        while end >= 0 and line.count(QUOTE, begin, end) % 2 == 1:
+            end = line.find(b",", end + 1)
+        begin, found = (end if end >= 0 else len(line)) + 1, found + 1
+    return fields_of(line[: begin - 1]), begin
+
+
+def count_of_fields(line: bytes, begin: int) -> int:
+    """How many fields stand in a record from a place on that lies behind its last quote."""
+    if begin > len(line):
+        return 0
+    return int(np.count_nonzero(np.frombuffer(line, np.uint8, offset=begin) == COMMA)) + 1 if begin < len(line) else 1
+
+
+def seconds_of(cells: bytes, count: int) -> Seconds | None:
+    """The travel times of a line's cells, or None where they aren't so many whole numbers or empty fields up to
+    MOST.
+    """
+    if count == 0:
+        return np.zeros(0, np.float32)
+    letters = np.frombuffer(cells + b",", np.uint8)
+    digits = letters - np.uint8(ZERO)
+    ends = np.flatnonzero(letters == COMMA)
+    if len(ends) != count or np.count_nonzero(digits > 9) != count:
+        return None
+    lengths = np.diff(ends, prepend=-1) - 1
+    longest = int(lengths.max())
+    if longest > MOST_DIGITS:
+        return None
+    made = values_of(digits, ends, lengths, longest)
+    return None if made.max() > MOST else with_gaps(made, lengths)
+
+
+def values_of(
+    digits: Bytes, ends: npt.NDArray[np.intp], lengths: npt.NDArray[np.intp], longest: int
+) -> npt.NDArray[np.int32]:
+    """The numbers whose last digits stand before these ends: a digit of each at a time."""
+    made = np.zeros(len(ends), np.int32)
+    for place in range(longest):
+        digit = digits.take(ends - (1 + place), mode="clip")
+        made += (digit * (lengths > place)).astype(np.int32) * POWERS[place]
+    return made
+
+
+def with_gaps(values: npt.NDArray[np.int32], lengths: npt.NDArray[np.intp]) -> Seconds:
+    made = values.astype(np.float32)
+    made[lengths == 0] = np.nan
+    return made
+
+
+def first_bad(cells: bytes) -> tuple[int, str]:
+    """The first of a line's cells that is no travel time, and where it stands."""
+    texts = cells.decode("utf-8", "surrogateescape").split(",")
+    for place, text in enumerate(texts):
+        if text and not (text.isascii() and text.isdigit() and int(text) <= MOST and len(text) <= MOST_DIGITS):
+            return place, text
+    return len(texts), ""

@@ -1,0 +1,186 @@
+"""A matrix by blocks of rows: what all kinds of files give, and what is chosen of them."""
+
+from abc import ABC, abstractmethod
+from dataclasses import dataclass
+from functools import cached_property
+from typing import Iterator, Sequence
+
+import numpy as np
+import numpy.typing as npt
+
+from ..faults import BadInput, some
+from ..records import shown
+from .layout import Layout
+from .lines import Seconds
+
+Sums = npt.NDArray[np.int64]
+Places = npt.NDArray[np.intp]
+CELLS_AT_ONCE = 2_000_000
+Share = int | None  # percent; None where the matrix names none
+
+
+@dataclass(frozen=True)
+class Block:
+    """Some origins of a scenario and a share, and their travel times to each stop in seconds, NaN where one isn't
+    reached.
+    """
+
+    origins: list[str]
+    seconds: Seconds
+
+
+class Matrix(ABC):
+    """A matrix on the disk: its layout, its scenarios and shares, and for each of these its origins, their access, and
+    their travel times.
+    """
+
+    path: str
+    layout: Layout
+    scenarios: list[str]  # in the file's order
+    shares: list[Share]  # ascending
+
+    @abstractmethod
+    def origins(self, scenario: str, share: Share) -> list[str]:
+        """The origins of a scenario and a share, in the file's order."""
+
+    @abstractmethod
+    def access(self, scenario: str, share: Share) -> Sums:
+        """The access of these origins, a row for each and a column for each limit."""
+
+    @abstractmethod
+    def rows(self, scenario: str, share: Share, begin: int, end: int) -> Seconds:
+        """The travel times of some of these origins, a row for each and a column for each stop."""
+
+    @property
+    def stops(self) -> list[str]:
+        return self.layout.stops
+
+    @cached_property
+    def places(self) -> dict[str, int]:
+        """Where each stop's column stands."""
+        return {name: place for place, name in enumerate(self.stops)}
+
+    def rows_at_once(self) -> int:
+        return max(1, CELLS_AT_ONCE // max(1, len(self.stops)))
+
+    def rows_at(self, scenario: str, share: Share, places: Places) -> Seconds:
+        """The rows at some places: at one go where they follow one another."""
+        if len(places) and bool((np.diff(places) == 1).all()):
+            return self.rows(scenario, share, int(places[0]), int(places[-1]) + 1)
+        none = np.zeros((0, len(self.stops)), np.float32)
+        return np.concatenate([none, *[self.rows(scenario, share, place, place + 1) for place in places.tolist()]])
+
+    def blocks(self, scenario: str, share: Share) -> Iterator[Block]:
+        """All rows of a scenario and a share, some at a time."""
+        names, step = self.origins(scenario, share), self.rows_at_once()
+        for begin in range(0, len(names), step):
+            end = min(begin + step, len(names))
+            yield Block(names[begin:end], self.rows(scenario, share, begin, end))
+
+    def seconds(self, scenario: str, share: Share, origin: str) -> Seconds:
+        """The travel times of one origin, which the scenario has."""
+        names = self.origins(scenario, share)
+        if origin not in names:
+            raise BadInput(self.path, f"{shown(origin)} is no origin of the scenario {shown(scenario)}")
+        place = names.index(origin)
+        row: Seconds = self.rows(scenario, share, place, place + 1)[0]
+        return row
+
+    def share(self, asked: int | None) -> Share:
+        """The share that is asked for, which needs to be named only where there are several."""
+        told = ", ".join(map(str, self.shares))
+        if asked is not None and not self.layout.names_share:
+            raise BadInput(self.path, "it names no share; leave --share out")
+        if asked is not None and asked not in self.shares:
+            raise BadInput(self.path, f"no line of the share {asked}; it has {told}")
+        if asked is None and self.layout.names_share and len(self.shares) > 1:
+            raise BadInput(self.path, f"it has lines of the shares {told}: name one by --share")
+        return self.shares[0] if asked is None else asked
+
+    def limit(self, asked: int | None) -> tuple[int, int | None]:
+        """The place of a limit among the columns of access, and the limit in seconds: the one asked for, or the only
+        one.
+        """
+        limits = self.layout.limits
+        if limits == (None,):
+            return 0, asked
+        told = ", ".join(map(str, limits))
+        if asked is None and len(limits) > 1:
+            raise BadInput(self.path, f"it has access within {told} seconds: name one by --within")
+        if asked is not None and asked not in limits:
+            raise BadInput(self.path, f"no access within {asked} seconds, but within {told}")
+        place = 0 if asked is None else limits.index(asked)
+        return place, limits[place]
+
+    def scenario(self, name: str) -> str:
+        """A scenario that is asked for by its name."""
+        if name not in self.scenarios:
+            raise BadInput(self.path, f"no scenario {shown(name)}; it has {', '.join(map(shown, self.scenarios))}")
+        return name
+
+    def other(self, base: str, asked: str | None) -> str:
+        """The scenario beside the base, which needs to be named only where there are several."""
+        self.scenario(base)
+        if asked is not None:
+            return self.scenario(asked)
+        others = [name for name in self.scenarios if name != base]
+        if len(others) > 1:
+            told = f"{shown(others[0])} and {shown(others[1])}"
+            raise BadInput(self.path, f"it has the scenarios {told} beside {shown(base)}: name one by --scenario")
+        if not others:
+            raise BadInput(
+                self.path, f"no scenario beside {shown(base)}; it has {', '.join(map(shown, self.scenarios))}"
+            )
+        return others[0]
+
+
+@dataclass(frozen=True)
+class Pair:
+    """Two scenarios of a matrix, and the origins that both have, in the first one's order."""
+
+    matrix: Matrix
+    base: str
+    other: str
+    share: Share
+    origins: list[str]
+    before: Places  # the places of these origins in the one scenario
+    after: Places  # and in the other
+    lacking: str | None  # which origins one has and the other hasn't
+
+    def access(self, place: int) -> tuple[Sums, Sums]:
+        """The access of each origin within the limit at a place, before and after."""
+        first, second = (self.matrix.access(name, self.share)[:, place] for name in (self.base, self.other))
+        return first[self.before], second[self.after]
+
+    def blocks(self) -> Iterator[tuple[int, Seconds, Seconds]]:
+        """The travel times of the origins before and after, some at a time, with the place of the first of them."""
+        step = self.matrix.rows_at_once()
+        for begin in range(0, len(self.origins), step):
+            chosen = [places[begin : begin + step] for places in (self.before, self.after)]
+            yield begin, self.matrix.rows_at(self.base, self.share, chosen[0]), self.matrix.rows_at(
+                self.other, self.share, chosen[1]
+            )
+
+
+def pair_of(matrix: Matrix, base: str, asked: str | None, share: int | None) -> Pair:
+    """Two scenarios of a matrix, of one share."""
+    other, chosen = matrix.other(base, asked), matrix.share(share)
+    first, second = (matrix.origins(name, chosen) for name in (base, other))
+    places = {name: place for place, name in enumerate(second)}
+    both = [(place, places[name]) for place, name in enumerate(first) if name in places]
+    before, after = np.array(both, dtype=np.intp).reshape(-1, 2).T
+    origins = [first[place] for place in before.tolist()]
+    return Pair(matrix, base, other, chosen, origins, before, after, lacking((base, first), (other, second)))
+
+
+def lacking(one: tuple[str, Sequence[str]], other: tuple[str, Sequence[str]]) -> str | None:
+    """Which origins one scenario has and the other hasn't, as a line tells it."""
+    told = []
+    for (name, origins), (another, others) in ((one, other), (other, one)):
+        there = set(others)
+        lost = [shown(origin) for origin in origins if origin not in there]
+        if lost:
+            told.append(
+                f"{len(lost):,} of {len(origins):,} origins of {shown(name)} aren't in {shown(another)}: {some(lost)}"
+            )
+    return "; ".join(told) or None

@@ -1,0 +1,172 @@
+"""Parts of the origins of a study, and the whole matrix from the matrices of the parts: the bytes are those of one run
+over all origins.
+"""
+
+from dataclasses import dataclass, field
+from pathlib import Path
+from typing import BinaryIO, Sequence, TypeVar
+
+from .faults import BadInput, some
+from .feed import in_folder, kind_of
+from .files import many_written_aside
+from .matrices.layout import layout_of
+from .matrices.lines import content, count_of_fields, fields_of, head_of, read_record, records_of
+from .records import rows, shown, write_rows
+
+Item = TypeVar("Item")
+BYTES_AT_ONCE = 1 << 20
+
+
+def origins_in(path: str) -> list[str]:
+    """The stops that a file with the column stop_id names, in order, each once."""
+    named: dict[str, None] = {}
+    for number, (stop,) in rows(path, ["stop_id"]):
+        if stop in named:
+            raise BadInput(path, f"{shown(stop)} is there twice", record=number)
+        named[stop] = None
+    return list(named)
+
+
+def origins_of_feed(folder: str) -> list[str]:
+    """The stops of a feed at which vehicles call, as `ttm` takes them where no file names origins."""
+    found = rows(in_folder(folder, "stops.txt"), ["stop_id"], ["location_type"])
+    return [stop for _, (stop, kind) in found if kind_of(kind) == 0]
+
+
+def parts_of(origins: Sequence[Item], parts: int) -> list[Sequence[Item]]:
+    """So many parts of about the same length, in order, none of them empty where there are origins."""
+    parts = max(1, min(parts, len(origins)))
+    short, more = divmod(len(origins), parts)
+    ends = [number * short + min(number, more) for number in range(parts + 1)]
+    return [origins[a:b] for a, b in zip(ends, ends[1:])]
+
+
+def write_parts(origins: Sequence[str], parts: int, folder: str) -> int:
+    """Writes part_0001.csv .. and origins.csv with the origins of all, and gives the number of parts."""
+    cut = parts_of(origins, parts)
+    with many_written_aside(folder) as made:
+        for name, stops in [
+            ("origins.csv", origins),
+            *((f"part_{number:04}.csv", part) for number, part in enumerate(cut, 1)),
+        ]:
+            with open(made / name, "wb") as file:
+                write_rows(file, ["stop_id"], [[stop] for stop in stops])
+    return len(cut)
+
+
+@dataclass
+class Scenario:
+    """Where the rows of a scenario stand in the matrix of a part, and their origins in order."""
+
+    begin: int
+    end: int
+    origins: list[str] = field(default_factory=list)
+
+
+class Part:
+    """A matrix on the disk: its header, its scenarios in order, and the shares that each origin has."""
+
+    def __init__(self, path: str) -> None:
+        self.path = path
+        self.scenarios: dict[str, Scenario] = {}
+        self.shares: list[str] | None = None
+        try:
+            with open(path, "rb") as file:
+                self.header = read_record(file)
+                self.read(file)
+        except OSError as fault:
+            raise BadInput(path, fault.strerror) from None
+
+    def read(self, file: BinaryIO) -> None:
+        """Reads all records behind the header, the shares of each origin together."""
+        layout = layout_of(fields_of(self.header))
+        if layout is None or not self.header.endswith(b"\n"):
+            raise BadInput(self.path, "not a matrix" if layout is None else "cut short")
+        begin, last, shares = file.tell(), ("", ""), list[str]()
+        for record in records_of(file):
+            heads, first = head_of(content(record), layout.first_cell)
+            count = len(heads) + count_of_fields(content(record), first)
+            if count != layout.width or not record.endswith(b"\n"):
+                raise BadInput(self.path, "cut short")
+            place = (heads[0], heads[1])
+            if place != last or not self.scenarios:
+                self.take_shares(last, shares)
+                self.begin_origin(*place, begin)
+                shares = []
+            begin += len(record)
+            self.scenarios[heads[0]].end = begin
+            shares += heads[2:3] if layout.names_share else []
+            last = place
+        self.take_shares(last, shares)
+
+    def begin_origin(self, scenario: str, origin: str, begin: int) -> None:
+        """Takes the first row of an origin, which begins at a place in the file."""
+        if scenario in self.scenarios and scenario != next(reversed(self.scenarios)):
+            raise BadInput(self.path, f"the rows of {shown(scenario)} don't stand together")
+        self.scenarios.setdefault(scenario, Scenario(begin, begin)).origins.append(origin)
+
+    def take_shares(self, place: tuple[str, str], shares: list[str]) -> None:
+        """Takes the shares of a scenario's origin, which are those of the first."""
+        if self.scenarios:
+            self.shares = shares if self.shares is None else self.shares
+            if shares != self.shares:
+                scenario, origin = map(shown, place)
+                raise BadInput(self.path, f"{origin} has other shares in {scenario} than the first origin")
+
+    @property
+    def first(self) -> list[str]:
+        """The origins of the first scenario."""
+        return next((scenario.origins for scenario in self.scenarios.values()), [])
+
+
+def are_alike(part: Part, first: Part) -> None:
+    """Tells where a part is of another study than the first one, or lacks rows."""
+    if part.header != first.header:
+        raise BadInput(part.path, f"its header isn't that of {first.path}")
+    if list(part.scenarios) != list(first.scenarios):
+        raise BadInput(part.path, f"its scenarios aren't those of {first.path}")
+    if part.shares != first.shares:
+        raise BadInput(part.path, f"its shares aren't those of {first.path}")
+    for name, scenario in part.scenarios.items():
+        if scenario.origins != part.first:
+            raise BadInput(part.path, f"{shown(name)} has other origins than the first scenario")
+
+
+def in_order(parts: Sequence[Part], origins: Sequence[str], origins_file: str) -> list[Part]:
+    """The parts as their origins stand in the whole, where each origin is in one of them."""
+    place = {origin: number for number, origin in enumerate(origins)}
+    holder: dict[str, str] = {}
+    for part in parts:
+        are_alike(part, parts[0])
+        for origin in part.first:
+            if origin not in place:
+                raise BadInput(part.path, f"{shown(origin)} isn't an origin of the study")
+            if origin in holder:
+                raise BadInput(part.path, f"origin {shown(origin)} is in {holder[origin]}, too")
+            holder[origin] = part.path
+    lost = [shown(origin) for origin in origins if origin not in holder]
+    if lost:
+        raise BadInput(origins_file, f"{len(lost)} origins are in no part: {some(lost, 1)}")
+    ordered = sorted(parts, key=lambda part: place[part.first[0]] if part.first else -1)
+    if [origin for part in ordered for origin in part.first] != list(origins):
+        raise BadInput(origins_file, "the parts aren't stretches of the study's origins in their order")
+    return ordered
+
+
+def write_whole(parts: Sequence[Part], out: BinaryIO) -> None:
+    """The header, and for each scenario the rows of each part."""
+    out.write(parts[0].header)
+    for name in parts[0].scenarios:
+        for part in parts:
+            copy(Path(part.path), part.scenarios[name], out)
+
+
+def copy(path: Path, rows_of: Scenario, out: BinaryIO) -> None:
+    with path.open("rb") as file:
+        file.seek(rows_of.begin)
+        left = rows_of.end - rows_of.begin
+        while left and (block := file.read(min(left, BYTES_AT_ONCE))):
+            out.write(block)
+            left -= len(block)
+        if left:
+            raise BadInput(path, "became shorter while it was read")

@@ -1,0 +1,236 @@
+"""CSV record by record, counted as `ttm` counts them, and written as it writes them. Nothing else opens a table.
+
+The header is record 1 and empty lines aren't counted. Identifiers are bytes to `ttm`: bytes that aren't UTF-8 are kept
+in a text as Python's surrogate escapes and written back as they were. What people read (names of stops) is made by
+`shown`.
+"""
+
+import csv
+import io
+import math
+from dataclasses import dataclass
+from pathlib import Path
+from typing import Any, BinaryIO, Callable, Iterable, Iterator, Sequence
+
+import numpy as np
+import numpy.typing as npt
+
+from .faults import BadInput, needs
+
+Texts = npt.NDArray[np.object_]
+ROWS_AT_ONCE = 1_000_000
+
+csv.field_size_limit(1 << 30)
+
+
+def records(path: str | Path) -> Iterator[tuple[int, list[str]]]:
+    """Each record of a file with its number."""
+    number = 0
+    try:
+        with open(path, newline="", encoding="utf-8-sig", errors="surrogateescape") as file:
+            for fields in csv.reader(file):
+                if fields:
+                    number += 1
+                    yield number, fields
+    except csv.Error as fault:
+        raise BadInput(path, str(fault), record=number + 1) from None
+    except OSError as fault:
+        raise BadInput(path, fault.strerror) from None
+
+
+def places_of(header: Sequence[str], path: str | Path, needed: Sequence[str]) -> dict[str, int]:
+    """Where each column of a header stands; the needed ones are there."""
+    places: dict[str, int] = {}
+    for place, name in enumerate(header):
+        places.setdefault(name.strip(), place)
+    for name in needed:
+        if name not in places:
+            raise BadInput(path, f"no column {name}", record=1)
+    return places
+
+
+def rows(path: str | Path, needed: Sequence[str], wanted: Sequence[str] = ()) -> Iterator[tuple[int, list[str]]]:
+    """Each record after the header, with its number and the needed and wanted fields in that order; "" where a wanted
+    column isn't there.
+    """
+    lines = records(path)
+    _, header = next(lines, (1, []))
+    places = places_of(header, path, needed)
+    chosen = [places.get(name, len(header)) for name in (*needed, *wanted)]
+    for number, fields in lines:
+        fields += [""] * (len(header) + 1 - len(fields))
+        yield number, [fields[place] for place in chosen]
+
+
+@dataclass(frozen=True)
+class Column:
+    """A column of many records: the texts that stand in it, each once, and which of them each record has."""
+
+    values: list[str]
+    codes: npt.NDArray[np.int32]
+
+    def numbers(self, path: str | Path, name: str) -> npt.NDArray[np.float64]:
+        """The column as numbers; the first record that has none is told."""
+        made = np.array([number_of(text) for text in self.values] or [0.0])
+        bad = np.flatnonzero(np.isnan(made[self.codes]))
+        if len(bad):
+            value = self.values[self.codes[bad[0]]]
+            raise BadInput(path, "is no number", record=int(bad[0]) + 2, column=name, value=value)
+        return made[self.codes]
+
+
+def number_of(text: str) -> float:
+    """The number that a field states, NaN where it states none."""
+    try:
+        number = math.nan if "_" in text else float(text)
+    except ValueError:
+        return math.nan
+    return number if math.isfinite(number) else math.nan
+
+
+def columns(path: str | Path, needed: Sequence[str]) -> dict[str, Column]:
+    """The needed columns of a file of many records, as quick as pandas reads and with little memory; where it can't,
+    record by record.
+    """
+    needs("pandas")
+    import pandas
+
+    found: dict[str, dict[str, int]] = {name: {} for name in needed}
+    codes: dict[str, list[npt.NDArray[np.int32]]] = {name: [] for name in needed}
+    how = {"dtype": "category", "keep_default_na": False, "index_col": False, "chunksize": ROWS_AT_ONCE}
+    how |= {"encoding": "utf-8-sig", "encoding_errors": "surrogateescape"}
+    try:
+        _, header = next(records(path), (1, list[str]()))
+        places = places_of(header, path, needed)
+        heads = {str(number): name for name, number in places.items() if name in needed}
+        names = [str(number) for number in range(len(header))]
+        with pandas.read_csv(path, names=names, header=0, usecols=sorted(heads), **how) as pieces:
+            for piece in pieces:
+                for head, name in heads.items():
+                    codes[name].append(coded(piece[head].cat.categories, piece[head].cat.codes.to_numpy(), found[name]))
+    except (pandas.errors.ParserError, pandas.errors.EmptyDataError, ValueError):
+        return columns_by_records(path, needed)
+    empty = np.zeros(0, np.int32)
+    return {name: Column(list(found[name]), np.concatenate([empty, *codes[name]])) for name in needed}
+
+
+def coded(texts: Iterable[str], codes: npt.NDArray[np.int64], known: dict[str, int]) -> npt.NDArray[np.int32]:
+    """The codes of a piece as those of the whole column, whose texts are numbered as they come."""
+    taken = np.array([known.setdefault(text, len(known)) for text in texts] or [0], dtype=np.int32)
+    made: npt.NDArray[np.int32] = taken[codes]
+    return made
+
+
+def columns_by_records(path: str | Path, needed: Sequence[str]) -> dict[str, Column]:
+    """The same where records have more fields than the header, or quotes that pandas doesn't take."""
+    found: list[dict[str, int]] = [{} for _ in needed]
+    codes: list[list[int]] = [[] for _ in needed]
+    for _, fields in rows(path, needed):
+        for place, field in enumerate(fields):
+            codes[place].append(found[place].setdefault(field, len(found[place])))
+    return {name: Column(list(found[place]), np.array(codes[place], np.int32)) for place, name in enumerate(needed)}
+
+
+def shown(text: str) -> str:
+    """A text for people: bytes that aren't UTF-8 are read as Windows-1252, as feeds that aren't UTF-8 most often
+    are.
+    """
+    if text.isascii() or not any("\udc80" <= letter <= "\udcff" for letter in text):
+        return text
+    made = text.encode("utf-8", "surrogateescape")
+    try:
+        return made.decode("cp1252")
+    except UnicodeDecodeError:
+        return made.decode("latin-1")
+
+
+def field(text: object) -> bytes:
+    """A field as `ttm` writes it: between quotes where it has a comma, a quote or a line end."""
+    made = str(text)
+    if any(letter in made for letter in ',"\r\n'):
+        made = '"' + made.replace('"', '""') + '"'
+    return made.encode("utf-8", "surrogateescape")
+
+
+def fields_as_texts(values: Iterable[object], before: bytes = b"", after: bytes = b"") -> Texts:
+    """Fields as an array of bytes, each once, with what stands before and behind each of them."""
+    return texts_of([before + field(value) + after for value in values])
+
+
+def joined(pieces: Sequence[bytes | Texts], count: int) -> bytes:
+    """The text of so many lines: of each piece in turn the one text that all lines have, or the line's own."""
+    made = np.empty((count, len(pieces)), dtype=object)
+    for place, piece in enumerate(pieces):
+        made[:, place] = piece
+    return b"".join(made.ravel())
+
+
+class Numerals:
+    """Whole numbers from 0 on as texts, each made once where they aren't too large."""
+
+    KEPT = 1 << 20
+
+    def __init__(self, form: Callable[[int], bytes], gap: bytes = b"") -> None:
+        self.form, self.gap = form, gap
+        self.texts: Texts = np.empty(0, dtype=object)
+
+    def of(self, numbers: npt.NDArray[Any]) -> Texts:
+        """The texts of some whole numbers; that of the gap for NaN."""
+        gaps = np.isnan(numbers)
+        whole = np.where(gaps, 0, numbers).astype(np.int64)
+        made = self.of_whole(whole)
+        made[gaps] = self.gap
+        return made
+
+    def of_whole(self, numbers: npt.NDArray[np.int64]) -> Texts:
+        most = int(numbers.max(initial=0))
+        if most >= self.KEPT:
+            found, places = np.unique(numbers, return_inverse=True)
+            return texts_of([self.form(number) for number in found.tolist()])[places]
+        if most >= len(self.texts):
+            self.texts = texts_of([self.form(number) for number in range(max(most + 1, 2 * len(self.texts)))])
+        return self.texts[numbers]
+
+
+def texts_of(made: Sequence[bytes]) -> Texts:
+    """Texts as an array of references to them."""
+    texts = np.empty(len(made), dtype=object)
+    texts[:] = made
+    return texts
+
+
+def with_gaps(numbers: npt.NDArray[Any]) -> Any:
+    """Whole numbers as pandas has them where some are missing; NaN is missing."""
+    import pandas
+
+    gaps = np.isnan(numbers)
+    return pandas.arrays.IntegerArray(np.where(gaps, 0, numbers).astype(np.int64), gaps)
+
+
+def write_rows(file: BinaryIO, header: Sequence[str], lines: Iterable[Sequence[object]]) -> None:
+    """Writes a table, with LF behind each line."""
+    file.write(b",".join(map(field, header)) + b"\n")
+    for line in lines:
+        file.write(b",".join(map(field, line)) + b"\n")
+
+
+def read_text(text: str) -> list[list[str]]:
+    """The records of a text, such as the header of a matrix."""
+    return [fields for fields in csv.reader(io.StringIO(text, newline="")) if fields]
+
+
+@dataclass
+class Rounded:
+    """How many numbers with decimals were made whole for `ttm`, which takes whole numbers alone."""
+
+    count: int = 0
+
+    def whole(self, text: str, path: object, record: int, column: str, up: bool) -> int:
+        """The number of a field, rounded up or to the nearest (a half up), and counted where that changes it."""
+        number = number_of(text.strip())
+        if not 0 <= number < 1 << 32:
+            allowed = "a number from 0 to 4294967295"
+            raise BadInput(path, "is no such number", record=record, column=column, value=text, allowed=allowed)
+        made = math.ceil(number) if up else math.floor(number + 0.5)
+        self.count += made != number
+        return made

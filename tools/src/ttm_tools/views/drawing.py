@@ -1,0 +1,224 @@
+"""A picture as a figure of matplotlib: a map of stops over the lines on which vehicles run, a key, a scale, and what a
+reader needs to know.
+"""
+
+import math
+import textwrap
+from dataclasses import dataclass
+from typing import Any, Sequence
+
+import numpy as np
+import numpy.typing as npt
+from matplotlib import colormaps, colors
+from matplotlib.backends.backend_agg import FigureCanvasAgg
+from matplotlib.collections import LineCollection
+from matplotlib.figure import Figure
+from matplotlib.lines import Line2D
+from matplotlib.patheffects import withStroke
+
+from ..feed import GRID, Projection, Stops
+from .pictures import NO_ORIGIN, Mark, Picture, round_step
+
+MOST_NAMES = 3
+MANY_LINES = 2000  # pieces, from which on lines are drawn thinner
+INCHES = 10  # the picture's width; that of the map, its greatest height, and what stands above it, follow
+MAP_WIDTH, MAP_HEIGHT, HEAD, EDGE = 6.7, 7.0, 0.85, 0.2
+LEAST_HEIGHT = 5.2  # of the picture, so that the key has room
+LEAST_SIDE = 0.5  # kilometres that a map shows
+STAR = {"marker": "*", "color": "#111111"}
+LETTERS: dict[str, Any] = {
+    "ha": "center",
+    "fontsize": 9,
+    "zorder": 6,
+    "path_effects": [withStroke(linewidth=2.5, foreground="white")],
+}
+Pieces = npt.NDArray[np.int32]
+Points = npt.NDArray[np.float64]  # kilometres east and north, NaN where a stop has no place
+
+
+@dataclass(frozen=True)
+class Lines:
+    """Pieces of lines, and how they are drawn and named."""
+
+    pieces: Pieces
+    label: str
+    colour: str
+    width: float
+    style: str | tuple[int, tuple[float, float]] = "solid"
+
+
+def running(pieces: Pieces) -> Lines:
+    """The lines on which vehicles run."""
+    return Lines(pieces, "where vehicles run", "#cdcdcd", 0.9 if len(pieces) < MANY_LINES else 0.5)
+
+
+def taken_out(pieces: Pieces) -> Lines:
+    return Lines(pieces, "trips that are taken out", "#222222", 2.0)
+
+
+def added(pieces: Pieces) -> Lines:
+    return Lines(pieces, "trips that are added", "#117733", 2.4, (0, (4, 1.5)))
+
+
+def draw(picture: Picture, stops: Stops, lines: Sequence[Lines], note: str, width: int = 1350) -> Figure:
+    """The picture of these stops, which are those of the matrix, as a figure of so many pixels across."""
+    projection = Projection(stops.latitudes, stops.longitudes)
+    points = np.stack([projection.east(stops.longitudes), projection.north(stops.latitudes)], axis=1)
+    figure, axes = empty_map(limits_of(points[stops.placed]), width)
+    top = figure.get_figheight()
+    title, told = shortened(picture.title, 84), shortened(picture.told, 136)
+    plain: dict[str, Any] = {"va": "top", "parse_math": False}
+    figure.text(EDGE / INCHES, 1 - 0.2 / top, title, fontsize=14.5, fontweight="bold", **plain)
+    figure.text(EDGE / INCHES, 1 - 0.52 / top, told, fontsize=9.5, color="#333333", **plain)
+    for number, kind in enumerate(lines):
+        draw_lines(axes, kind, 1 + number / 10)
+    draw_stops(axes, picture, points)
+    draw_names(axes, picture, stops, points)
+    draw_scale(axes)
+    place = axes.get_position()
+    beside = place.x1 + EDGE / INCHES
+    draw_key(figure, (beside, place.y1), picture, points, lines)
+    notes = wrapped(" ".join(filter(None, [picture.source, note, "In brackets: number of stops."])), 44)
+    figure.text(beside, EDGE / top, notes, fontsize=8, color="#555555", va="bottom", parse_math=False)
+    return figure
+
+
+def limits_of(points: Points) -> tuple[float, float, float, float]:
+    """Where the map begins and ends, in kilometres (left, right, bottom, top): no strip, and with room below for the
+    scale.
+    """
+    (left, bottom), (right, top) = points.min(axis=0).tolist(), points.max(axis=0).tolist()
+    side = max(right - left, top - bottom, LEAST_SIDE)
+    wide, high = (max(1.08 * length, 0.5 * side) for length in (right - left, top - bottom))
+    middle, centre = (right + left) / 2, (top + bottom) / 2
+    return middle - wide / 2, middle + wide / 2, centre - high / 2 - 0.06 * side, centre + high / 2
+
+
+def empty_map(span: tuple[float, float, float, float], width: int) -> tuple[Figure, Any]:
+    """A figure as high as its map needs, and the map's axes: one kilometre is as long in both directions."""
+    left, right, bottom, top = span
+    inches = min(MAP_WIDTH / (right - left), MAP_HEIGHT / (top - bottom))
+    wide, high = (right - left) * inches, (top - bottom) * inches
+    height = max(LEAST_HEIGHT, high + HEAD + EDGE)
+    figure = Figure(figsize=(INCHES, height), dpi=width / INCHES, facecolor="white")
+    FigureCanvasAgg(figure)  # becomes figure.canvas
+    room = [EDGE / INCHES, 1 - (HEAD + high) / height, wide / INCHES, high / height]
+    axes = figure.add_axes(room, xlim=(left, right), ylim=(bottom, top), xticks=[], yticks=[])
+    for spine in axes.spines.values():
+        spine.set_color("#bbbbbb")
+    return figure, axes
+
+
+def shortened(text: str, most: int) -> str:
+    return text if len(text) <= most else text[: most - 2].rstrip() + " .."
+
+
+def wrapped(text: str, most: int) -> str:
+    return "\n".join(textwrap.fill(line, most) for line in text.split("\n"))
+
+
+def draw_lines(axes: Any, lines: Lines, order: float) -> None:
+    ends = lines.pieces.reshape(-1, 2, 2) * GRID
+    cap = {"capstyle": "round"} if lines.style == "solid" else {}
+    how: dict[str, Any] = {"colors": lines.colour, "linewidths": lines.width, "linestyles": [lines.style], **cap}
+    axes.add_collection(LineCollection(ends, zorder=order, **how))
+
+
+def mark_size(count: int) -> float:
+    """The area of an ordinary mark in square points, so that so many of them don't hide one another."""
+    return min(60.0, max(5.0, 60000 / max(1, count)))
+
+
+def order_of_drawing(marks: Sequence[Mark]) -> list[int]:
+    """The classes from the lowest to the highest: small marks first, and what is cut off on top."""
+    return sorted(range(len(marks)), key=lambda place: (marks[place].size, -place))
+
+
+def drawn(picture: Picture, points: Points) -> npt.NDArray[np.bool_]:
+    """Which stops are drawn as marks of their class: those with a place, but for the origin."""
+    made: npt.NDArray[np.bool_] = ~np.isnan(points[:, 0])
+    if picture.origin is not None:
+        made[picture.origin] = False
+    return made
+
+
+def colour_of(mark: Mark) -> str:
+    if isinstance(mark.colour, str):
+        return mark.colour
+    return str(colors.to_hex(colormaps[mark.colour.scale](mark.colour.place)))
+
+
+def draw_stops(axes: Any, picture: Picture, points: Points) -> None:
+    here = drawn(picture, points)
+    faint = [place for place, mark in enumerate(picture.marks) if mark == NO_ORIGIN]
+    size = mark_size(int((~np.isnan(points[:, 0]) & ~np.isin(picture.classes, faint)).sum()))
+    for above, place in enumerate(order_of_drawing(picture.marks)):
+        mark, chosen = picture.marks[place], points[here & (picture.classes == place)]
+        if len(chosen):
+            edge: dict[str, Any] = {"linewidths": 0.35 * min(1, size / 40), "edgecolors": mark.edge}
+            edge = {"linewidths": 1.0} if mark.shape == "x" else edge
+            how = {"s": size * mark.size, "c": colour_of(mark), "marker": mark.shape, "zorder": 3 + above / 100}
+            axes.scatter(chosen[:, 0], chosen[:, 1], **how, **edge)
+
+
+def draw_names(axes: Any, picture: Picture, stops: Stops, points: Points) -> None:
+    """A star and a name at the origin, and names at those stops that lose most, as far as the names don't cover one
+    another.
+    """
+    wished = [*([picture.origin] if picture.origin is not None else []), *picture.named]
+    if picture.origin is not None and not math.isnan(points[picture.origin, 0]):
+        axes.scatter(*points[picture.origin], s=260, edgecolors="white", linewidths=0.9, zorder=5, **STAR)
+    taken: list[Any] = []
+    for stop in [stop for stop in wished if not math.isnan(points[stop, 0])]:
+        across = axes.transAxes.inverted().transform(axes.transData.transform(points[stop]))[0]
+        how = {**LETTERS, "ha": "left" if across < 0.12 else "right" if across > 0.88 else "center"}
+        told = shortened(stops.names[stop], 32)
+        plain = {"xytext": (0, 9), "textcoords": "offset points", "parse_math": False, "fontweight": "bold"}
+        name = axes.annotate(told, points[stop], **plain, **how)
+        box = name.get_window_extent(axes.figure.canvas.get_renderer())
+        if len(taken) == MOST_NAMES or any(box.overlaps(other) for other in taken):
+            name.remove()
+        else:
+            taken.append(box)
+
+
+def draw_scale(axes: Any) -> None:
+    """A bar of a round length in kilometres, and where north is."""
+    (left, right), (bottom, top) = axes.get_xlim(), axes.get_ylim()
+    height = axes.get_position().height * axes.figure.get_figheight()
+    point = (top - bottom) / (height * 72)  # kilometres of a 72nd of an inch
+    metres = round_step((right - left) * 1000, 5)
+    length, x, y = metres / 1000, left + 15 * point, bottom + 17 * point
+    ends = ([x, x, x + length, x + length], [y + 4 * point, y, y, y + 4 * point])
+    axes.plot(*ends, color="#222222", linewidth=1.6, zorder=6)
+    told = f"{metres // 1000} km" if metres >= 1000 else f"{metres} m"
+    axes.text(x + length / 2, y + 6 * point, told, va="bottom", **LETTERS)
+    arrow = {"arrowstyle": "-|>", "color": "#222222"}
+    place = (x + length + 30 * point, y + 22 * point)
+    axes.annotate("N", place, (0, -24), textcoords="offset points", arrowprops=arrow, **LETTERS)
+
+
+def draw_key(
+    figure: Figure, corner: tuple[float, float], picture: Picture, points: Points, lines: Sequence[Lines]
+) -> None:
+    """The classes with how many stops each has; one without stops is left out."""
+    counts = np.bincount(picture.classes[drawn(picture, points)], minlength=len(picture.marks)).tolist()
+    handles = [handle(mark, f"{mark.label}  ({count:,})") for mark, count in zip(picture.marks, counts) if count]
+    if picture.origin is not None:
+        star = {"linestyle": "none", "markeredgecolor": "white", "markersize": 15}
+        handles.append(Line2D([], [], label="origin", **star, **STAR))
+    for kind in lines:
+        handles.append(Line2D([], [], color=kind.colour, linewidth=2.0, linestyle=kind.style, label=kind.label))
+    place = {"loc": "upper left", "bbox_to_anchor": corner, "borderaxespad": 0, "alignment": "left"}
+    how = {"frameon": False, "fontsize": 9.5, "title_fontsize": 10.5, "labelspacing": 0.75}
+    key = figure.legend(handles=handles, title=wrapped(picture.key, 32), **how, **place)
+    key.get_title().set_fontweight("bold")
+
+
+def handle(mark: Mark, label: str) -> Line2D:
+    """What the key shows of a class."""
+    cross, colour = mark.shape == "x", colour_of(mark)
+    edge = {"markeredgecolor": colour if cross else mark.edge, "markeredgewidth": 1.2 if cross else 0.5}
+    size = 9 * math.sqrt(max(mark.size, 0.3))
+    how = {"marker": mark.shape, "linestyle": "none", "markersize": size, "markerfacecolor": colour}
+    return Line2D([], [], label=label, **how, **edge)

@@ -1,0 +1,83 @@
+"""Stops with their access, and travel times from an origin, as points for a geographic information system: GeoJSON or
+GeoPackage.
+"""
+
+import json
+import math
+from dataclasses import dataclass
+from typing import Any, BinaryIO, Sequence
+
+import numpy as np
+
+from ..faults import needs
+from ..feed import Stops
+from ..files import written_aside
+from ..matrices import Matrix, Share
+from ..records import shown, with_gaps
+
+LAYER = "stops"
+
+
+@dataclass(frozen=True)
+class Features:
+    """The stops of a matrix that have a place, with a column for each number; NaN where a stop has none."""
+
+    stops: Stops
+    columns: dict[str, Any]  # arrays of numbers
+
+    def properties(self, place: int) -> dict[str, Any]:
+        """What is told of one stop."""
+        told: dict[str, Any] = {"stop_id": shown(self.stops.identifiers[place]), "stop_name": self.stops.names[place]}
+        for name, numbers in self.columns.items():
+            told[name] = None if math.isnan(numbers[place]) else int(numbers[place])
+        return told
+
+
+def named(scenario: str, share: Share, what: str) -> str:
+    """The name of a column, as base_50_access_1800, base_50_seconds."""
+    return "_".join([shown(scenario), *([str(share)] if share is not None else []), what])
+
+
+def features_of(
+    matrix: Matrix, stops: Stops, scenarios: Sequence[str], shares: Sequence[Share], origin: str | None
+) -> Features:
+    """The stops with what is asked for."""
+    columns: dict[str, Any] = {}
+    for scenario in scenarios:
+        for share in shares:
+            places = np.array([matrix.places[name] for name in matrix.origins(scenario, share)], dtype=np.intp)
+            for limit, access in zip(matrix.layout.limits, matrix.access(scenario, share).T):
+                column = np.full(len(matrix.stops), np.nan)
+                column[places] = access
+                columns[named(scenario, share, "access" if limit is None else f"access_{limit}")] = column
+            if origin is not None:
+                columns[named(scenario, share, "seconds")] = matrix.seconds(scenario, share, origin)
+    found = stops.of(matrix.stops)
+    kept = np.flatnonzero(found.placed)
+    there = found.of([found.identifiers[place] for place in kept.tolist()])
+    return Features(there, {name: numbers[kept] for name, numbers in columns.items()})
+
+
+def write_geojson(out: BinaryIO, features: Features) -> None:
+    """A collection of features, one a line (RFC 7946)."""
+    out.write(b'{"type": "FeatureCollection", "features": [')
+    places = zip(features.stops.longitudes.tolist(), features.stops.latitudes.tolist())
+    for number, place in enumerate(places):
+        feature = {"type": "Feature", "geometry": {"type": "Point", "coordinates": place}}
+        feature["properties"] = features.properties(number)
+        out.write((",\n" if number else "\n").encode() + json.dumps(feature, ensure_ascii=False).encode("utf-8"))
+    out.write(b"\n]}\n")
+
+
+def write_geopackage(path: str, features: Features) -> None:
+    """A layer of points in WGS 84."""
+    needs("geopandas")
+    import geopandas
+
+    stops = features.stops
+    columns: dict[str, Any] = {"stop_id": list(map(shown, stops.identifiers)), "stop_name": stops.names}
+    columns |= {name: with_gaps(numbers) for name, numbers in features.columns.items()}
+    points = geopandas.points_from_xy(stops.longitudes, stops.latitudes)
+    frame = geopandas.GeoDataFrame(columns, geometry=points, crs="EPSG:4326")
+    with written_aside(path) as made:
+        frame.to_file(made, driver="GPKG", layer=LAYER)

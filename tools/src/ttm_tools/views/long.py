@@ -1,0 +1,240 @@
+"""A matrix from wide to long: a line for each origin and destination, with names and places of both, as CSV or Parquet;
+or for each origin's access.
+"""
+
+import math
+from dataclasses import dataclass
+from typing import Any, BinaryIO, Iterator, Sequence
+
+import numpy as np
+import numpy.typing as npt
+
+from .. import progress
+from ..faults import BadInput, Lacking
+from ..feed import Stops
+from ..files import written_aside
+from ..matrices import Matrix, Seconds, Share, lacking
+from ..records import Numerals, Texts, field, fields_as_texts, joined, shown, texts_of, with_gaps
+
+CELLS_AT_ONCE = 1_000_000
+
+
+@dataclass(frozen=True)
+class Choice:
+    """What is taken of a matrix."""
+
+    scenarios: list[str]
+    shares: list[Share]
+    origins: list[str] | None  # None for all of them
+    destinations: list[str]
+    reached: bool = False  # leave out pairs without a travel time
+    r5py: bool = False  # columns as r5py names them: minutes, a column for each share
+
+
+@dataclass(frozen=True)
+class Piece:
+    """Some origins of a scenario with their travel times to the chosen stops, of each share in turn."""
+
+    scenario: str
+    origins: list[str]
+    seconds: list[Seconds]
+
+
+def pieces_of(matrix: Matrix, choice: Choice) -> Iterator[Piece]:
+    """The rows that are asked for, some at a time; of a scenario's origins each has all shares."""
+    columns = np.array([matrix.places[name] for name in choice.destinations], dtype=np.intp)
+    whole = len(columns) == len(matrix.stops) and bool((np.diff(columns) == 1).all())
+    step = max(1, CELLS_AT_ONCE // max(1, len(matrix.stops) * len(choice.shares)))
+    for scenario in choice.scenarios:
+        names = origins_of(matrix, scenario, choice.shares)
+        places = np.arange(len(names))
+        if choice.origins is not None:
+            chosen = set(choice.origins)
+            places = np.array([place for place, name in enumerate(names) if name in chosen], dtype=np.intp)
+        for begin in progress.told(range(0, len(places), step), -(-len(places) // step), shown(scenario), "blocks"):
+            some = places[begin : begin + step]
+            rows = [matrix.rows_at(scenario, share, some) for share in choice.shares]
+            yield Piece(
+                scenario, [names[place] for place in some], rows if whole else [row[:, columns] for row in rows]
+            )
+
+
+def origins_of(matrix: Matrix, scenario: str, shares: Sequence[Share]) -> list[str]:
+    """The origins of a scenario, which have a line of every share."""
+    first = matrix.origins(scenario, shares[0])
+    for share in shares[1:]:
+        lost = lacking((f"share {shares[0]}", first), (f"share {share}", matrix.origins(scenario, share)))
+        if lost:
+            raise BadInput(matrix.path, f"scenario {shown(scenario)}: {lost}")
+    return first
+
+
+@dataclass(frozen=True)
+class Ends:
+    """Identifiers as fields, and what a feed tells of them: name, latitude and longitude, as it stands behind a
+    comma.
+    """
+
+    fields: Texts
+    told: Texts
+
+
+def ends_of(names: Sequence[str], stops: Stops | None) -> Ends:
+    if stops is None:
+        return Ends(fields_as_texts(names), texts_of([b""] * len(names)))
+    found = stops.of(names)
+    places = zip(found.names, found.latitudes.tolist(), found.longitudes.tolist())
+    told = [
+        b",".join([b"", field(name), degrees(latitude), degrees(longitude)]) for name, latitude, longitude in places
+    ]
+    return Ends(fields_as_texts(names), texts_of(told))
+
+
+def degrees(number: float) -> bytes:
+    return b"" if math.isnan(number) else b"%r" % number
+
+
+def header_of(matrix: Matrix, choice: Choice, stops: Stops | None) -> list[str]:
+    """The names of the columns of travel times."""
+    if choice.r5py:
+        names = ["travel_time" if share is None else f"travel_time_p{share}" for share in choice.shares]
+        head = ["from_id", "to_id", *names]
+    else:
+        head = ["scenario", *(["share"] if matrix.layout.names_share else []), "origin", "destination", "seconds"]
+    told = [f"{end}_{what}" for end in ("origin", "destination") for what in ("name", "lat", "lon")]
+    return head + (told if stops is not None else [])
+
+
+def minutes(seconds: int) -> bytes:
+    """Seconds as minutes, to the nearest hundredth."""
+    return b"%r" % round(seconds / 60, 2)
+
+
+def write_times(out: BinaryIO, matrix: Matrix, choice: Choice, stops: Stops | None) -> None:
+    """A line for each pair, each cell by reference to a text that is made once."""
+    out.write(b",".join(map(field, header_of(matrix, choice, stops))) + b"\n")
+    ends = ends_of(choice.destinations, stops)
+    after = texts_of([told + b"\n" for told in ends.told])
+    numerals = Numerals(minutes if choice.r5py else b"%d".__mod__)
+    for piece in pieces_of(matrix, choice):
+        origins = ends_of(piece.origins, stops)
+        for row, (origin, told) in enumerate(zip(origins.fields, origins.told)):
+            times = [seconds[row] for seconds in piece.seconds]
+            if choice.r5py:
+                out.write(lines_of(origin + b",", times, [ends.fields, told, after], numerals, choice.reached))
+                continue
+            for share, seconds in zip(choice.shares, times):
+                named = b"" if share is None else b"%d," % share
+                head = field(piece.scenario) + b"," + named + origin + b","
+                out.write(lines_of(head, [seconds], [ends.fields, told, after], numerals, choice.reached))
+
+
+def lines_of(head: bytes, times: Sequence[Seconds], around: Sequence[Any], numerals: Numerals, reached: bool) -> bytes:
+    """The lines of one origin: its head, each destination, the travel times to it, and what is told of both ends."""
+    destinations, told, after = around
+    if reached:
+        kept = np.flatnonzero(~np.isnan(times).all(axis=0))
+        times, destinations, after = [seconds[kept] for seconds in times], destinations[kept], after[kept]
+    numbers: list[bytes | Texts] = []
+    for seconds in times:
+        numbers += [b",", numerals.of(seconds)]
+    return joined([head, destinations, *numbers, told, after], len(destinations))
+
+
+def write_access(out: BinaryIO, matrix: Matrix, choice: Choice, within: int | None, stops: Stops | None) -> None:
+    """A line for each origin, share and limit."""
+    places = range(len(matrix.layout.limits)) if within is None else [matrix.limit(within)[0]]
+    named = matrix.layout.names_share
+    header = ["scenario", *(["share"] if named else []), "origin", *(["within"] if named else []), "access"]
+    header += [f"origin_{what}" for what in ("name", "lat", "lon")] if stops is not None else []
+    chosen = None if choice.origins is None else set(choice.origins)
+    out.write(b",".join(map(field, header)) + b"\n")
+    for scenario in choice.scenarios:
+        names = origins_of(matrix, scenario, choice.shares)
+        sums = [matrix.access(scenario, share).tolist() for share in choice.shares]
+        ends = ends_of(names, stops)
+        for row in [row for row, name in enumerate(names) if chosen is None or name in chosen]:
+            for share, access in zip(choice.shares, sums):
+                for place in places:
+                    limit = [matrix.layout.limits[place]] if named else []
+                    line = [scenario, *([share] if named else []), names[row], *limit, access[row][place]]
+                    out.write(b",".join(map(field, line)) + ends.told[row] + b"\n")
+
+
+def frame_of(matrix: Matrix, choice: Choice, piece: Piece, stops: Stops | None) -> Any:
+    """The lines of a piece as a table of pandas, whose texts are codes."""
+    import pandas
+
+    count, shares = len(choice.destinations), [piece.seconds] if choice.r5py else [
+        [seconds] for seconds in piece.seconds
+    ]
+    tables = []
+    for place, times in enumerate(shares):
+        origin = np.repeat(np.arange(len(piece.origins)), count)
+        destination = np.tile(np.arange(count), len(piece.origins))
+        columns: dict[str, Any] = {} if choice.r5py else {"scenario": [shown(piece.scenario)] * len(origin)}
+        if matrix.layout.names_share and not choice.r5py:
+            columns["share"] = choice.shares[place]
+        for name, codes, names in ends_in(choice, piece, origin, destination):
+            columns[name] = pandas.Categorical.from_codes(codes, list(map(shown, names)))
+        for name, seconds in zip(header_of(matrix, choice, None)[-len(times) :], times):
+            columns[name] = seconds.ravel() / 60 if choice.r5py else with_gaps(seconds.ravel())
+        columns |= columns_of_places(stops, piece.origins, origin, "origin")
+        columns |= columns_of_places(stops, choice.destinations, destination, "destination")
+        table = pandas.DataFrame(columns)
+        tables.append(
+            table[np.logical_or.reduce([~np.isnan(seconds.ravel()) for seconds in times])] if choice.reached else table
+        )
+    return pandas.concat(tables, ignore_index=True)
+
+
+def ends_in(
+    choice: Choice, piece: Piece, origin: npt.NDArray[np.intp], destination: npt.NDArray[np.intp]
+) -> list[tuple[str, npt.NDArray[np.intp], list[str]]]:
+    names = ("from_id", "to_id") if choice.r5py else ("origin", "destination")
+    return [(names[0], origin, piece.origins), (names[1], destination, choice.destinations)]
+
+
+def columns_of_places(
+    stops: Stops | None, names: Sequence[str], codes: npt.NDArray[np.intp], end: str
+) -> dict[str, Any]:
+    """Name, latitude and longitude of one end of each pair."""
+    if stops is None:
+        return {}
+    found = stops.of(names)
+    told = np.array(found.names, dtype=object)[codes]
+    return {f"{end}_name": told, f"{end}_lat": found.latitudes[codes], f"{end}_lon": found.longitudes[codes]}
+
+
+def write_parquet(path: str, frames: Iterator[Any]) -> None:
+    """Writes tables as one Parquet file, a group of rows for each, by pyarrow or by fastparquet."""
+    try:
+        import pyarrow.parquet
+    except ImportError:
+        write_by_fastparquet(path, frames)
+        return
+    with written_aside(path) as made:
+        writer = None
+        for table in (pyarrow.Table.from_pandas(frame, preserve_index=False) for frame in frames if len(frame)):
+            writer = writer or pyarrow.parquet.ParquetWriter(str(made), table.schema)
+            writer.write_table(table.cast(writer.schema))
+        if writer is None:
+            raise BadInput(path, "no rows to write")
+        writer.close()
+
+
+def write_by_fastparquet(path: str, frames: Iterator[Any]) -> None:
+    try:
+        import fastparquet
+    except ImportError:
+        told = "Parquet needs pyarrow or fastparquet, and neither is installed; a name that ends in .csv writes a CSV"
+        raise Lacking(f"{path}: {told}") from None
+    with written_aside(path) as made:
+        for number, frame in enumerate(frame for frame in frames if len(frame)):
+            fastparquet.write(str(made), frame, append=number > 0)
+        if not made.exists():
+            raise BadInput(path, "no rows to write")
+
+
+def frames_of(matrix: Matrix, choice: Choice, stops: Stops | None) -> Iterator[Any]:
+    return (frame_of(matrix, choice, piece, stops) for piece in pieces_of(matrix, choice))

@@ -1,0 +1,253 @@
+"""What a map shows: its title, its classes, and which of them each stop is in. Nothing is drawn here, and nothing but
+numpy is needed.
+
+Colours are those of scales that readers of all kinds of colour vision tell apart; 'not reached', 'cut off' and 'new'
+are classes of their own.
+"""
+
+import math
+from dataclasses import dataclass, replace
+from typing import Sequence
+
+import numpy as np
+import numpy.typing as npt
+
+from ..feed import Stops
+from ..matrices import Matrix, Pair, Share, pair_of
+from ..measures.comparison import compare
+from ..records import shown
+
+MINUTES = (10.0, 20.0, 30.0, 45.0, 60.0, 90.0)
+MINUTES_OF_DIFFERENCE = (1.0, 5.0, 15.0)
+PERCENT = (1.0, 5.0, 10.0, 25.0)
+MOST_WORST = 40  # stops that lose most, from which names are taken
+Classes = npt.NDArray[np.intp]
+
+
+@dataclass(frozen=True)
+class Shade:
+    """A colour as a place on one of matplotlib's scales."""
+
+    scale: str
+    place: float
+
+
+@dataclass(frozen=True)
+class Mark:
+    """How the stops of a class are drawn, and what the key says of them; `size` is an area beside an ordinary
+    mark's.
+    """
+
+    label: str
+    colour: str | Shade
+    shape: str = "o"
+    size: float = 1.0
+    edge: str = "#333333"
+
+
+@dataclass(frozen=True)
+class Picture:
+    """What is to be drawn: the classes in the key's order, which of them each stop of the matrix is in, and what is
+    written beside.
+    """
+
+    title: str
+    told: str
+    key: str
+    marks: list[Mark]
+    classes: Classes
+    source: str
+    origin: int | None = None  # the place of the stop from which one starts
+    named: tuple[int, ...] = ()  # the places of stops to be named, the foremost first
+
+
+@dataclass(frozen=True)
+class Wish:
+    """What of a matrix a picture is to show; None where the matrix has one alone."""
+
+    scenario: str | None = None
+    base: str = "base"
+    share: int | None = None
+    within: int | None = None  # seconds
+    breaks: tuple[float, ...] | None = None  # where classes begin: minutes, opportunities or percent
+    unit: str = "opportunities"
+
+
+NOT_REACHED = Mark("not reached", "#9a9a9a", "x", 0.7)
+NO_ORIGIN = Mark("no origin of the matrix", "#c4c4c4", "o", 0.07, "none")
+
+
+def shades(count: int, name: str = "plasma", first: float = 0.0, last: float = 0.98) -> list[Shade]:
+    """So many colours of a scale, a little further from one another at its first, dark end."""
+    return [Shade(name, first + (last - first) * (place / max(1, count - 1)) ** 0.8) for place in range(count)]
+
+
+def source_told(scenario: str, share: Share) -> str:
+    told = f"Scenario {scenario}"
+    return f"{told}." if share is None else f"{told}; travel times that {share} of 100 departures keep to."
+
+
+def within_told(limit: int | None) -> str:
+    if limit is None:
+        return ""
+    return f" within {limit // 60} minutes" if limit % 60 == 0 else f" within {limit:,} seconds"
+
+
+def picture_of_times(matrix: Matrix, stops: Stops, origin: str, wish: Wish) -> Picture:
+    """Travel times from an origin, in classes of minutes."""
+    scenario, share = matrix.scenario(wish.scenario or wish.base), matrix.share(wish.share)
+    seconds = matrix.seconds(scenario, share, origin)
+    breaks = wish.breaks or MINUTES
+    between = [f"{low:g} to {high:g}" for low, high in zip(breaks, breaks[1:])]
+    labels = [f"up to {breaks[0]:g}", *between, f"more than {breaks[-1]:g}"]
+    marks = [Mark(label, colour) for label, colour in zip(labels, shades(len(labels)))] + [NOT_REACHED]
+    there = ~np.isnan(seconds)
+    classes = np.where(there, np.searchsorted(60 * np.array(breaks), seconds, side="left"), len(labels))
+    there[matrix.places.get(origin, [])] = False
+    half = f", half of them within {math.ceil(float(np.median(seconds[there])) / 60)} minutes" if there.any() else ""
+    told = f"{there.sum():,} of {len(seconds) - 1:,} other stops are reached{half}"
+    title, key = f"Travel time from {stops.name_of(origin)}", "Travel time in minutes,\nwaiting included"
+    return Picture(title, told, key, marks, classes, source_told(shown(scenario), share), matrix.places.get(origin))
+
+
+def round_step(most: float, count: int) -> int:
+    """A round number that steps to `most` in about so many steps: 1, 2 or 5 times a power of ten."""
+    least = max(most / count, 1)
+    power = 10 ** math.floor(math.log10(least))
+    return next(int(step * power) for step in (1, 2, 5, 10) if step * power >= least)
+
+
+def round_breaks(least: int, most: int) -> tuple[float, ...]:
+    """Round numbers that part the numbers from the least to the most in some classes."""
+    step = round_step(most - least, 8)
+    return tuple(range((least // step + 1) * step, max(most, least + step), step)) or (most + 1,)
+
+
+def of_origins(matrix: Matrix, origins: Sequence[str], classes: Classes, otherwise: int) -> Classes:
+    """The classes of all stops, where those of the origins are known."""
+    made = np.full(len(matrix.stops), otherwise, np.intp)
+    places = np.array([matrix.places.get(name, -1) for name in origins], dtype=np.intp)
+    made[places[places >= 0]] = classes[places >= 0]
+    return made
+
+
+def picture_of_access(matrix: Matrix, stops: Stops, wish: Wish) -> Picture:
+    """Access of each origin, in classes of round numbers."""
+    place, limit = matrix.limit(wish.within)
+    scenario, share = matrix.scenario(wish.scenario or wish.base), matrix.share(wish.share)
+    access = matrix.access(scenario, share)[:, place]
+    breaks = wish.breaks or round_breaks(int(access.min()), int(access.max()))
+    between = [f"{low:,} to {high:,}" for low, high in zip(breaks, breaks[1:])]
+    labels = [f"less than {breaks[0]:,}", *between, f"{breaks[-1]:,} and more"]
+    marks = [Mark(label, colour) for label, colour in zip(labels, reversed(shades(len(labels))))] + [NO_ORIGIN]
+    found = np.searchsorted(np.array(breaks), access, side="right")
+    classes = of_origins(matrix, matrix.origins(scenario, share), found, len(labels))
+    half, most = math.floor(float(np.median(access))), int(access.max())
+    told = f"From half of {len(access):,} stops at least {half:,} {wish.unit} are reached, at most {most:,}"
+    title = f"Access from each stop: {wish.unit}{within_told(limit)}"
+    key = f"{wish.unit.capitalize()} reached{within_told(limit)}".replace(" within", "\nwithin")
+    return Picture(title, told, key, marks, classes, source_told(shown(scenario), share))
+
+
+@dataclass(frozen=True)
+class Words:
+    """What the classes of a difference are called."""
+
+    unit: str
+    lost: str
+    gained: str
+    gone: str
+    joined: str
+
+
+def marks_of_difference(breaks: Sequence[float], words: Words) -> list[Mark]:
+    """The classes of a difference: cut off, lost from much to little, hardly any, gained from little to much, new."""
+    between = [f"{low:g} to {high:g} {words.unit}" for low, high in zip(breaks, breaks[1:])]
+    ranges = between + [f"{breaks[-1]:g} {words.unit} or more"]
+    reds, blues = (shades(len(breaks), "RdBu", first, last) for first, last in ((0.36, 0.08), (0.64, 0.92)))
+    less = [Mark(f"{told} {words.lost}", colour, "v", 1.4) for told, colour in zip(ranges, reds)]
+    more = [Mark(f"{told} {words.gained}", colour, "^", 1.4) for told, colour in zip(ranges, blues)]
+    same = Mark(f"less than {breaks[0]:g} {words.unit} either way", "#d8d8d8", "o", 0.45, "#8a8a8a")
+    gone, joined = Mark(words.gone, "#000000", "X", 2.0, "#ffffff"), Mark(words.joined, "#ffd92f", "P", 2.0, "#000000")
+    return [gone, *reversed(less), same, *more, joined]
+
+
+def classes_of_difference(change: npt.NDArray[np.float64], breaks: Sequence[float]) -> Classes:
+    """The places of changes among the marks: below 0 is lost."""
+    grades = np.searchsorted(np.array(breaks), np.abs(change), side="right")
+    made: Classes = 1 + len(breaks) + np.where(change > 0, grades, -grades)
+    return made
+
+
+def told_counts(classes: Classes, breaks: Sequence[float], words: Sequence[str]) -> str:
+    """How many stops are cut off, lose, gain, and are new."""
+    middle = 1 + len(breaks)
+    spans = ((0, 1), (1, middle), (middle + 1, 2 * middle), (2 * middle, 2 * middle + 1))
+    counts = [int(((classes >= begin) & (classes < end)).sum()) for begin, end in spans]
+    return ", ".join(f"{count:,} {word}" for count, word in zip(counts, words) if count or word in words[1:3])
+
+
+def beside(pair: Pair) -> str:
+    return f"{shown(pair.other)} beside {shown(pair.base)}"
+
+
+def picture_of_time_difference(matrix: Matrix, stops: Stops, origin: str, wish: Wish) -> Picture:
+    """Travel times from an origin in a scenario beside the base."""
+    pair = pair_of(matrix, wish.base, wish.scenario, wish.share)
+    before, after = (matrix.seconds(name, pair.share, origin) for name in (pair.base, pair.other))
+    breaks = wish.breaks or MINUTES_OF_DIFFERENCE
+    words = Words("min", "slower", "faster", "cut off: not reached now", "new: not reached before")
+    marks = [*marks_of_difference(breaks, words), replace(NOT_REACHED, label="not reached in either")]
+    classes = classes_of_difference(np.nan_to_num((before - after).astype(np.float64) / 60), breaks)
+    gone, new = np.isnan(after), np.isnan(before)
+    classes[gone & ~new], classes[new & ~gone], classes[new & gone] = 0, len(marks) - 2, len(marks) - 1
+    counts = told_counts(classes, breaks, ("are cut off", "slower", "faster", "newly reached"))
+    title, told = (
+        f"Travel time from {stops.name_of(origin)}: {beside(pair)}",
+        f"Of {len(matrix.stops):,} stops {counts}",
+    )
+    source = source_told(beside(pair), pair.share)
+    return Picture(title, told, "Change of travel time", marks, classes, source, matrix.places.get(origin))
+
+
+def picture_of_access_difference(matrix: Matrix, stops: Stops, wish: Wish) -> Picture:
+    """Access at each origin in a scenario beside the base, in classes of percent."""
+    place, limit = matrix.limit(wish.within)
+    pair = pair_of(matrix, wish.base, wish.scenario, wish.share)
+    breaks = wish.breaks or PERCENT
+    words = Words(
+        "%", "lost", "gained", "cut off from half of\nthe stops or more", "joined to half of\nits stops or more"
+    )
+    marks = [*marks_of_difference(breaks, words), NO_ORIGIN]
+    first, second = pair.access(place)
+    percent = 100 * (second - first) / np.where(first == 0, np.inf, first)
+    made = compare(pair, 0, with_pairs=False)
+    classes = classes_of_difference(percent, breaks)
+    classes[half_of(made.counts[:, 2], made.reached_after)] = len(marks) - 2
+    classes[half_of(made.counts[:, 0], made.reached_before)] = 0
+    counts = told_counts(classes, breaks, ("are cut off", "lose", "gain", "are newly joined"))
+    told = f"Of {len(classes):,} stops {counts} (by {breaks[0]:g} % or more)"
+    order = np.argsort(percent, kind="stable")[:MOST_WORST]
+    worst = [pair.origins[row] for row in order[percent[order] <= -breaks[0]].tolist()]
+    if worst:
+        most, lost = -percent[order[0]], int(first[order[0]] - second[order[0]])
+        told += f"; the most: {most:.0f} % ({lost:,} {wish.unit}) at {stops.name_of(worst[0])}"
+    title = f"Access from each stop: {wish.unit}{within_told(limit)}, {beside(pair)}"
+    key, source = f"Change of access:\n{wish.unit}{within_told(limit)}", source_told(beside(pair), pair.share)
+    drawn = of_origins(matrix, pair.origins, classes, len(marks) - 1)
+    return Picture(title, told, key, marks, drawn, source, None, first_names(matrix, worst, stops))
+
+
+def half_of(gone: npt.NDArray[np.int64], reached: npt.NDArray[np.int64]) -> npt.NDArray[np.bool_]:
+    """Whether half of the stops that were reached, or more, aren't reached any more."""
+    made: npt.NDArray[np.bool_] = (2 * gone >= reached) & (reached > 0)
+    return made
+
+
+def first_names(matrix: Matrix, ordered: Sequence[str], stops: Stops) -> tuple[int, ...]:
+    """The places of the first of these stops with each name."""
+    named: dict[str, int] = {}
+    for stop in ordered:
+        if stop in matrix.places:
+            named.setdefault(stops.names[stops.places[stop]], matrix.places[stop])
+    return tuple(named.values())

@@ -1,0 +1,198 @@
+"""Footpaths from the coordinates of stops: straight lines over ground, made longer by a detour factor.
+
+Two stops have a footpath, in each direction, where the way between them takes at most the limit: the distance times the
+detour factor at the walking speed, rounded up to whole seconds. Stops are those at which vehicles call: `location_type`
+0 or empty. Where their station lists entrances (`location_type` 2), one reaches or leaves it only by an entrance;
+within one station one walks directly (GTFS reference, stops.txt).
+"""
+
+import itertools
+from dataclasses import dataclass
+from typing import Iterator
+
+import numpy as np
+import numpy.typing as npt
+
+from .faults import BadInput
+from .feed import EARTH, Floats, Stops
+from .records import Rounded, rows, shown
+
+Places = npt.NDArray[np.int64]
+HALF = [step for step in itertools.product((-1, 0, 1), repeat=3) if step >= (0, 0, 0)]
+PAIRS_AT_ONCE = 4_000_000
+
+
+@dataclass(frozen=True)
+class Pace:
+    """How far and how fast one walks."""
+
+    limit: float = 600.0  # seconds
+    speed: float = 1.33  # metres a second
+    detour: float = 1.3  # metres of way for a metre of straight line
+
+    @property
+    def metres(self) -> float:
+        """The longest straight line; a thousandth of a millimetre more, since seconds decide."""
+        return self.limit * self.speed / self.detour + 1e-6
+
+    def seconds(self, metres: Floats) -> npt.NDArray[np.int64]:
+        """The time of straight lines, in whole seconds, rounded up."""
+        made: npt.NDArray[np.int64] = np.ceil(np.round(metres * self.detour / self.speed, 6)).astype(np.int64)
+        return made
+
+
+@dataclass(frozen=True)
+class Walks:
+    """Footpaths between stops, in the order of the feed's stops, and how many stops have no place."""
+
+    stops: list[str]
+    origins: Places  # places among the stops
+    destinations: Places
+    seconds: npt.NDArray[np.int64]
+    lost: int
+
+    def rows(self) -> list[tuple[str, str, int]]:
+        ends = zip(self.origins.tolist(), self.destinations.tolist(), self.seconds.tolist())
+        return [(self.stops[a], self.stops[b], seconds) for a, b, seconds in ends]
+
+
+@dataclass(frozen=True)
+class Doors:
+    """Points at which stops are reached from outside of their stations, `inside` metres of way from the stop itself."""
+
+    stop: Places
+    point: Floats  # metres from the middle of the globe, three a point
+    inside: Floats
+
+
+def points_of(latitudes: Floats, longitudes: Floats) -> Floats:
+    """Places on the globe, in metres from its middle."""
+    north, east = np.radians(latitudes), np.radians(longitudes)
+    across = np.cos(north)
+    made: Floats = EARTH * np.stack([across * np.cos(east), across * np.sin(east), np.sin(north)], axis=-1)
+    return made
+
+
+def distances(a: Floats, b: Floats) -> Floats:
+    """Metres over ground between points of the globe."""
+    chord = np.sqrt(((a - b) ** 2).sum(axis=-1))
+    made: Floats = 2 * EARTH * np.arcsin(np.minimum(1.0, chord / (2 * EARTH)))
+    return made
+
+
+def near_pairs(points: Floats, metres: float) -> Iterator[tuple[Places, Places]]:
+    """Pairs of points that may be at most so many metres apart, each once, some at a time, by a grid of cubes of that
+    side.
+    """
+    cubes = np.floor(points / max(metres, 1.0)).astype(np.int64)
+    cubes -= cubes.min(axis=0, initial=0) - 1
+    keys = (cubes[:, 0] * (1 << 21) + cubes[:, 1]) * (1 << 21) + cubes[:, 2]
+    order = np.argsort(keys, kind="stable")
+    sorted_keys = keys[order]
+    for x, y, z in HALF:
+        others = sorted_keys + ((x * (1 << 21)) + y) * (1 << 21) + z
+        begin, end = np.searchsorted(sorted_keys, others, "left"), np.searchsorted(sorted_keys, others, "right")
+        if (x, y, z) == (0, 0, 0):
+            begin = np.arange(1, len(order) + 1)
+        for a, b in ranges(begin, np.maximum(begin, end)):
+            yield order[a], order[b]
+
+
+def ranges(begin: Places, end: Places) -> Iterator[tuple[Places, Places]]:
+    """Each number with all of its range, as two columns, some millions of rows at a time."""
+    counts = end - begin
+    cuts = np.searchsorted(np.cumsum(counts), np.arange(0, int(counts.sum()), PAIRS_AT_ONCE)[1:])
+    for some in np.split(np.arange(len(counts)), cuts):
+        number = np.repeat(some, counts[some])
+        within = np.arange(len(number)) - np.repeat(np.cumsum(counts[some]) - counts[some], counts[some])
+        yield number, begin[number] + within
+
+
+def doors_of(points: Floats, stations: list[str], entrances: dict[str, Floats]) -> Doors:
+    """Where each stop is reached from outside: at the entrances of its station, or where it stands."""
+    stop, where, inside = [np.zeros(0, np.int64)], [np.zeros((0, 3))], [np.zeros(0)]
+    for number, station in enumerate(stations):
+        here = points[number : number + 1]
+        there = entrances.get(station, here)
+        stop.append(np.full(len(there), number))
+        where.append(there)
+        inside.append(distances(here, there))
+    return Doors(np.concatenate(stop), np.concatenate(where), np.concatenate(inside))
+
+
+def ways(
+    points: Floats, stations: list[str], entrances: dict[str, Floats], metres: float
+) -> tuple[Places, Places, Floats]:
+    """The shortest way between two stops, the lower first, in metres before any detour, where it is at most so long."""
+    doors = doors_of(points, stations, entrances)
+    numbers = {station: number for number, station in enumerate(dict.fromkeys(stations))}
+    station = np.array([numbers[name] for name in stations], dtype=np.int64)
+    entered = np.array([name in entrances for name in stations], dtype=np.bool_)
+    found = []
+    for one, other in near_pairs(doors.point, metres):
+        a, b = doors.stop[one], doors.stop[other]
+        outside = (a != b) & ~(entered[a] & (station[a] == station[b]))
+        a, b, one, other = a[outside], b[outside], one[outside], other[outside]
+        length = doors.inside[one] + distances(doors.point[one], doors.point[other]) + doors.inside[other]
+        near = length <= metres
+        found.append((a[near], b[near], length[near]))
+    inside = np.flatnonzero(entered)
+    for one, other in near_pairs(points[inside], metres):
+        a, b = inside[one], inside[other]
+        within = station[a] == station[b]
+        a, b = a[within], b[within]
+        length = distances(points[a], points[b])
+        near = length <= metres
+        found.append((a[near], b[near], length[near]))
+    return shortest(found)
+
+
+def shortest(found: list[tuple[Places, Places, Floats]]) -> tuple[Places, Places, Floats]:
+    """Of several ways between two stops the shortest, the lower stop first."""
+    a, b, length = (np.concatenate([columns[place] for columns in found]) for place in range(3))
+    low, high = np.minimum(a, b), np.maximum(a, b)
+    order = np.lexsort((length, high, low))
+    low, high, length = low[order], high[order], length[order]
+    first = np.ones(len(low), dtype=np.bool_)
+    first[1:] = (low[1:] != low[:-1]) | (high[1:] != high[:-1])
+    return low[first], high[first], length[first]
+
+
+def entrances_of(stops: Stops) -> dict[str, Floats]:
+    """The points of each station's entrances."""
+    found: dict[str, list[int]] = {}
+    for place in np.flatnonzero((stops.kinds == 2) & stops.placed):
+        found.setdefault(stops.stations[place], []).append(int(place))
+    found.pop("", None)
+    return {station: points_of(stops.latitudes[places], stops.longitudes[places]) for station, places in found.items()}
+
+
+def straight_walks(stops: Stops, pace: Pace) -> Walks:
+    """The footpaths between all stops of a feed at which vehicles call."""
+    called = stops.kinds == 0
+    chosen = np.flatnonzero(called & stops.placed)
+    points = points_of(stops.latitudes[chosen], stops.longitudes[chosen])
+    low, high, length = ways(points, [stops.stations[place] for place in chosen], entrances_of(stops), pace.metres)
+    seconds = pace.seconds(length)
+    near = seconds <= pace.limit
+    a, b, seconds = (
+        np.concatenate([low[near], high[near]]),
+        np.concatenate([high[near], low[near]]),
+        np.tile(seconds[near], 2),
+    )
+    order = np.lexsort((b, a))
+    lost = int((called & ~stops.placed).sum())
+    return Walks(stops.identifiers, chosen[a[order]], chosen[b[order]], seconds[order], lost)
+
+
+def read_walks(path: str, stops: Stops, rounded: Rounded) -> list[tuple[str, str, int]]:
+    """The footpaths between stops of a feed of a table with from_stop_id, to_stop_id and seconds, as an engine of
+    streets writes it.
+    """
+    found = []
+    for number, (a, b, seconds) in rows(path, ["from_stop_id", "to_stop_id", "seconds"]):
+        for column, stop in (("from_stop_id", a), ("to_stop_id", b)):
+            if stop not in stops.places:
+                raise BadInput(path, f"is no stop of {stops.path}", record=number, column=column, value=shown(stop))
+        found.append((a, b, rounded.whole(seconds, path, number, "seconds", up=True)))
+    return found

@@ -1,0 +1,131 @@
+"""Rooms in which commands run, a little town, and its matrices."""
+
+import csv
+import io
+import itertools
+import math
+import subprocess
+import sys
+from pathlib import Path
+from typing import Any, Mapping, Sequence
+
+import pytest
+
+from ttm_tools import cli
+from ttm_tools.feed import EARTH
+
+Cell = int | str
+Table = list[list[Any]]
+Rows = Mapping[str, Sequence[Cell]]
+METRE = 180 / (math.pi * EARTH)  # of latitude, in degrees
+LAUNCHER = str(Path(__file__).resolve().parent.parent / "ttm-tools")
+CALENDAR = (
+    "service_id,monday,tuesday,wednesday,thursday,friday,saturday,sunday,start_date,end_date",
+    [["M", *[1] * 7, 20260504, 20260531]],
+)
+STOP_TIMES = "trip_id,arrival_time,departure_time,stop_id,stop_sequence"
+
+# Two scenarios of a little town: travel times in seconds from each origin to A, B, C and D, "" where there are none.
+TOWN: dict[str, dict[str, list[Cell]]] = {
+    "base": {"A": [0, 300, 900, 2400], "D": [1500, "", 600, 0]},
+    "cut": {"A": [0, 360, 1900, ""], "D": [1400, 1700, 600, 0]},
+}
+
+
+def town_matrix(
+    second_form: bool,
+    scenarios: Mapping[str, Rows] = TOWN,
+    shares: Sequence[int] = (50,),
+    limits: Sequence[int] = (1800,),
+    stops: Sequence[str] = ("A", "B", "C", "D"),
+) -> str:
+    """The town's matrix as text, in the form without shares or in that with them; travel times grow with the share."""
+    out = io.StringIO()
+    writer = csv.writer(out, lineterminator="\n")
+    heads = ["share", *[f"access_{limit}" for limit in limits]] if second_form else ["access"]
+    writer.writerow(["scenario", "origin", *heads, *stops])
+    for scenario, rows in scenarios.items():
+        for (origin, times), share in itertools.product(rows.items(), shares):
+            cells = [time if isinstance(time, str) else time * share // 50 for time in times]
+            access = [sum(isinstance(cell, int) and cell <= limit for cell in cells) for limit in limits]
+            writer.writerow([scenario, origin, *[share] * second_form, *access, *cells])
+    return out.getvalue()
+
+
+def read(text: str) -> list[dict[str, str]]:
+    return list(csv.DictReader(io.StringIO(text)))
+
+
+class Room:
+    """A folder in which files are written and commands run."""
+
+    def __init__(self, folder: Path, captured: pytest.CaptureFixture[bytes]) -> None:
+        self.folder, self.captured = folder, captured
+
+    def path(self, name: str) -> str:
+        return str(self.folder / name)
+
+    def write(self, name: str, header: str, rows: Sequence[Sequence[Any]]) -> str:
+        with open(self.folder / name, "w", newline="", encoding="utf-8") as file:
+            csv.writer(file, lineterminator="\n").writerows([header.split(","), *rows])
+        return self.path(name)
+
+    def names(self) -> set[str]:
+        """All files and folders of the room, hidden ones too."""
+        return {str(path.relative_to(self.folder)) for path in self.folder.rglob("*")}
+
+    def stops(self, *rows: Sequence[Any]) -> None:
+        """Writes stops: name, metres north and east of a place near the equator, and then location_type and
+        parent_station. The place isn't 0 and 0, which is no place.
+        """
+        full = []
+        for name, north, east, *more in rows:
+            place = ["", ""] if north is None else [north * METRE, 1 + east * METRE]
+            full.append([name, *place, *more, *[""] * (2 - len(more))])
+        self.write("stops.txt", "stop_id,stop_lat,stop_lon,location_type,parent_station", full)
+
+    def ran(self, *words: str) -> tuple[str, str, int]:
+        """Runs a command as from a shell: its standard output, its standard error, its status."""
+        self.captured.readouterr()
+        try:
+            status = cli.main(list(words))
+        except SystemExit as ended:
+            status = int(ended.code or 0)
+        out, told = self.captured.readouterr()
+        return out.decode("utf-8", "surrogateescape"), told.decode(), status
+
+    def refused(self, told: str, *words: str) -> None:
+        """The command ends with one line and the status 1, and leaves no new file."""
+        before = self.names()
+        assert self.ran(*words) == ("", f"ttm-tools {words[0]}: {told}\n", 1)
+        assert self.names() == before
+
+
+class Town(Room):
+    """A room with the town's feed, and its matrix once `matrix` has written it."""
+
+    def __init__(self, folder: Path, captured: pytest.CaptureFixture[bytes]) -> None:
+        super().__init__(folder, captured)
+        self.feed = str(folder)
+        self.file = self.path("matrix.csv")
+        places = [["A", "Alpha", 0.0, 9.0], ["B", 'Béta, "the" square', 0.0, 9.01], ["C", "", 0.01, 9.01]]
+        self.write("stops.txt", "stop_id,stop_name,stop_lat,stop_lon", [*places, ["D", "Delta", 0.02, 9.0]])
+        trips = [["R", "M", "T", "s"], ["Q", "M", "U", "t"]]
+        self.write("trips.txt", "route_id,service_id,trip_id,shape_id", trips)
+        times = [["T", "08:00:00", "08:00:00", stop, number] for number, stop in enumerate("ABC")]
+        times += [["U", "", "", stop, number] for number, stop in enumerate("CBAD")]
+        self.write("stop_times.txt", STOP_TIMES, times)
+
+    def matrix(self, text: str) -> str:
+        Path(self.file).write_text(text)
+        return self.file
+
+    def take(self, program: str, words: str) -> None:
+        """Writes what the program prints for these words."""
+        made = subprocess.run([program, *words.split()], capture_output=True, check=True).stdout
+        Path(self.file).write_bytes(made)
+
+
+def launched(*words: str) -> "subprocess.CompletedProcess[bytes]":
+    """Runs a command from the clone, in a process of its own."""
+    return subprocess.run([sys.executable, LAUNCHER, *words], capture_output=True)

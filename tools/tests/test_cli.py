@@ -1,0 +1,116 @@
+"""The command line: help, wrong words, and faults in one line."""
+
+import argparse
+import subprocess
+import sys
+
+import pytest
+
+from helpers import LAUNCHER, Room, Town, launched, town_matrix
+from ttm_tools import cli, faults
+
+NO_PACKAGES = """
+import sys
+sys.path.insert(0, sys.argv[1])
+class Refuse:
+    def find_spec(self, name, *_):
+        if name.split(".")[0] in ("numpy", "pandas", "matplotlib", "h5py", "geopandas", "scipy", "tqdm"):
+            raise ImportError(name)
+sys.meta_path.insert(0, Refuse())
+from ttm_tools.cli import main
+sys.exit(main(sys.argv[2:]))
+"""
+
+
+def commands() -> dict[str, argparse.ArgumentParser]:
+    actions = cli.parser_of()._actions
+    return next(dict(action.choices) for action in actions if isinstance(action, argparse._SubParsersAction))
+
+
+@pytest.mark.parametrize("name", cli.COMMANDS)
+def test_each_command_says_what_it_takes(name: str) -> None:
+    source = LAUNCHER.replace("ttm-tools", "src")
+    words = [sys.executable, "-c", NO_PACKAGES, source, name, "--help"]
+    ran = subprocess.run(words, capture_output=True, text=True)
+    assert (ran.returncode, ran.stderr) == (0, "")
+    assert ran.stdout.startswith(f"usage: ttm-tools {name} ")
+
+
+@pytest.mark.parametrize("name", cli.COMMANDS)
+def test_each_option_says_its_range_and_what_holds_without_it(name: str) -> None:
+    for action in commands()[name]._actions:
+        told = action.help or ""
+        assert told
+        if action.option_strings and action.dest != "help":
+            assert any(word in told for word in ("(default ", "(without it, ", "needed)")), action.option_strings
+        if action.type is not None and action.dest != "breaks":
+            assert " to " in told, action.option_strings
+
+
+def test_the_launcher_runs_from_anywhere(room: Room) -> None:
+    ran = subprocess.run([LAUNCHER, "--help"], capture_output=True, text=True, cwd=room.folder)
+    assert (ran.returncode, ran.stderr) == (0, "")
+    assert all(name in ran.stdout for name in cli.COMMANDS)
+
+
+def test_a_package_that_is_not_there_is_told_in_a_line() -> None:
+    with pytest.raises(faults.Lacking) as told:
+        faults.needs("csv", "nosuchpackage")
+    way = "apt-get install python3-nosuchpackage and take /usr/bin/python3, or pip install nosuchpackage"
+    assert str(told.value) == f"this Python, {sys.executable}, has no nosuchpackage: {way}"
+
+
+def test_wrong_words_have_the_status_2(town: Town) -> None:
+    town.matrix(town_matrix(True))
+    wrong: list[list[str]] = [
+        [],
+        ["nothing"],
+        ["compare", "--limit", "x", town.file],
+        ["compare", "--limit", "-1", town.file],
+        ["compare", "--share", "0", town.file],
+        ["map", "times", "--feed", town.feed, town.file],
+        ["map", "access", "--feed", town.feed, "--width", "200", town.file],
+        ["map", "access", "--feed", town.feed, "--breaks", "2,1", town.file],
+        ["long", "--within", "60", town.file],
+        ["long", "--access", "--names", "r5py", town.file],
+        ["gis", "--feed", town.feed, "--out", town.path("a.shp"), town.file],
+        ["split", "--feed", town.feed, "--origins", "x"],
+    ]
+    for words in wrong:
+        out, told, status = town.ran(*words)
+        assert (out, status) == ("", 2), words
+        assert told.splitlines()[-1].startswith("ttm-tools"), words
+
+
+def test_a_range_is_told_with_its_unit() -> None:
+    ran = launched("compare", "--share", "101", "m.csv")
+    assert ran.returncode == 2
+    assert ran.stderr.splitlines()[-1].endswith(b"argument --share: '101' is not 1 to 100 percent")
+
+
+def test_an_output_that_cannot_be_written_is_told(town: Town) -> None:
+    town.matrix(town_matrix(True))
+    out, told, status = town.ran("compare", "--out", town.path("no/such.csv"), town.file)
+    assert (out, status) == ("", 1)
+    assert told.startswith("ttm-tools compare: ") and told.endswith(": No such file or directory\n")
+
+
+def test_a_full_disk_is_told_and_leaves_nothing(town: Town) -> None:
+    town.matrix(town_matrix(True))
+    with open("/dev/full", "wb") as full:
+        ran = subprocess.run([sys.executable, LAUNCHER, "long", town.file], stdout=full, stderr=subprocess.PIPE)
+    assert (ran.returncode, ran.stderr) == (1, b"ttm-tools long: output: No space left on device\n")
+
+
+def test_a_reader_that_has_gone_ends_it_in_silence(town: Town) -> None:
+    town.matrix(town_matrix(True, stops=[f"s{number}" for number in range(4)]))
+    words = f"{sys.executable} {LAUNCHER} long {town.file} | true"
+    ran = subprocess.run(["sh", "-c", words], capture_output=True)
+    assert ran.stderr == b""
+
+
+def test_want_of_memory_has_the_status_3(town: Town, monkeypatch: pytest.MonkeyPatch) -> None:
+    def run(_: argparse.Namespace) -> int:
+        raise MemoryError
+
+    assert cli.told(argparse.Namespace(command="map", run=run)) == 3

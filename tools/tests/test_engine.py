@@ -1,0 +1,90 @@
+"""Runs of `ttm` from Python, and the page that shows them."""
+
+import contextlib
+import os
+import re
+import stat
+from pathlib import Path
+from typing import Iterator
+
+import pytest
+
+import ttm_tools
+from helpers import Room
+from ttm_tools.engine import EngineFault, Run, program_at, run
+from ttm_tools.faults import Lacking, WrongWords
+
+PAGE = Path(__file__).resolve().parents[2] / "docs" / "PYTHON.md"
+
+
+@contextlib.contextmanager
+def standing_in(folder: Path) -> Iterator[None]:
+    before = os.getcwd()
+    os.chdir(folder)
+    try:
+        yield
+    finally:
+        os.chdir(before)
+
+
+def test_each_block_of_the_page_runs(room: Room, program: str, monkeypatch: pytest.MonkeyPatch) -> None:
+    if not PAGE.is_file():
+        pytest.skip("without docs/PYTHON.md")
+    monkeypatch.setenv("TTM_PROGRAM", program)
+    blocks = re.findall(r"^```python\n(.*?)^```$", PAGE.read_text(), re.MULTILINE | re.DOTALL)
+    assert len(blocks) == 8
+    names: dict[str, object] = {}
+    with standing_in(room.folder):
+        for block in blocks:
+            exec(compile(block, str(PAGE), "exec"), names)
+
+
+def test_the_words_of_a_run() -> None:
+    words = Run("feed", "20260504", ("08:00", "08:59"), shares=(25, 50), limits=(900,), scenarios=["cut.csv"]).words()
+    expected = "--feed feed --date 20260504 --from 08:00 --to 08:59 --trips 4 --walk 600 --workers 1 --tries 1"
+    assert " ".join(words) == expected + " --share 25,50 --within 900 --back 1 --ahead 1 cut.csv"
+
+
+@pytest.mark.parametrize(
+    "line, file, record",
+    [
+        ("ttm: stop_times.txt: record 5: bad number", "stop_times.txt", 5),
+        ("ttm: stops.txt: missing file", "stops.txt", None),
+        ("ttm: scenario cut: record 2: unknown action", "scenario cut", 2),
+        ("ttm: out of memory", "ttm", None),
+        ("ttm: bad window", "ttm", None),
+        ("killed", "ttm", None),
+    ],
+)
+def test_a_fault_line_names_file_and_record(line: str, file: str, record: int | None) -> None:
+    fault = EngineFault(line, 2)
+    assert (fault.file, fault.record, fault.line) == (file, record, line)
+
+
+def test_a_run_that_fails_leaves_no_matrix(room: Room) -> None:
+    program = room.folder / "ttm"
+    program.write_text("#!/bin/sh\necho half\necho 'ttm: stops.txt: missing file' >&2\nexit 2\n")
+    program.chmod(program.stat().st_mode | stat.S_IXUSR)
+    with pytest.raises(EngineFault) as told:
+        run(Run("feed", "20260504", ("08:00", "08:00")), room.path("matrix.csv"), program)
+    assert (str(told.value), told.value.ended) == ("stops.txt: missing file", 2)
+    assert room.names() == {"ttm"}
+
+
+def test_a_program_that_is_not_there_is_told(room: Room) -> None:
+    with pytest.raises(Lacking) as told:
+        program_at(room.path("nothing"))
+    assert str(told.value).startswith(f"no program ttm {room.path('nothing')}: ")
+
+
+def test_a_share_that_is_not_there_is_told(program: str, room: Room) -> None:
+    room.write("stops.txt", "stop_id", [["A"]])
+    room.write("routes.txt", "route_id", [["R"]])
+    room.write("trips.txt", "route_id,service_id,trip_id", [])
+    room.write("stop_times.txt", "trip_id,arrival_time,departure_time,stop_id,stop_sequence", [])
+    room.write("calendar_dates.txt", "service_id,date,exception_type", [])
+    made = ttm_tools.matrix(room.folder, "20260504", ("08:00", "08:00"), shares=(25, 50), program=program)
+    with pytest.raises(WrongWords, match="it has base with 25, 50"):
+        made.times("cut", 50)
+    with pytest.raises(WrongWords, match="name one"):
+        made.array("base")

@@ -1,0 +1,86 @@
+"""Files get their names when they are whole, and nothing stays behind where they don't."""
+
+import os
+import signal
+import subprocess
+import sys
+import time
+from pathlib import Path
+
+import pytest
+
+from helpers import LAUNCHER, Room
+from ttm_tools.files import aside_name, many_written_aside, output, sum_of, written_aside
+
+
+def test_a_file_gets_its_name_when_it_is_whole(room: Room) -> None:
+    with written_aside(room.path("a.csv")) as made:
+        made.write_text("whole")
+        assert room.names() == {made.name}
+    assert (room.names(), (room.folder / "a.csv").read_text()) == ({"a.csv"}, "whole")
+    assert sum_of(room.path("a.csv")).startswith("5d57")
+
+
+def test_a_fault_keeps_what_was_there_before(room: Room) -> None:
+    (room.folder / "a.csv").write_text("before")
+    with pytest.raises(RuntimeError), output(room.path("a.csv")) as file:
+        file.write(b"half")
+        raise RuntimeError
+    assert (room.names(), (room.folder / "a.csv").read_text()) == ({"a.csv"}, "before")
+
+
+def test_a_folder_gets_all_of_its_files_or_none(room: Room) -> None:
+    with many_written_aside(room.path("new/parts")) as made:
+        (made / "1").write_text("one")
+    assert room.names() == {"new", "new/parts", "new/parts/1"}
+    with pytest.raises(RuntimeError), many_written_aside(room.path("other/parts")) as made:
+        (made / "1").write_text("one")
+        raise RuntimeError
+    assert room.names() == {"new", "new/parts", "new/parts/1"}
+
+
+def test_what_a_killed_run_left_is_removed_by_the_next(room: Room) -> None:
+    ended = subprocess.Popen([sys.executable, "-c", ""])
+    ended.wait()
+    left = aside_name(room.folder / "a.csv")
+    left.with_name(left.name.replace(str(os.getpid()), str(ended.pid))).write_text("half")
+    with written_aside(room.path("a.csv")) as made:
+        made.write_text("whole")
+    assert room.names() == {"a.csv"}
+
+
+SLOW = """
+import sys, time
+sys.path.insert(0, sys.argv[1])
+from ttm_tools import files
+files.unwind_on_signals()
+with files.written_aside(sys.argv[2]) as made:
+    made.write_text("half")
+    print("begun", flush=True)
+    time.sleep(30)
+"""
+
+
+@pytest.mark.parametrize("name", ["SIGTERM", "SIGINT", "SIGHUP", "SIGQUIT", "SIGUSR1", "SIGXCPU", "SIGALRM"])
+def test_a_signal_leaves_nothing_behind(room: Room, name: str) -> None:
+    source = str(Path(LAUNCHER).parent / "src")
+    words = [sys.executable, "-c", SLOW, source, room.path("a.csv")]
+    with subprocess.Popen(words, stdout=subprocess.PIPE, stderr=subprocess.DEVNULL) as run:
+        assert run.stdout is not None and run.stdout.readline() == b"begun\n"
+        run.send_signal(getattr(signal, name))
+        assert run.wait(10) != 0
+    assert room.names() == set()
+
+
+def test_a_command_that_is_ended_says_so_and_leaves_nothing(room: Room) -> None:
+    os.mkfifo(room.path("stops.txt"))
+    words = [sys.executable, LAUNCHER, "walks", str(room.folder)]
+    with subprocess.Popen(words, stderr=subprocess.PIPE) as run:
+        with open(room.path("stops.txt"), "w") as pipe:
+            pipe.write("stop_id\nA\n")
+            pipe.flush()
+            time.sleep(0.2)
+            run.send_signal(signal.SIGTERM)
+            assert run.stderr is not None
+            assert (run.wait(10), run.stderr.read()) == (143, b"ttm-tools walks: ended by SIGTERM\n")
+    assert room.names() == {"stops.txt"}

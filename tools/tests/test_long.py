@@ -1,0 +1,154 @@
+"""The long form: lines for pairs, for access, and as r5py names them."""
+
+import importlib.util
+import itertools
+import random
+from pathlib import Path
+
+import pytest
+
+from helpers import TOWN, Cell, Town, read, town_matrix
+from ttm_tools.feed import read_stops
+from ttm_tools.matrices import open_matrix
+from ttm_tools.views import long
+
+
+def lines(town: Town, *words: str) -> str:
+    out, told, status = town.ran("long", *words, town.file)
+    assert (told, status) == ("", 0)
+    return out
+
+
+@pytest.mark.parametrize("second_form", [False, True])
+def test_each_pair_has_a_line(town: Town, second_form: bool) -> None:
+    town.matrix(town_matrix(second_form))
+    rows = read(lines(town))
+    expected = [
+        (scenario, origin, stop, str(time))
+        for scenario, origins in TOWN.items()
+        for origin, times in origins.items()
+        for stop, time in zip("ABCD", times)
+    ]
+    assert [(row["scenario"], row["origin"], row["destination"], row["seconds"]) for row in rows] == expected
+    assert list(rows[0]) == ["scenario", *["share"] * second_form, "origin", "destination", "seconds"]
+
+
+def test_rows_turned_a_few_at_a_time_are_the_same(town: Town, monkeypatch: pytest.MonkeyPatch) -> None:
+    town.matrix(town_matrix(True, shares=(10, 20, 50)))
+    whole = lines(town, "--feed", town.feed)
+    monkeypatch.setattr(long, "CELLS_AT_ONCE", 8)
+    assert lines(town, "--feed", town.feed) == whole
+
+
+def test_names_and_coordinates_of_both_ends(town: Town) -> None:
+    town.matrix(town_matrix(False))
+    rows = read(lines(town, "--feed", town.feed))
+    assert [rows[1][f"destination_{it}"] for it in ("name", "lat", "lon")] == ['Béta, "the" square', "0.0", "9.01"]
+    assert [rows[2]["destination_name"], rows[6]["origin_name"], rows[6]["origin_lat"]] == ["C", "Delta", "0.02"]
+
+
+def test_only_what_is_asked_for(town: Town) -> None:
+    town.matrix(town_matrix(True, shares=(25, 50)))
+    some, ends = town.write("some.csv", "stop_id", [["D"]]), town.write("ends.csv", "stop_id", [["D"], ["B"]])
+    asked = lines(town, "--origins", some, "--destinations", ends, "--share", "25", "--scenario", "cut")
+    assert asked == "scenario,share,origin,destination,seconds\ncut,25,D,D,0\ncut,25,D,B,850\n"
+    town.matrix(town_matrix(False))
+    assert lines(town, "--reached", "--scenario", "base").count("\n") == 8
+
+
+def test_access_has_a_line_for_each_limit(town: Town) -> None:
+    town.matrix(town_matrix(True, limits=(900, 1800)))
+    head = "scenario,share,origin,within,access\n"
+    expected = head + "base,50,A,900,3\nbase,50,A,1800,3\nbase,50,D,900,2\nbase,50,D,1800,3\n"
+    assert lines(town, "--access", "--scenario", "base") == expected
+    one = lines(town, "--access", "--scenario", "base", "--share", "50", "--within", "900")
+    assert one == head + "base,50,A,900,3\nbase,50,D,900,2\n"
+    told = f"{town.file}: no access within 60 seconds, but within 900, 1800"
+    out, said, status = town.ran("long", "--access", "--within", "60", "--out", town.path("a.csv"), town.file)
+    assert (out, said, status) == ("", f"ttm-tools long: {told}\n", 1)
+    assert "a.csv" not in town.names()
+    named = lines(town, "--access", "--scenario", "cut", "--feed", town.feed).splitlines()
+    assert named[1] == "cut,50,A,900,2,Alpha,0.0,9.0"
+    town.matrix(town_matrix(False))
+    assert lines(town, "--access").splitlines()[:2] == ["scenario,origin,access", "base,A,3"]
+
+
+def test_r5py_names_have_minutes_and_a_column_for_each_share(town: Town) -> None:
+    town.matrix(town_matrix(True, shares=(25, 50)))
+    rows = lines(town, "--names", "r5py", "--scenario", "cut").splitlines()
+    assert rows[0] == "from_id,to_id,travel_time_p25,travel_time_p50"
+    assert rows[1:5] == ["A,A,0.0,0.0", "A,B,3.0,6.0", "A,C,15.83,31.67", "A,D,,"]
+    assert "A,D,," not in lines(town, "--names", "r5py", "--scenario", "cut", "--reached").splitlines()
+    told = "r5py's columns name no scenario, and it has base, cut: name one by --scenario"
+    town.refused(f"{town.file}: {told}", "long", "--names", "r5py", town.file)
+    town.matrix(town_matrix(False, {"base": TOWN["base"]}))
+    assert lines(town, "--names", "r5py").splitlines()[:3] == ["from_id,to_id,travel_time", "A,A,0.0", "A,B,5.0"]
+
+
+def test_a_parquet_file_needs_a_package_and_is_told_in_a_line(town: Town) -> None:
+    town.matrix(town_matrix(True))
+    out = town.path("long.parquet")
+    if any(importlib.util.find_spec(name) for name in ("pyarrow", "fastparquet")):
+        import pandas
+
+        assert town.ran("long", "--feed", town.feed, "--out", out, town.file) == ("", "", 0)
+        assert pandas.read_parquet(out).to_csv(index=False) == lines(town, "--feed", town.feed)
+        return
+    told = "Parquet needs pyarrow or fastparquet, and neither is installed; a name that ends in .csv writes a CSV"
+    town.refused(f"{out}: {told}", "long", "--out", out, town.file)
+
+
+@pytest.mark.parametrize("reached", [False, True])
+def test_the_tables_of_a_parquet_file_have_the_lines_of_the_csv(town: Town, reached: bool) -> None:
+    pandas = pytest.importorskip("pandas")
+    matrix = open_matrix(town.matrix(town_matrix(True)))
+    choice = long.Choice(["base", "cut"], [50], None, matrix.stops, reached)
+    frames = list(long.frames_of(matrix, choice, read_stops(town.feed)))
+    made = pandas.concat(frames, ignore_index=True).to_csv(index=False)
+    assert made == lines(town, "--feed", town.feed, *["--reached"] * reached)
+
+
+def test_faults_name_the_file_and_the_record(town: Town) -> None:
+    some = town.write("some.csv", "stop_id", [["D"], ["B"]])
+    town.matrix(town_matrix(True))
+    town.refused(f"{some}: record 3: B is no origin of the matrix", "long", "--origins", some, town.file)
+    trips = town.path("trips.txt")
+    town.refused(f"{trips}: record 1: no column stop_id", "long", "--destinations", trips, town.file)
+    zipped = town.path("feed.zip")
+    town.refused(f"{zipped}: no folder of a feed (unzip it first)", "long", "--feed", zipped, town.file)
+    out = town.path("long.csv")
+    town.matrix(town_matrix(True, stops="AZCD"))
+    told = f"{town.path('stops.txt')}: no stop Z, which the matrix has: is it of another feed?"
+    town.refused(told, "long", "--feed", town.feed, "--out", out, town.file)
+
+
+def test_a_matrix_that_was_cut_between_two_shares_is_told(town: Town) -> None:
+    text = town_matrix(True, shares=(25, 50))
+    town.matrix(text[: text.index("cut,D,50")])
+    told = "scenario cut: 1 of 2 origins of share 25 aren't in share 50: D"
+    town.refused(f"{town.file}: {told}", "long", "--out", town.path("a.csv"), town.file)
+
+
+def test_drawn_matrices_have_the_lines_that_plain_loops_write(town: Town) -> None:
+    draw = random.Random(11)
+    for _ in range(20):
+        stops = [f"s{number}" for number in range(draw.randrange(1, 9))]
+        times: list[Cell] = ["", 0, 1, draw.randrange(1 << 23), draw.randrange(1 << 20)]
+        rows: dict[str, list[Cell]] = {
+            origin: [draw.choice(times) for _ in stops]
+            for origin in draw.sample(stops, draw.randrange(1, len(stops) + 1))
+        }
+        shares = draw.choice([(50,), (25, 100)])
+        town.matrix(town_matrix(True, {"base": rows}, shares=shares, stops=stops))
+        expected = [
+            f"base,{share},{origin},{stop},{time if isinstance(time, str) else time * share // 50}"
+            for (origin, times), share in itertools.product(rows.items(), shares)
+            for stop, time in zip(stops, times)
+        ]
+        assert lines(town).splitlines()[1:] == expected
+
+
+def test_a_file_is_written_whole(town: Town) -> None:
+    town.matrix(town_matrix(True))
+    assert town.ran("long", "--out", town.path("long.csv"), town.file) == ("", "", 0)
+    assert Path(town.path("long.csv")).read_text() == lines(town)

@@ -1,0 +1,242 @@
+"""Maps: what is written on them, their classes and lines, and files for geographic information systems."""
+
+import json
+from pathlib import Path
+from typing import Any
+
+import numpy as np
+import pytest
+
+from helpers import CALENDAR, STOP_TIMES, TOWN, Table, Town, read, town_matrix
+from ttm_tools.feed import Projection, lines_of, pieces, read_stops, read_trips, removed_trips
+
+matplotlib = pytest.importorskip("matplotlib")
+
+from matplotlib.figure import Figure  # noqa: E402
+
+
+def figure(town: Town, monkeypatch: pytest.MonkeyPatch, *words: str) -> tuple[list[str], str, list[str]]:
+    """The figure that the command would save, as the words of its texts and of its key."""
+    figures: list[Any] = []
+    monkeypatch.setattr(Figure, "savefig", lambda figure, *_, **__: figures.append(figure))
+    said = town.ran("map", *words, "--feed", town.feed, "--out", town.path("map.png"), town.file)
+    assert said == ("", "", 0)
+    (made,) = figures
+    (key,) = made.legends
+    texts = [text.get_text() for text in made.texts]
+    return texts, key.get_title().get_text(), [text.get_text() for text in key.get_texts()]
+
+
+@pytest.mark.parametrize("second_form", [False, True])
+def test_travel_times_in_classes_of_minutes(town: Town, monkeypatch: pytest.MonkeyPatch, second_form: bool) -> None:
+    town.matrix(town_matrix(second_form))
+    texts, key, classes = figure(town, monkeypatch, "times", "--origin", "A")
+    told = "3 of 3 other stops are reached, half of them within 15 minutes"
+    assert texts[:2] == ["Travel time from Alpha (A)", told]
+    assert ("50 of 100 departures" in texts[2].replace("\n", " ")) == second_form
+    assert key == "Travel time in minutes,\nwaiting included"
+    assert classes == ["up to 10  (1)", "10 to 20  (1)", "30 to 45  (1)", "origin", "where vehicles run"]
+    words = ["times", "--origin", "A", "--scenario", "cut", "--breaks", "5,6"]
+    classes = figure(town, monkeypatch, *words)[2]
+    assert classes[:3] == ["5 to 6  (1)", "more than 6  (1)", "not reached  (1)"]
+
+
+def test_access_in_round_numbers(town: Town, monkeypatch: pytest.MonkeyPatch) -> None:
+    town.matrix(town_matrix(True))
+    texts, key, classes = figure(town, monkeypatch, "access", "--unit", "jobs", "--scenario", "cut")
+    assert (texts[0], key) == ("Access from each stop: jobs within 30 minutes", "Jobs reached\nwithin 30 minutes")
+    no_origin = "no origin of the matrix  (2)"
+    assert classes == ["less than 3  (1)", "3 and more  (1)", no_origin, "where vehicles run"]
+    town.matrix(town_matrix(False))
+    assert figure(town, monkeypatch, "access")[0][0] == "Access from each stop: opportunities"
+
+
+def test_the_difference_of_access(town: Town, monkeypatch: pytest.MonkeyPatch) -> None:
+    town.matrix(town_matrix(True))
+    texts, _, classes = figure(town, monkeypatch, "difference")
+    told = "Of 2 stops 1 lose, 1 gain (by 1 % or more); the most: 33 % (1 opportunities) at Alpha (A)"
+    assert texts[1] == told
+    lost, gained = "25 % or more lost  (1)", "25 % or more gained  (1)"
+    assert classes[:3] == [lost, gained, "no origin of the matrix  (2)"]
+
+
+@pytest.mark.parametrize("form", [False, True])
+def test_an_origin_that_loses_half_of_its_stops_is_cut_off(
+    town: Town, monkeypatch: pytest.MonkeyPatch, form: bool
+) -> None:
+    town.matrix(town_matrix(form, {"base": TOWN["base"], "cut": {"A": [0, "", "", 2400], "D": TOWN["base"]["D"]}}))
+    classes = figure(town, monkeypatch, "difference")[2]
+    assert classes[:2] == ["cut off from half of\nthe stops or more  (1)", "less than 1 % either way  (1)"]
+    classes = figure(town, monkeypatch, "difference", "--base", "cut", "--scenario", "base")[2]
+    assert "joined to half of\nits stops or more  (1)" in classes
+
+
+def test_the_difference_of_travel_times(town: Town, monkeypatch: pytest.MonkeyPatch) -> None:
+    town.matrix(town_matrix(False))
+    texts, _, classes = figure(town, monkeypatch, "difference", "--origin", "A")
+    title = "Travel time from Alpha (A): cut beside base"
+    assert texts[:2] == [title, "Of 4 stops 1 are cut off, 2 slower, 0 faster"]
+    gone = "cut off: not reached now  (1)"
+    assert classes[:3] == [gone, "15 min or more slower  (1)", "1 to 5 min slower  (1)"]
+    town.matrix(town_matrix(True))
+    classes = figure(town, monkeypatch, "difference", "--origin", "D")[2]
+    new = "new: not reached before  (1)"
+    assert classes[:3] == ["less than 1 min either way  (1)", "1 to 5 min faster  (1)", new]
+
+
+def test_lines_go_from_stop_to_stop_or_along_shapes(town: Town, monkeypatch: pytest.MonkeyPatch) -> None:
+    stops = read_stops(town.feed)
+    projection = Projection(stops.latitudes, stops.longitudes)
+    straight = lines_of(town.feed, stops, projection)
+    assert (len(pieces(straight)), len(pieces(straight.of_lines({"T"})))) == (3, 2)
+    points = [["s", 3, 0.0, 9.02], ["s", 1, 0.0, 9.0], ["s", 2, 0.0, 9.01], ["t", 1, 0.0, 9.01], ["t", 2, 0.0, 9.0]]
+    town.write("shapes.txt", "shape_id,shape_pt_sequence,shape_pt_lat,shape_pt_lon", points)
+    shaped, trips = lines_of(town.feed, stops, projection), read_trips(town.feed, True)
+    assert (len(pieces(shaped)), len(pieces(shaped.of_lines(trips.lines({"U"}, True))))) == (2, 1)
+    cut = town.write("cut.csv", "action,id,seconds", [["remove_route", "R", ""], ["shift_trip", "U", 60]])
+    assert removed_trips(trips, cut) == {"T"}
+    town.matrix(town_matrix(True))
+    assert "trips that are taken out" in figure(town, monkeypatch, "difference", "--edits", cut)[2]
+
+
+def test_trips_that_a_scenario_adds_are_named_as_such(town: Town, monkeypatch: pytest.MonkeyPatch) -> None:
+    town.matrix(town_matrix(True, {**TOWN, "more": TOWN["base"]}))
+    cut = town.write("cut.csv", "action,id,seconds", [["remove_route", "R", ""]])
+    more = town.write("more.csv", "action,id,seconds", [["remove_route", "Q", ""]])
+    words = ["difference", "--base", "cut", "--scenario", "more", "--edits", cut, "--edits", more]
+    assert figure(town, monkeypatch, *words)[2][-2:] == ["trips that are taken out", "trips that are added"]
+    words = ["difference", "--base", "cut", "--scenario", "base", "--edits", cut]
+    assert figure(town, monkeypatch, *words)[2][-2:] == ["where vehicles run", "trips that are added"]
+    words = ["access", "--scenario", "cut", "--base", "cut", "--edits", cut]
+    assert figure(town, monkeypatch, *words)[2][-1] == "trips that are taken out"
+
+
+def test_kilometres_are_those_on_the_ground_and_the_date_line_is_no_edge() -> None:
+    projection = Projection(np.array([60.0, 60.0]), np.array([179.9, -179.9]))
+    east = projection.east(np.array([-179.9, 179.9]))
+    north = projection.north(np.array([61.0, 60.0]))
+    assert east[0] - east[1] == pytest.approx(0.2 * 111.19 / 2, abs=0.01)
+    assert north[0] - north[1] == pytest.approx(111.19, abs=0.01)
+
+
+def test_a_png_file_as_wide_as_asked(town: Town) -> None:
+    town.matrix(town_matrix(True))
+    out = town.path("map.png")
+    words = ["map", "times", "--origin", "A", "--feed", town.feed, "--width", "640", "--out", out, town.file]
+    assert town.ran(*words) == ("", "", 0)
+    head = Path(out).read_bytes()[:24]
+    assert (head[:8], int.from_bytes(head[16:20], "big")) == (b"\x89PNG\r\n\x1a\n", 640)
+
+
+def test_names_with_dollars_are_text(town: Town) -> None:
+    places = [["A", "$x^$ & $", 0, 9], ["B", "$", 0, 9.1], ["C", "\\alpha$", 1, 9], ["D", "{$}", 1, 9.1]]
+    town.write("stops.txt", "stop_id,stop_name,stop_lat,stop_lon", places)
+    town.matrix(town_matrix(True))
+    for words in (["times", "--origin", "A"], ["difference"], ["difference", "--origin", "A", "--title", "$^$"]):
+        assert town.ran("map", *words, "--feed", town.feed, "--out", town.path("m.png"), town.file) == ("", "", 0)
+
+
+def test_a_stop_without_coordinates_is_counted(town: Town) -> None:
+    places: Table = [["A", 0, 9], ["B", "", ""], ["C", 0, 0], ["D", 1, "x"]]
+    town.write("stops.txt", "stop_id,stop_lat,stop_lon", places)
+    town.matrix(town_matrix(True))
+    out = town.path("map.png")
+    told = town.ran("map", "times", "--origin", "A", "--feed", town.feed, "--out", out, town.file)[1]
+    assert told == "3 stops have no stop_lat and stop_lon and are not drawn\n"
+
+
+def test_faults_name_the_file_and_the_record(town: Town) -> None:
+    def refused(told: str, *more: str) -> None:
+        town.refused(told, "map", "times", "--feed", town.feed, "--out", town.path("m.png"), *more, town.file)
+
+    town.matrix(town_matrix(True))
+    refused(f"{town.feed}/stops.txt: no stop Z", "--origin", "Z")
+    refused(f"{town.file}: B is no origin of the scenario base", "--origin", "B")
+    town.matrix(town_matrix(True, shares=(25, 50)))
+    told = f"{town.file}: it has lines of the shares 25, 50: name one by --share"
+    refused(told, "--origin", "A")
+    town.matrix(town_matrix(False))
+    refused(f"{town.file}: no scenario late; it has base, cut", "--origin", "A", "--scenario", "late")
+    header = "shape_id,shape_pt_sequence,shape_pt_lat,shape_pt_lon"
+    town.write("shapes.txt", header, [["s", 1, 0, 0], ["s", 2, "north", 0]])
+    refused(f"{town.feed}/shapes.txt: record 3: shape_pt_lat 'north' is no number", "--origin", "A")
+    cut = town.write("cut.csv", "action,id,seconds", [["remove_route", "Z", ""]])
+    town.write("shapes.txt", header, [])
+    refused(f"{cut}: record 2: Z isn't in trips.txt", "--origin", "A", "--edits", cut)
+    town.write("stops.txt", "stop_id", [["A"], ["B"], ["C"], ["D"]])
+    told = f"{town.feed}/stops.txt: no stop has stop_lat and stop_lon, so there is nothing to draw"
+    refused(told, "--origin", "A")
+
+
+def test_points_for_a_geographic_information_system(town: Town) -> None:
+    town.matrix(town_matrix(True))
+    out = town.path("town.geojson")
+    told = f"{out}: 4 stops; 0 have no coordinates\n"
+    assert town.ran("gis", "--feed", town.feed, "--origin", "A", "--out", out, town.file) == ("", told, 0)
+    made = json.loads(Path(out).read_text())
+    assert made["features"][1]["geometry"] == {"type": "Point", "coordinates": [9.01, 0.0]}
+    names: dict[str, Any] = {"stop_id": "B", "stop_name": 'Béta, "the" square'}
+    columns = {"base_50_access_1800": None, "base_50_seconds": 300, "cut_50_access_1800": None, "cut_50_seconds": 360}
+    assert made["features"][1]["properties"] == {**names, **columns}
+    assert made["features"][3]["properties"]["cut_50_access_1800"] == 4
+    assert made["features"][3]["properties"]["cut_50_seconds"] is None
+    told = f"{town.file}: B is no origin of the scenario base"
+    town.refused(told, "gis", "--feed", town.feed, "--origin", "B", "--out", town.path("b.json"), town.file)
+
+
+def test_a_geopackage_has_the_same_points(town: Town) -> None:
+    geopandas = pytest.importorskip("geopandas")
+    town.write("stops.txt", "stop_id,stop_lat,stop_lon", [["A", 1, 9], ["B", 2, 8], ["C", 0, 0], ["D", 1, 7]])
+    town.matrix(town_matrix(False))
+    out = town.path("town.gpkg")
+    told = f"{out}: 3 stops; 1 have no coordinates\n"
+    before = town.names()
+    ran = town.ran("gis", "--feed", town.feed, "--scenario", "cut", "--origin", "A", "--out", out, town.file)
+    assert ran == ("", told, 0)
+    assert town.names() == before | {"town.gpkg"}
+    made = geopandas.read_file(out)
+    assert (list(made.stop_id), [point.x for point in made.geometry]) == (["A", "B", "D"], [9, 8, 7])
+    assert made.cut_access.fillna(-1).tolist() == [2, -1, 4]
+    assert made.cut_seconds.fillna(-1).tolist() == [0, 360, -1]
+
+
+def test_each_command_takes_the_matrix_of_the_program(town: Town, program: str) -> None:
+    town.write("routes.txt", "route_id", [["R"], ["Q"]])
+    town.write("calendar.txt", *CALENDAR)
+    times = [["T", *[f"08:{number}0:00"] * 2, stop, number] for number, stop in enumerate("ABC")]
+    times += [["U", *[f"08:{number}5:00"] * 2, stop, number] for number, stop in enumerate("CBAD")]
+    town.write("stop_times.txt", STOP_TIMES, times)
+    cut = town.write("cut.csv", "action,id,seconds", [["remove_route", "Q", ""]])
+    words = f"--feed {town.feed} --date 20260504 --from 08:00 --to 08:00 --trips 2 --walk 0 --workers 1 --tries 1 {cut}"
+    town.take(program, f"{words} --share 50 --within 1800")
+    rows = read(town.ran("compare", town.file)[0])
+    lost = [("A", "D"), ("B", "A"), ("B", "D"), ("C", "A"), ("C", "B"), ("C", "D")]
+    assert [(row["origin"], row["destination"], row["what"]) for row in rows] == [(*ends, "cut off") for ends in lost]
+    assert town.ran("long", "--reached", town.file)[0].count("\n") == 1 + 13 + 7
+    out = ["--feed", town.feed, "--out", town.path("map.png"), town.file]
+    for picture in (["times", "--origin", "A"], ["access"], ["difference"], ["difference", "--origin", "A"]):
+        assert town.ran("map", *picture, *out) == ("", "", 0)
+    town.take(program, f"{words} --share 25,50,100 --within 600,1800")
+    told = f"{town.file}: it has lines of the shares 25, 50, 100: name one by --share"
+    town.refused(told, "compare", town.file)
+    town.refused(told, "map", "times", "--origin", "A", *out)
+    told = f"{town.file}: it has access within 600, 1800 seconds: name one by --within"
+    town.refused(told, "compare", "--by", "origin", "--share", "50", town.file)
+    again = read(town.ran("compare", "--share", "50", town.file)[0])
+    assert [(row["origin"], row["destination"]) for row in again] == lost
+    asked = (
+        ["--reached"],
+        ["--reached", "--share", "100"],
+        ["--access"],
+        ["--access", "--share", "25", "--within", "600"],
+    )
+    counts = [town.ran("long", *more, town.file)[0].count("\n") for more in asked]
+    assert counts == [1 + 3 * (13 + 7), 1 + 13 + 7, 1 + 2 * 3 * 8, 1 + 8]
+    assert town.ran("map", "difference", "--share", "100", "--within", "600", *out) == ("", "", 0)
+
+
+def test_a_picture_leaves_nothing_where_the_run_is_ended(town: Town) -> None:
+    town.matrix(town_matrix(True))
+    out = town.path("no/map.png")
+    assert town.ran("map", "access", "--feed", town.feed, "--out", out, town.file)[2] == 1
+    assert not any(".part." in name for name in town.names())

@@ -1,0 +1,188 @@
+"""Matrices: their forms, what is chosen of them, their faults, and Open Matrix files."""
+
+import random
+from pathlib import Path
+from typing import Any, Callable
+
+import numpy as np
+import pytest
+
+from helpers import TOWN, Cell, Town, town_matrix
+from ttm_tools.faults import BadInput
+from ttm_tools.matrices import Matrix, layout_of, open_matrix, pair_of
+from ttm_tools.matrices.layout import Layout
+from ttm_tools.matrices.lines import MOST, head_of, seconds_of
+
+BOTH_FORMS = pytest.mark.parametrize("second_form", [False, True])
+
+
+def whole(matrix: Matrix) -> list[Any]:
+    """All that a matrix says, with None for NaN."""
+    said: list[Any] = []
+    for scenario in matrix.scenarios:
+        for share in matrix.shares:
+            for block in matrix.blocks(scenario, share):
+                cells = [[None if np.isnan(cell) else int(cell) for cell in row] for row in block.seconds]
+                said.append((scenario, share, block.origins, cells, matrix.access(scenario, share).tolist()))
+    return said
+
+
+def refused(town: Town, text: str, told: str, use: Callable[[Matrix], Any] = whole) -> None:
+    with pytest.raises(BadInput) as seen:
+        use(open_matrix(town.matrix(text)))
+    assert str(seen.value) == f"{town.file}: {told}"
+
+
+def test_the_header_alone_tells_the_form() -> None:
+    assert layout_of("scenario,origin,access,A,B".split(",")) == Layout(False, (None,), ["A", "B"])
+    second = layout_of("scenario,origin,share,access_900,access_1800,A".split(","))
+    assert second == Layout(True, (900, 1800), ["A"])
+    assert layout_of(["scenario", "origin", "access"]) == Layout(False, (None,), [])
+    for header in (
+        "",
+        "scenario,origin",
+        "scenario,origin,A",
+        "scenario,origin,share,A",
+        "scenario,origin,share,access_060",
+        "origin,scenario,access",
+    ):
+        assert layout_of(header.split(",")) is None
+
+
+def test_stops_may_be_called_as_other_columns_are() -> None:
+    for header, stops in (
+        ("scenario,origin,access,share,access_60,origin", ["share", "access_60", "origin"]),
+        ("scenario,origin,share,access_60,share,access,access_90", ["share", "access", "access_90"]),
+        ("scenario,origin,share,access_60,access_60", ["access_60"]),
+    ):
+        found = layout_of(header.split(","))
+        assert found is not None and found.stops == stops
+
+
+@BOTH_FORMS
+def test_both_forms_give_the_same_rows(town: Town, second_form: bool) -> None:
+    matrix = open_matrix(town.matrix(town_matrix(second_form)))
+    share = 50 if second_form else None
+    base = [[0, 300, 900, 2400], [1500, None, 600, 0]]
+    cut = [[0, 360, 1900, None], [1400, 1700, 600, 0]]
+    expected = [("base", share, ["A", "D"], base, [[3], [3]]), ("cut", share, ["A", "D"], cut, [[2], [4]])]
+    assert whole(matrix) == expected
+
+
+def test_of_several_shares_and_limits_one_must_be_named(town: Town) -> None:
+    text = town_matrix(True, shares=(25, 50), limits=(900, 1800))
+    refused(town, text, "it has lines of the shares 25, 50: name one by --share", lambda it: it.share(None))
+    refused(town, text, "no line of the share 90; it has 25, 50", lambda it: it.share(90))
+    told = "it has access within 900, 1800 seconds: name one by --within"
+    refused(town, text, told, lambda it: it.limit(None))
+    refused(town, text, "no access within 60 seconds, but within 900, 1800", lambda it: it.limit(60))
+    refused(town, town_matrix(False), "it names no share; leave --share out", lambda it: it.share(50))
+    matrix = open_matrix(town.matrix(text))
+    place = matrix.limit(900)[0]
+    assert [matrix.access(name, 25)[:, place].tolist() for name in matrix.scenarios] == [[3, 3], [2, 4]]
+    assert open_matrix(town.matrix(town_matrix(True))).share(None) == 50
+
+
+def test_two_scenarios_of_several(town: Town) -> None:
+    three = {**TOWN, "late": TOWN["cut"]}
+    told = "it has the scenarios cut and late beside base: name one by --scenario"
+    refused(town, town_matrix(True, three), told, lambda it: pair_of(it, "base", None, None))
+    told = "no scenario late; it has base, cut"
+    refused(town, town_matrix(True), told, lambda it: pair_of(it, "base", "late", None))
+    alone = town_matrix(True, {"base": TOWN["base"]})
+    refused(town, alone, "no scenario beside base; it has base", lambda it: pair_of(it, "base", None, None))
+    pair = pair_of(open_matrix(town.matrix(town_matrix(False, three))), "cut", "late", None)
+    ((begin, before, after),) = pair.blocks()
+    assert (pair.other, begin, pair.origins, pair.lacking) == ("late", 0, ["A", "D"], None)
+    assert np.array_equal(before, after, equal_nan=True)
+
+
+def test_origins_in_another_order_are_put_together(town: Town) -> None:
+    cut: dict[str, list[Cell]] = {"Z": [1, 2, 3, 4], "D": TOWN["cut"]["D"], "A": TOWN["cut"]["A"]}
+    turned = {"base": TOWN["base"], "cut": cut}
+    pair = pair_of(open_matrix(town.matrix(town_matrix(True, turned))), "base", None, None)
+    ((_, _, after),) = pair.blocks()
+    assert (pair.origins, after[:, 0].tolist()) == (["A", "D"], [0, 1400])
+    assert pair.lacking == "1 of 3 origins of cut aren't in base: Z"
+
+
+@BOTH_FORMS
+def test_what_is_no_matrix_is_told_by_its_record(town: Town, second_form: bool) -> None:
+    text = town_matrix(second_form)
+    told = f"record 4: {6 + second_form} fields, and the header has {7 + second_form}"
+    refused(town, text.replace("1900,\n", "1900\n"), told)
+    allowed = f"is no travel time; allowed: whole seconds up to {MOST}, or nothing"
+    for bad in ("3oo", "-3", "3.5", " 3", "16777216", "4294967297", "12345678901234567890"):
+        refused(town, text.replace(",300,", f",{bad},"), f"record 2: B {bad!r} {allowed}")
+    refused(town, text[:-1], "cut short: the last line has no end")
+    access = "access_1800" if second_form else "access"
+    refused(town, text.replace("A,50,3" if second_form else "A,3", "A,50,x" if second_form else "A,x"),
+            f"record 2: {access} 'x' is no number; allowed: whole numbers")  # fmt: skip
+    refused(town, text.replace("base,D,", "base,A,"), "record 3: A is there twice in base")
+
+
+def test_what_is_no_matrix_at_all_is_told(town: Town) -> None:
+    told = "not a matrix: it begins neither with scenario,origin,access nor with scenario,origin,share,access_.."
+    refused(town, "", f"record 1: {told}")
+    refused(town, "stop_id\nA\n", f"record 1: {told}")
+    refused(town, "scenario,origin,access,A\n", "no rows")
+    with pytest.raises(BadInput, match="none.csv: No such file or directory"):
+        open_matrix(town.path("none.csv"))
+
+
+def test_heads_are_parted_from_cells() -> None:
+    assert head_of(b"base,A,50,3,0,,7", 4) == (["base", "A", "50", "3"], 12)
+    assert head_of(b'"b,""a""",A,50,3,0', 4) == (['b,"a"', "A", "50", "3"], 17)
+    assert head_of(b"base,A", 4) == (["base", "A"], 7)
+    assert head_of(b"base,A,3", 3) == (["base", "A", "3"], 9)
+
+
+def test_drawn_cells_are_the_numbers_that_python_reads() -> None:
+    draw = random.Random(7)
+    for _ in range(300):
+        count = draw.randrange(1, 40)
+        numbers = [draw.choice([None, 0, draw.randrange(10 ** draw.randrange(1, 8)), MOST]) for _ in range(count)]
+        text = ",".join("" if number is None else str(number) for number in numbers)
+        found = seconds_of(text.encode(), count)
+        assert found is not None
+        assert [None if np.isnan(cell) else int(cell) for cell in found] == numbers
+        assert seconds_of(text.encode(), count + 1) is None
+        letter = draw.choice(["x", "-", ".", " ", '"', "\n", "\0", "/", ":"])
+        place = draw.randrange(len(text) + 1)
+        assert seconds_of((text[:place] + letter + text[place:]).encode(), count) is None
+    assert seconds_of(b"", 0) is not None and seconds_of(b"0016777215", 1) is None
+
+
+@BOTH_FORMS
+def test_an_open_matrix_file_says_the_same(town: Town, second_form: bool) -> None:
+    pytest.importorskip("h5py")
+    shares, limits = ((25, 50), (900, 1800)) if second_form else ((50,), (1800,))
+    town.matrix(town_matrix(second_form, shares=shares, limits=limits, stops=["A", "B", 'é, "x"', "D"]))
+    out = town.path("town.omx")
+    assert town.ran("omx", "--out", out, town.file) == ("", "", 0)
+    one, other = open_matrix(town.file), open_matrix(out)
+    assert (whole(other), other.layout) == (whole(one), one.layout)
+
+
+def test_an_open_matrix_file_has_the_form_of_its_format(town: Town) -> None:
+    h5py = pytest.importorskip("h5py")
+    town.matrix(town_matrix(True, shares=(25, 50), limits=(900, 1800)))
+    assert town.ran("omx", "--out", town.path("town.omx"), town.file)[2] == 0
+    with h5py.File(town.path("town.omx")) as file:
+        assert (file.attrs["OMX_VERSION"], file.attrs["SHAPE"].tolist()) == (b"0.2", [2, 4])
+        assert sorted(file["data"]) == ["base_25", "base_50", "cut_25", "cut_50"]
+        assert {data.shape for data in file["data"].values()} == {(2, 4)}
+        assert file["lookup/origin"][:].tolist() == [b"A", b"D"]
+        assert file["lookup/destination"][:].tolist() == [b"A", b"B", b"C", b"D"]
+        assert file["lookup/origin_number"][:].tolist() == [1, 2]
+        assert file["access/cut_50"][:].tolist() == [[2, 2], [2, 4]]
+
+
+def test_an_open_matrix_file_wants_one_list_of_origins(town: Town) -> None:
+    pytest.importorskip("h5py")
+    town.matrix(town_matrix(True, {"base": TOWN["base"], "cut": {"A": TOWN["cut"]["A"]}}))
+    told = "an Open Matrix file has one list of origins: 1 of 2 origins of base aren't in cut, share 50: D"
+    town.refused(f"{town.file}: {told}", "omx", "--out", town.path("town.omx"), town.file)
+    Path(town.path("town.omx")).write_bytes(b"\x89HDF\r\n\x1a\n" + bytes(100))
+    with pytest.raises(BadInput, match="town.omx: no whole HDF5 file"):
+        open_matrix(town.path("town.omx"))

@@ -1,0 +1,77 @@
+"""Records, identifiers as bytes, and texts of many lines."""
+
+import math
+import random
+from typing import Callable
+
+import numpy as np
+import pytest
+
+from helpers import Room
+from ttm_tools import records
+from ttm_tools.faults import BadInput
+
+
+def test_bytes_that_are_not_utf8_are_kept_and_shown_as_windows_1252(room: Room) -> None:
+    path = room.folder / "names.csv"
+    path.write_bytes(b"\xef\xbb\xbfstop_id\nA\n\nB\xe9\n")
+    found = list(records.rows(path, ["stop_id"]))
+    assert found == [(2, ["A"]), (3, ["B\udce9"])]
+    assert (records.shown(found[1][1][0]), records.field(found[1][1][0])) == ("Bé", b"B\xe9")
+    assert records.columns(path, ["stop_id"])["stop_id"].values == ["A", "B\udce9"]
+
+
+def test_a_missing_column_is_told(room: Room) -> None:
+    path = room.write("some.csv", "a,b", [["1", "2"]])
+    with pytest.raises(BadInput) as seen:
+        list(records.rows(path, ["c"]))
+    with pytest.raises(BadInput) as same:
+        records.columns(path, ["c"])
+    assert str(seen.value) == str(same.value) == f"{path}: record 1: no column c"
+
+
+@pytest.mark.parametrize("read", [records.columns, records.columns_by_records])
+def test_columns_are_those_of_the_records(
+    room: Room, read: Callable[..., dict[str, records.Column]], monkeypatch: pytest.MonkeyPatch
+) -> None:
+    monkeypatch.setattr(records, "ROWS_AT_ONCE", 7)
+    draw = random.Random(3)
+    texts = ["", "a", "0004", "NA", "x,y", 'q"q', "line\nend", "1e3", " b", "é", "B\udce9"]
+    rows = [[draw.choice(texts) for _ in range(3)] for _ in range(50)]
+    with open(room.path("t.csv"), "wb") as file:
+        records.write_rows(file, ["a", " b ", "c"], rows)
+    found = read(room.path("t.csv"), ("c", "b"))
+    for name, place in (("b", 1), ("c", 2)):
+        assert [found[name].values[code] for code in found[name].codes] == [row[place] for row in rows]
+
+
+def test_records_with_more_fields_than_the_header_are_read(room: Room) -> None:
+    path = room.write("t.csv", "a,b", [["1", "2", "3", "4"], ["5"], ["6", "7"]])
+    found = records.columns(path, ["b"])["b"]
+    assert [found.values[code] for code in found.codes] == ["2", "", "7"]
+
+
+def test_a_number_that_is_none_is_told_by_its_record(room: Room) -> None:
+    path = room.write("t.csv", "a,b", [["1", "2"], ["x", "1"], ["1_0", "3"]])
+    column = records.columns(path, ["a", "b"])
+    assert column["b"].numbers(path, "b").tolist() == [2, 1, 3]
+    with pytest.raises(BadInput) as seen:
+        column["a"].numbers(path, "a")
+    assert str(seen.value) == f"{path}: record 3: a 'x' is no number"
+
+
+def test_lines_are_joined_of_pieces() -> None:
+    names = records.fields_as_texts(["a", 'x,"y"'], after=b",")
+    numerals = records.Numerals(b"%d\n".__mod__, b"\n")
+    numbers = numerals.of(np.array([7, math.nan]))
+    assert records.joined([b"h,", names, numbers], 2) == b'h,a,7\nh,"x,""y""",\n'
+    assert numerals.of(np.array([5_000_000.0, 3.0])).tolist() == [b"5000000\n", b"3\n"]
+    assert records.joined([b"h"], 0) == b""
+
+
+def test_decimals_are_rounded_up_or_to_the_nearest_and_counted() -> None:
+    rounded = records.Rounded()
+    texts = ("0", "1.0", "1.2", "1.5", "2.5", " 3 ")
+    assert [rounded.whole(text, "f", 2, "seconds", up=True) for text in texts] == [0, 1, 2, 2, 3, 3]
+    assert [rounded.whole(text, "f", 2, "opportunities", up=False) for text in texts] == [0, 1, 1, 2, 3, 3]
+    assert rounded.count == 6
