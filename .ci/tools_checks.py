@@ -19,7 +19,8 @@ from pathlib import Path
 
 ROOT = Path(__file__).resolve().parent.parent
 PYTHON = "/usr/bin/python3"  # that of Debian's packages
-CHECKED = ["tools", "bench/madematrix.py", ".ci/tools_checks.py"]  # folders, and files, that pass all linters
+CHECKED = ["tools", "bench", ".ci", "packaging"]  # folders that pass all linters
+TESTED = ["tools", "bench"]  # folders with tests
 COMMANDS = {"black": "black", "flake8": "flake8", "mypy": "mypy"}
 PACKAGES = {
     "numpy": "python3-numpy",
@@ -67,7 +68,8 @@ def install() -> None:
 
 def run(words: list[str], folder: Path) -> tuple[int, str]:
     """Runs a command, prints what it says, and gives its status and its words."""
-    environment = {**os.environ, "PYTHONDONTWRITEBYTECODE": "1"}
+    path = ":".join(str(ROOT / it) for it in CHECKED)
+    environment = {**os.environ, "PYTHONDONTWRITEBYTECODE": "1", "MYPYPATH": path}
     ran = subprocess.run(
         words, cwd=folder, env=environment, stdout=subprocess.PIPE, stderr=subprocess.STDOUT, text=True
     )
@@ -113,26 +115,24 @@ def lint(counts: Counts) -> None:
 
 
 def packages() -> list[str]:
-    """What mypy looks at: the package, the tests, and the other folders."""
-    return ["tools/src", "tools/tests", *[folder for folder in CHECKED if folder != "tools"]]
+    """What mypy looks at: the package, its tests, and the files of the other folders."""
+    return ["tools/src", "tools/tests", *python_files([it for it in CHECKED if it != "tools"])]
 
 
 def test(counts: Counts, program: str | None) -> None:
-    """The tests of the tools."""
+    """The tests of the tools and of the bench."""
     if subprocess.run([PYTHON, "-c", "import pytest, numpy"], stderr=subprocess.DEVNULL).returncode != 0:
         print("the tests of the tools are skipped: without python3-pytest and python3-numpy")
         counts.add(0, 0, 1)
         return
-    words = [PYTHON, "-m", "pytest", "-rs", *([f"--program={Path(program).resolve()}"] if program else [])]
-    status, said = run(words, ROOT / "tools")
-    found = {
-        word: int(number)
-        for number, word in re.findall(
-            r"(\d+) (passed|failed|error|errors|skipped)\b", said.splitlines()[-1] if said else ""
-        )
-    }
-    failed = found.get("failed", 0) + found.get("error", 0) + found.get("errors", 0)
-    counts.add(found.get("passed", 0), max(failed, 1 if status else 0), found.get("skipped", 0))
+    for folder in TESTED:
+        own = [f"--program={Path(program).resolve()}"] if program and folder == "tools" else []
+        status, said = run([PYTHON, "-m", "pytest", "-rs", "-p", "no:cacheprovider", *own], ROOT / folder)
+        last = said.splitlines()[-1] if said else ""
+        told = re.findall(r"(\d+) (passed|failed|error|errors|skipped)\b", last)
+        found = {word: int(number) for number, word in told}
+        failed = found.get("failed", 0) + found.get("error", 0) + found.get("errors", 0)
+        counts.add(found.get("passed", 0), max(failed, 1 if status else 0), found.get("skipped", 0))
 
 
 def main() -> int:
