@@ -16,6 +16,8 @@ import shutil
 import subprocess
 import sys
 import tempfile
+import threading
+import tty
 from collections.abc import Callable, Iterator, Sequence
 from dataclasses import dataclass
 from pathlib import Path
@@ -47,6 +49,7 @@ OWN = {
 }
 ASKED = "--date 20260504 --from 08:00 --to 08:00 --trips 2 --share 50 --within 1800 --workers 1 --tries 1 --walk"
 FOUR = "--feed feed --date 20260504 --from 07:58 --to 08:01 --trips 2 --walk 0 --workers 2 --tries 1 --origins a.csv"
+HOUR = "--date 20260504 --from 07:30 --to 08:29 --trips 8 --walk 0 --share 50 --within 1800 --workers 1 --tries 1"
 OWN_WORDS = "--footpaths walks.csv --opportunities chances.csv --origins origins.csv"
 
 # From C one walks to B in 120 seconds and rides nowhere; from A one rides to B and on to C.
@@ -412,16 +415,6 @@ def no_text(program: str) -> tuple[object, object]:
     return left_by(program, [b"--feed", b"\xff"]), ("", "ttm: words that are not UTF-8\n", 2)
 
 
-SPECIAL: list[Callable[[str], tuple[object, object]]] = [
-    full_disk,
-    closed_pipe,
-    help_text,
-    version_text,
-    wrong_word,
-    no_text,
-]
-
-
 def steady(told: str) -> str:
     """What a report tells, without what varies from run to run."""
     for varies, stays in VARYING:
@@ -434,6 +427,63 @@ def reported(program: str, report: Report) -> Compared:
     out, err, status = left_by(program, [*report.words.split(), "--report"])
     plain = left_by(program, report.words.split())
     return Compared(f"a report of {report.name}", (out, steady(err), status), (plain[0], report.told, plain[2]))
+
+
+# The line that moves on a terminal; the next one covers it, and the last one is ended.
+MOVING = re.compile(r"(ttm: rows done: \d+ of \d+, \d+ percent(?:, about \d+:\d\d:\d\d left)?) *\r")
+MOVED = re.compile(rf"(?:{MOVING.pattern})+\n")
+
+
+def on_terminal(program: str, words: Words, room: Path) -> Left:
+    """What a run leaves whose standard error is a terminal, which changes nothing of what it is sent."""
+    reader, terminal = os.openpty()
+    tty.setraw(terminal)
+    told = b""
+    with os.fdopen(reader, "rb", buffering=0) as sent, tempfile.TemporaryFile() as out:
+        started = start(program, words, room, stdout=out, stderr=terminal)
+        os.close(terminal)
+        limit = threading.Timer(SECONDS, started.kill)
+        limit.start()
+        try:
+            while more := sent.read(1 << 16):
+                told += more
+        except OSError:
+            pass  # so a terminal says that nobody writes any more
+        status = started.wait()
+        limit.cancel()
+        out.seek(0)
+        return out.read().decode(errors="replace"), told.decode(errors="replace"), status
+
+
+def covered(moved: list[re.Match[str]]) -> bool:
+    """Whether each line that moves is at least as long as the text that it covers."""
+    return all(len(over[0]) > len(under[1]) for under, over in zip(moved, moved[1:]))
+
+
+def terminal(program: str) -> tuple[object, object]:
+    """On a terminal a line moves until the rows are done, and all else is told as elsewhere."""
+    words = f"--feed feed {HOUR} --report".split()
+    for more in (1 << it for it in range(6, 13)):
+        stops = Text("feed/stops.txt", FEED["stops.txt"] + "".join(f"{it},\n" for it in range(more)))
+        out, told, status = in_a_room([stops], lambda room: on_terminal(program, words, room))
+        moved = list(MOVING.finditer(told))
+        # it moves by the clock: where the rows were done too soon to see that, there are twice as many
+        if len(moved) > 1:
+            break
+    plain = left_by(program, words, [stops])
+    was = (len(moved) > 1, covered(moved), out == plain[0], steady(MOVED.sub("", told)), status)
+    return was, (True, True, True, steady(plain[1]), plain[2])
+
+
+SPECIAL: list[Callable[[str], tuple[object, object]]] = [
+    full_disk,
+    closed_pipe,
+    help_text,
+    version_text,
+    wrong_word,
+    no_text,
+    terminal,
+]
 
 
 def tried(program: str) -> Iterator[Compared]:
