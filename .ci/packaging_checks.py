@@ -21,7 +21,7 @@ from typing import Callable, Iterator
 ROOT = Path(__file__).resolve().parent.parent
 PACKAGING = ROOT / "packaging"
 NO_ROOM = 75
-SECONDS = 900
+SECONDS = 1800
 COMMANDS = ("ttm", "ttm-tools")
 BASH = """source "$1"; COMP_WORDS=("${@:3}"); COMP_CWORD=$(($# - 3)); "$2"; echo "${COMPREPLY[*]}" """
 

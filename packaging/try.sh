@@ -11,6 +11,7 @@ set -eu
 umask 022
 export LC_ALL=C.UTF-8 PATH="$PATH:/usr/sbin:/sbin" DEBIAN_FRONTEND=noninteractive
 NO_ROOM=75
+SECONDS_FOR_A_ROOM=900
 here=$(cd "$(dirname "$0")/.." && pwd)
 kind=
 if [ "${1:-}" = --room ]; then
@@ -27,8 +28,8 @@ trap 'exit 1' HUP INT TERM
 make_debian() {
     mkdir "$room/debian"
     # shellcheck disable=SC2086
-    debootstrap --variant=minbase --include=python3-minimal,libpython3-stdlib bookworm "$room/debian" ${MIRROR:-} \
-        > "$room/log" 2>&1
+    timeout $SECONDS_FOR_A_ROOM debootstrap --variant=minbase --include=python3-minimal,libpython3-stdlib \
+        bookworm "$room/debian" ${MIRROR:-} > "$room/log" 2>&1
 }
 make_dpkg() {
     mkdir -p "$room/dpkg/var/lib/dpkg/info" "$room/dpkg/var/lib/dpkg/updates" "$room/dpkg/var/log"
