@@ -22,7 +22,8 @@ fi
 deb=$(realpath "$1")
 [ "$(id -u)" = 0 ] || { echo "$0: a room can be had by root alone" >&2; exit $NO_ROOM; }
 room=$(mktemp -d)
-trap 'rm -rf --one-file-system "$room"' EXIT
+# debootstrap that is cut off may leave what it mounted
+trap 'umount "$room/debian/proc" "$room/debian/sys" 2> /dev/null || true; rm -rf --one-file-system "$room"' EXIT
 trap 'exit 1' HUP INT TERM
 
 make_debian() {
