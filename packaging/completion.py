@@ -20,11 +20,16 @@ def quoted(words: Iterable[str]) -> str:
     return '"%s"' % " ".join(words)
 
 
+def choices_of(item: Item) -> list[str]:
+    """The words of which one is taken, where the help lists them."""
+    listed = re.fullmatch(r"\{([^}]*)\}.*", item.value)
+    return listed[1].split(",") if listed else []
+
+
 def found_by(item: Item) -> str:
     """The words of `compgen` that find values of an option; nothing where a value can't be guessed."""
-    choices = re.fullmatch(r"\{([^}]*)\}.*", item.value)
-    if choices:
-        return "-W " + quoted(choices[1].split(","))
+    if choices_of(item):
+        return "-W " + quoted(choices_of(item))
     if FOLDER.fullmatch(item.value):
         return "-d"
     return "-f" if FILE.fullmatch(item.value) else ""
@@ -40,8 +45,10 @@ def cases(help_: Help) -> list[str]:
     for finds, names in values.items():
         lines.append("    %s) %sreturn ;;" % (" | ".join(names), "_ttm_find %s; " % finds if finds else ""))
     names = [name for item in help_.options for name in item.names]
-    lines += ["esac", 'case "$word" in', "    -*) _ttm_find -W %s ;;" % quoted(names), "    *) _ttm_find -f ;;", "esac"]
-    return lines
+    words = [word for item in help_.arguments for word in choices_of(item)]
+    others = "-f -W %s" % quoted(words) if words else "-f"
+    lines += ["esac", 'case "$word" in', "    -*) _ttm_find -W %s ;;" % quoted(names)]
+    return lines + ["    *) _ttm_find %s ;;" % others, "esac"]
 
 
 def indented(lines: Iterable[str], by: int) -> list[str]:
