@@ -60,7 +60,7 @@ if [ "$kind" = analysts ]; then
     } > "$inside/tmp/page.sh"
     chroot "$inside" apt-get install -q -y unzip /tmp/ttm.deb > "$room/log" 2>&1 || { tail "$room/log" >&2; exit 1; }
     chroot "$inside" bash /tmp/page.sh > "$room/log" 2>&1 || { cat "$room/log" >&2; exit 1; }
-    grep -c '^+ ' "$room/log" | sed 's/$/ commands of docs\/ANALYSTS.md ran in a Debian of their own/'
+    echo "the commands of docs/ANALYSTS.md, from zip to picture, ran in a Debian of their own"
     exit
 fi
 if [ "$kind" = debian ]; then
