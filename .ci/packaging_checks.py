@@ -118,7 +118,7 @@ def folder_gives_the_example(of: Packages) -> None:
 
 def tools_of_the_folder_run(of: Packages) -> None:
     """the tools of the tar file say what they take"""
-    assert "usage: ttm-tools" in of.output("/usr/bin/python3", of.folder / "bin/ttm-tools", "--help")
+    assert "usage: ttm-tools" in of.output(sys.executable, of.folder / "bin/ttm-tools", "--help")
 
 
 def control_says_what_is_needed(of: Packages) -> None:
@@ -130,7 +130,7 @@ def control_says_what_is_needed(of: Packages) -> None:
 
 def manuals_have_every_option(of: Packages) -> None:
     """the manual pages have each option of the helps"""
-    programs: tuple[list[object], ...] = ([of.program], ["/usr/bin/python3", of.folder / "bin/ttm-tools"])
+    programs: tuple[list[object], ...] = ([of.program], [sys.executable, of.folder / "bin/ttm-tools"])
     for name, program in zip(COMMANDS, programs):
         page = of.share(f"man/man1/{name}.1.gz").replace("\\-", "-")
         missing = [it for it in re.findall(r"(?<![\w-])--[a-z][\w-]*", of.output(*program, "--help")) if it not in page]

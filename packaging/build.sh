@@ -53,13 +53,14 @@ cp "$here/README.md" "$here/CHANGELOG.md" "$here"/docs/*.md "$here"/docs/*.png "
     echo "commit $commit"
     echo "sha256 of the program $(sha256sum < "$program" | cut -d ' ' -f 1)"
 } > "$docs/PROVED"
+export PYTHONDONTWRITEBYTECODE=1
 for name in ttm ttm-tools; do
+    set -- "$usr/bin/$name"
     page=
-    [ $name != ttm ] || page="--page $here/docs/ANALYSTS.md"
-    # shellcheck disable=SC2086
-    PYTHONDONTWRITEBYTECODE=1 python3 "$here/packaging/manual.py" $name "$usr/bin/$name" --version "$version" $page \
-        | gzip -9n > "$usr/share/man/man1/$name.1.gz"
-    PYTHONDONTWRITEBYTECODE=1 python3 "$here/packaging/completion.py" $name "$usr/bin/$name" > "$completions/$name"
+    if [ $name = ttm ]; then page=$here/docs/ANALYSTS.md; else set -- python3 "$@"; fi
+    python3 "$here/packaging/manual.py" $name "$@" --version "$version" --page "$page" > "$usr/share/man/man1/$name.1"
+    gzip -9n "$usr/share/man/man1/$name.1"
+    python3 "$here/packaging/completion.py" $name "$@" > "$completions/$name"
 done
 find "$usr/lib" -name __pycache__ -prune -exec rm -r {} +
 chmod -R u=rwX,go=rX "$room/deb"
