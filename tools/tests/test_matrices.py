@@ -178,6 +178,18 @@ def test_an_open_matrix_file_has_the_form_of_its_format(town: Town) -> None:
         assert file["access/cut_50"][:].tolist() == [[2, 2], [2, 4]]
 
 
+def test_a_matrix_that_lacks_origins_of_the_study_is_told(town: Town) -> None:
+    pytest.importorskip("h5py")
+    origins = town.write("origins.csv", "stop_id", [["A"], ["B"], ["D"]])
+    town.matrix(town_matrix(True))
+    words = ["omx", "--origins", origins, "--out", town.path("town.omx"), town.file]
+    town.refused(f"{town.file}: scenario base, share 50: lacks 1 of 3 origins of {origins}: B", *words)
+    town.write("origins.csv", "stop_id", [["D"], ["A"]])
+    town.refused(f"{town.file}: scenario base, share 50: other origins than {origins}", *words)
+    town.write("origins.csv", "stop_id", [["A"], ["D"]])
+    assert town.ran(*words) == ("", "", 0)
+
+
 def test_an_open_matrix_file_wants_one_list_of_origins(town: Town) -> None:
     pytest.importorskip("h5py")
     town.matrix(town_matrix(True, {"base": TOWN["base"], "cut": {"A": TOWN["cut"]["A"]}}))

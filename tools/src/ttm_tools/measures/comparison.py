@@ -10,6 +10,7 @@ from dataclasses import dataclass
 import numpy as np
 import numpy.typing as npt
 
+from .. import progress
 from ..matrices import Pair, Seconds, Sums
 
 KINDS = ["cut off", "slower", "new", "faster"]  # in the order of a table
@@ -23,7 +24,7 @@ class Changes:
     """
 
     origin: npt.NDArray[np.int32]
-    destination: npt.NDArray[np.uint16]
+    destination: npt.NDArray[np.int32]
     kind: npt.NDArray[np.int8]
     before: Seconds
     after: Seconds
@@ -57,12 +58,12 @@ def kinds_of(before: Seconds, after: Seconds, limit: float) -> npt.NDArray[np.in
 
 
 def compare(pair: Pair, limit: float, with_pairs: bool) -> Comparison:
-    """Compares all origins that both scenarios have, some at a time; a pair that differs takes 15 bytes where it is
+    """Compares all origins that both scenarios have, some at a time; a pair that differs takes 17 bytes where it is
     kept.
     """
     counts, reached = [np.zeros((0, len(KINDS)), np.int64)], [np.zeros((2, 0), np.int64)]
     found: list[Changes] = [changes_of(0, *(np.zeros((0, 0), np.float32),) * 2, np.zeros((0, 0), np.int8))]
-    for begin, before, after in pair.blocks():
+    for begin, before, after in progress.told(pair.blocks(), pair.count_of_blocks(), "comparing", "blocks"):
         kinds = kinds_of(before, after, limit)
         counts.append(np.stack([np.count_nonzero(kinds == kind, axis=1) for kind in range(len(KINDS))], axis=1))
         reached.append(np.stack([np.count_nonzero(~np.isnan(times), axis=1) for times in (before, after)]))
@@ -76,7 +77,7 @@ def compare(pair: Pair, limit: float, with_pairs: bool) -> Comparison:
 def changes_of(begin: int, before: Seconds, after: Seconds, kinds: npt.NDArray[np.int8]) -> Changes:
     """The cells of some rows that differ, the first of them at a place among the origins."""
     row, column = np.nonzero(kinds >= 0)
-    ends = ((row + begin).astype(np.int32), column.astype(np.uint16))
+    ends = ((row + begin).astype(np.int32), column.astype(np.int32))
     return Changes(*ends, kinds[row, column], before[row, column], after[row, column])
 
 
