@@ -225,7 +225,7 @@ VARYING = [
 ]
 TABLES_READ = "ttm: stops: 3\nttm: routes: 2\nttm: trips: 2\nttm: trips set aside: 0\nttm: transfers not used: 0\n"
 NO_WALKS = (
-    "ttm: warning: no walk leads anywhere, so changes are at one stop alone; tools/walks.py makes a file for "
+    "ttm: warning: no walk leads anywhere, so changes are at one stop alone; ttm-tools walks makes a file for "
     "--footpaths, and --walk says how long a walk may be\n"
 )
 

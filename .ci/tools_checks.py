@@ -31,6 +31,7 @@ PACKAGES = {
     "scipy": "python3-scipy",
     "pytest": "python3-pytest",
     "tqdm": "python3-tqdm",
+    "tables": "python3-tables",
 }
 SECONDS_TO_INSTALL = 300
 

@@ -1,6 +1,7 @@
 """Files get their names when they are whole, and nothing stays behind where they don't."""
 
 import os
+import random
 import signal
 import subprocess
 import sys
@@ -9,7 +10,7 @@ from pathlib import Path
 
 import pytest
 
-from helpers import LAUNCHER, Room
+from helpers import LAUNCHER, Cell, Room, Town, town_matrix
 from ttm_tools.files import aside_name, many_written_aside, output, sum_of, written_aside
 
 
@@ -84,3 +85,24 @@ def test_a_command_that_is_ended_says_so_and_leaves_nothing(room: Room) -> None:
             assert run.stderr is not None
             assert (run.wait(10), run.stderr.read()) == (143, b"ttm-tools walks: ended by SIGTERM\n")
     assert room.names() == {"stops.txt"}
+
+
+@pytest.mark.parametrize("command", ["long", "compare", "omx"])
+def test_a_command_that_is_ended_at_a_drawn_moment_leaves_the_whole_or_nothing(town: Town, command: str) -> None:
+    if command == "omx":
+        pytest.importorskip("h5py")
+    draw = random.Random(command)
+    stops = [f"s{number}" for number in range(250)]
+    rows: dict[str, list[Cell]] = {name: [draw.randrange(9999) for _ in stops] for name in stops}
+    town.matrix(town_matrix(True, {"base": rows, "cut": dict(zip(stops, reversed(rows.values())))}, stops=stops))
+    words = [sys.executable, LAUNCHER, command, "--out", town.path("made"), town.file]
+    before = town.names()
+    assert subprocess.run(words, stderr=subprocess.DEVNULL).returncode == 0
+    whole = (town.folder / "made").stat().st_size
+    for _ in range(6):
+        (town.folder / "made").unlink(missing_ok=True)
+        with subprocess.Popen(words, stderr=subprocess.DEVNULL) as run:
+            time.sleep(draw.uniform(0.1, 1.2))
+            run.send_signal(draw.choice([signal.SIGTERM, signal.SIGINT, signal.SIGHUP]))
+        assert town.names() in (before, before | {"made"})
+        assert run.returncode != 0 or (town.folder / "made").stat().st_size == whole

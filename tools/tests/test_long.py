@@ -108,6 +108,21 @@ def test_the_tables_of_a_parquet_file_have_the_lines_of_the_csv(town: Town, reac
     assert made == lines(town, "--feed", town.feed, *["--reached"] * reached)
 
 
+def test_so_have_those_with_names_of_r5py(town: Town) -> None:
+    pandas = pytest.importorskip("pandas")
+    matrix = open_matrix(town.matrix(town_matrix(True, shares=(25, 50))))
+    choice = long.Choice(["cut"], [25, 50], None, matrix.stops, False, True)
+    made = pandas.concat(long.frames_of(matrix, choice, None), ignore_index=True).to_csv(index=False)
+    assert made == lines(town, "--names", "r5py", "--scenario", "cut")
+
+
+def test_names_in_windows_1252_are_text_in_utf8(town: Town) -> None:
+    town.matrix(town_matrix(True))
+    stops = (town.folder / "stops.txt").read_text().replace("Alpha", "Größe €").replace("Béta", "B")
+    (town.folder / "stops.txt").write_bytes(stops.encode("cp1252"))
+    assert read(lines(town, "--feed", town.feed))[0]["origin_name"] == "Größe €"
+
+
 def test_faults_name_the_file_and_the_record(town: Town) -> None:
     some = town.write("some.csv", "stop_id", [["D"], ["B"]])
     town.matrix(town_matrix(True))

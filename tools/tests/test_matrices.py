@@ -178,6 +178,31 @@ def test_an_open_matrix_file_has_the_form_of_its_format(town: Town) -> None:
         assert file["access/cut_50"][:].tolist() == [[2, 2], [2, 4]]
 
 
+def test_the_library_that_open_matrix_programs_stand_on_reads_it(town: Town) -> None:
+    tables = pytest.importorskip("tables")
+    pytest.importorskip("h5py")
+    town.matrix(town_matrix(True, shares=(25, 50)))
+    assert town.ran("omx", "--out", town.path("town.omx"), town.file)[2] == 0
+    with tables.open_file(town.path("town.omx")) as file:
+        matrices = {node.name: node[:] for node in file.list_nodes(file.root.data, "CArray")}
+        assert sorted(matrices) == ["base_25", "base_50", "cut_25", "cut_50"]
+        assert matrices["base_50"][1].tolist()[::2] == [1500, 600] and np.isnan(matrices["base_50"][1, 1])
+        lookups = {node.name: node[:].tolist() for node in file.list_nodes(file.root.lookup)}
+        assert (lookups["origin"], lookups["destination_number"]) == ([b"A", b"D"], [1, 2, 3, 4])
+
+
+def test_a_matrix_that_lacks_origins_of_the_study_is_told(town: Town) -> None:
+    pytest.importorskip("h5py")
+    origins = town.write("origins.csv", "stop_id", [["A"], ["B"], ["D"]])
+    town.matrix(town_matrix(True))
+    words = ["omx", "--origins", origins, "--out", town.path("town.omx"), town.file]
+    town.refused(f"{town.file}: scenario base, share 50: lacks 1 of 3 origins of {origins}: B", *words)
+    town.write("origins.csv", "stop_id", [["D"], ["A"]])
+    town.refused(f"{town.file}: scenario base, share 50: other origins than {origins}", *words)
+    town.write("origins.csv", "stop_id", [["A"], ["D"]])
+    assert town.ran(*words) == ("", "", 0)
+
+
 def test_an_open_matrix_file_wants_one_list_of_origins(town: Town) -> None:
     pytest.importorskip("h5py")
     town.matrix(town_matrix(True, {"base": TOWN["base"], "cut": {"A": TOWN["cut"]["A"]}}))

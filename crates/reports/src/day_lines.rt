@@ -12,7 +12,7 @@ use timetable::{Feet, StopNo};
 
 /// What is said where nobody can walk from a stop to another.
 const NO_WALKS: &str =
-    "no walk leads anywhere, so changes are at one stop alone; tools/walks.py makes a file for --footpaths, and --walk says how long a walk may be";
+    "no walk leads anywhere, so changes are at one stop alone; ttm-tools walks makes a file for --footpaths, and --walk says how long a walk may be";
 
 /// What a scenario does to the runs of a study.
 #[derive(Clone, Copy)]

@@ -284,7 +284,7 @@ ttm: transfers not used: 0
 ttm: direct footpaths: 0
 ttm: origins: 1
 ttm: closed footpaths: 0
-ttm: warning: no walk leads anywhere, so changes are at one stop alone; tools/walks.py makes a file for --footpaths, and --walk says how long a walk may be
+ttm: warning: no walk leads anywhere, so changes are at one stop alone; ttm-tools walks makes a file for --footpaths, and --walk says how long a walk may be
 ttm: runs on 2026-05-05: 0
 ttm: warning: no trip runs on the date itself; is it a date of the feed's calendar?
 ttm: runs in scenario base: 0
@@ -292,7 +292,7 @@ ttm: rows: 1
 ttm: cells: 3
 ttm: bytes of the matrix and its text, about: 42
 ttm: bytes that the machine has free: 41
-ttm: warning: the machine may not have memory for the matrix; tools/split.py makes parts of the origins, and tools/join.py joins their matrices
+ttm: warning: the machine may not have memory for the matrix; ttm-tools split makes parts of the origins, and ttm-tools join joins their matrices
 ttm: rows done: 1 of 1, 100 percent, about 0:00:00 left
 ttm: rows done: 1 of 1
 ttm: time: 0:03:03

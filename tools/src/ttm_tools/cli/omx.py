@@ -2,6 +2,8 @@
 
 import argparse
 
+from .options import add_text
+
 TOLD = "an Open Matrix file"
 HELP = """\
 Writes a matrix as an Open Matrix file (OMX, an HDF5 file), which AequilibraE, Visum, Emme and TransCAD load: a matrix
@@ -12,6 +14,12 @@ Needs h5py. Memory: some 200 MB."""
 
 
 def describe(parser: argparse.ArgumentParser) -> None:
+    told = (
+        "the study's own list of origins, a file with the column stop_id, all of which the matrix must have, in order"
+    )
+    add_text(
+        parser, "--origins", "FILE", told, without="a matrix that ends too early isn't told where all scenarios do"
+    )
     told = "where the Open Matrix file is written; it gets its name when it is whole (needed)"
     parser.add_argument("--out", metavar="FILE", required=True, help=told)
     parser.add_argument("matrix", metavar="MATRIX", help="a matrix as ttm prints it")
@@ -21,7 +29,11 @@ def run(words: argparse.Namespace) -> int:
     from ..faults import needs
 
     needs("numpy", "h5py")
-    from ..matrices import open_matrix, write_open_matrix
+    from ..matrices import has_all, open_matrix, write_open_matrix
+    from ..parts import origins_in
 
-    write_open_matrix(open_matrix(words.matrix), words.out)
+    matrix = open_matrix(words.matrix)
+    if words.origins:
+        has_all(matrix, origins_in(words.origins), words.origins)
+    write_open_matrix(matrix, words.out)
     return 0

@@ -152,6 +152,9 @@ class Pair:
         first, second = (self.matrix.access(name, self.share)[:, place] for name in (self.base, self.other))
         return first[self.before], second[self.after]
 
+    def count_of_blocks(self) -> int:
+        return -(-len(self.origins) // self.matrix.rows_at_once())
+
     def blocks(self) -> Iterator[tuple[int, Seconds, Seconds]]:
         """The travel times of the origins before and after, some at a time, with the place of the first of them."""
         step = self.matrix.rows_at_once()
@@ -171,6 +174,19 @@ def pair_of(matrix: Matrix, base: str, asked: str | None, share: int | None) -> 
     before, after = np.array(both, dtype=np.intp).reshape(-1, 2).T
     origins = [first[place] for place in before.tolist()]
     return Pair(matrix, base, other, chosen, origins, before, after, lacking((base, first), (other, second)))
+
+
+def has_all(matrix: Matrix, origins: Sequence[str], file: str) -> None:
+    """Tells where a matrix lacks rows of the origins that a study has, as one that ends too early does."""
+    for scenario in matrix.scenarios:
+        for share in matrix.shares:
+            found = matrix.origins(scenario, share)
+            if found != list(origins):
+                there = set(found)
+                lost = [shown(origin) for origin in origins if origin not in there]
+                what = f"scenario {shown(scenario)}" if share is None else f"scenario {shown(scenario)}, share {share}"
+                told = f"lacks {len(lost):,} of {len(origins):,} origins of {file}: {some(lost)}" if lost else None
+                raise BadInput(matrix.path, f"{what}: {told or f'other origins than {file}'}")
 
 
 def lacking(one: tuple[str, Sequence[str]], other: tuple[str, Sequence[str]]) -> str | None:

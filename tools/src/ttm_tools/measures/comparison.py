@@ -6,10 +6,12 @@ limit is.
 """
 
 from dataclasses import dataclass
+from typing import Any
 
 import numpy as np
 import numpy.typing as npt
 
+from .. import progress
 from ..matrices import Pair, Seconds, Sums
 
 KINDS = ["cut off", "slower", "new", "faster"]  # in the order of a table
@@ -23,7 +25,7 @@ class Changes:
     """
 
     origin: npt.NDArray[np.int32]
-    destination: npt.NDArray[np.uint16]
+    destination: npt.NDArray[np.int32]
     kind: npt.NDArray[np.int8]
     before: Seconds
     after: Seconds
@@ -57,27 +59,34 @@ def kinds_of(before: Seconds, after: Seconds, limit: float) -> npt.NDArray[np.in
 
 
 def compare(pair: Pair, limit: float, with_pairs: bool) -> Comparison:
-    """Compares all origins that both scenarios have, some at a time; a pair that differs takes 15 bytes where it is
-    kept.
+    """Compares all origins that both scenarios have, some at a time; a pair that differs takes 17 bytes where it is
+    kept, and as many again while all are put in order.
     """
     counts, reached = [np.zeros((0, len(KINDS)), np.int64)], [np.zeros((2, 0), np.int64)]
-    found: list[Changes] = [changes_of(0, *(np.zeros((0, 0), np.float32),) * 2, np.zeros((0, 0), np.int8))]
-    for begin, before, after in pair.blocks():
+    none = np.zeros((0, 0), np.float32)
+    found = [[column] for column in columns_of(0, none, none, np.zeros((0, 0), np.int8))]
+    for begin, before, after in progress.told(pair.blocks(), pair.count_of_blocks(), "comparing", "blocks"):
         kinds = kinds_of(before, after, limit)
         counts.append(np.stack([np.count_nonzero(kinds == kind, axis=1) for kind in range(len(KINDS))], axis=1))
         reached.append(np.stack([np.count_nonzero(~np.isnan(times), axis=1) for times in (before, after)]))
-        if with_pairs:
-            found.append(changes_of(begin, before, after, kinds))
-    joined = (np.concatenate([getattr(part, name) for part in found]) for name in Changes.__dataclass_fields__)
+        for column, piece in zip(found, columns_of(begin, before, after, kinds) if with_pairs else ()):
+            column.append(piece)
     all_reached = np.concatenate(reached, axis=1)
-    return Comparison(np.concatenate(counts), all_reached[0], all_reached[1], Changes(*joined))
+    return Comparison(np.concatenate(counts), all_reached[0], all_reached[1], Changes(*map(put_together, found)))
 
 
-def changes_of(begin: int, before: Seconds, after: Seconds, kinds: npt.NDArray[np.int8]) -> Changes:
-    """The cells of some rows that differ, the first of them at a place among the origins."""
+def put_together(pieces: list[npt.NDArray[Any]]) -> npt.NDArray[Any]:
+    """A column of its pieces, which are let go of."""
+    made: npt.NDArray[Any] = np.concatenate(pieces)
+    pieces.clear()
+    return made
+
+
+def columns_of(begin: int, before: Seconds, after: Seconds, kinds: npt.NDArray[np.int8]) -> list[npt.NDArray[Any]]:
+    """The columns of `Changes` for some rows, the first of them at a place among the origins."""
     row, column = np.nonzero(kinds >= 0)
-    ends = ((row + begin).astype(np.int32), column.astype(np.uint16))
-    return Changes(*ends, kinds[row, column], before[row, column], after[row, column])
+    ends = [(row + begin).astype(np.int32), column.astype(np.int32)]
+    return [*ends, kinds[row, column], before[row, column], after[row, column]]
 
 
 def order_of(changes: Changes) -> npt.NDArray[np.intp]:

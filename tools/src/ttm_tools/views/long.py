@@ -178,7 +178,9 @@ def frame_of(matrix: Matrix, choice: Choice, piece: Piece, stops: Stops | None) 
         for name, codes, names in ends_in(choice, piece, origin, destination):
             columns[name] = pandas.Categorical.from_codes(codes, list(map(shown, names)))
         for name, seconds in zip(header_of(matrix, choice, None)[-len(times) :], times):
-            columns[name] = seconds.ravel() / 60 if choice.r5py else with_gaps(seconds.ravel())
+            columns[name] = (
+                np.round(seconds.ravel().astype(np.float64) / 60, 2) if choice.r5py else with_gaps(seconds.ravel())
+            )
         columns |= columns_of_places(stops, piece.origins, origin, "origin")
         columns |= columns_of_places(stops, choice.destinations, destination, "destination")
         table = pandas.DataFrame(columns)

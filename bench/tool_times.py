@@ -1,0 +1,75 @@
+#!/usr/bin/env python3
+"""Times each command of `ttm-tools` on a matrix, with its processor time and peak memory.
+
+    tool_times.py FEED MATRIX [OLD]
+
+Of a matrix with several shares the share 50 is taken. OLD is a folder with the scripts from before there was one
+command (the commit before `tools/ttm-tools`): each is run beside its successor, and the bytes of their tables are
+compared. What is written goes to a folder that is removed.
+"""
+
+import filecmp
+import os
+import subprocess
+import sys
+import tempfile
+import time
+from pathlib import Path
+
+TOOLS = Path(__file__).resolve().parent.parent / "tools" / "ttm-tools"
+PYTHON = "/usr/bin/python3" if Path("/usr/bin/python3").exists() else sys.executable
+SECONDS = 600  # after which a script is ended
+
+
+def timed(words: list[str]) -> str:
+    """Runs a command, and says what it took."""
+    begin = time.monotonic()
+    with subprocess.Popen(words, stderr=subprocess.DEVNULL) as run:
+        try:
+            while os.waitid(os.P_PID, run.pid, os.WEXITED | os.WNOHANG | os.WNOWAIT) is None:
+                if time.monotonic() - begin > SECONDS:
+                    run.kill()
+                time.sleep(0.05)
+            _, status, used = os.wait4(run.pid, 0)
+            run.returncode = os.waitstatus_to_exitcode(status)
+        except BaseException:
+            run.kill()
+            raise
+    told = "" if run.returncode == 0 else f", status {run.returncode}"
+    busy = used.ru_utime + used.ru_stime
+    return f"{time.monotonic() - begin:.1f} s, {busy:.1f} s of processor time, {used.ru_maxrss // 1000} MB{told}"
+
+
+def commands(feed: str, matrix: str, origin: str, share: list[str]) -> list[tuple[str, str, list[str]]]:
+    """Each command by its name, what it writes, and its words."""
+    return [
+        ("compare", "pairs.csv", ["--by", "pair", *share, matrix]),
+        ("compare", "origins.csv", ["--by", "origin", *share, matrix]),
+        ("map", "difference.png", ["difference", "--feed", feed, *share, matrix]),
+        ("map", "times.png", ["times", "--feed", feed, "--origin", origin, *share, matrix]),
+        ("long", "long.csv", ["--feed", feed, *share, matrix]),
+        ("omx", "matrix.omx", [matrix]),
+    ]
+
+
+def main() -> None:
+    feed, matrix, *old = sys.argv[1:]
+    with open(matrix, encoding="utf-8") as file:
+        file.readline()
+        first, second = (file.readline().split(",", 3)[:3] for _ in range(2))
+        several = first[:2] == second[:2]  # the same origin twice, for two shares
+    with tempfile.TemporaryDirectory(prefix="ttm-times-", dir=Path(matrix).resolve().parent) as made:
+        for name, out, words in commands(feed, matrix, first[1], ["--share", "50"] if several else []):
+            new, before = Path(made) / out, Path(made) / f"old_{out}"
+            print(f"{name} {out}: {timed([PYTHON, str(TOOLS), name, *words, '--out', str(new)])}", flush=True)
+            script = Path(old[0]) / f"{name}.py" if old else None
+            if script is not None and script.is_file():
+                print(f"  before: {timed([PYTHON, str(script), *words, '--out', str(before)])}", flush=True)
+                if out.endswith(".csv") and before.is_file():
+                    print(f"  the same bytes: {filecmp.cmp(new, before, shallow=False)}", flush=True)
+            new.unlink(missing_ok=True)
+            before.unlink(missing_ok=True)
+
+
+if __name__ == "__main__":
+    main()
