@@ -27,6 +27,7 @@ MIB = 1 << 20
 ASKED = (
     "--date 20260504 --from 08:00 --to 08:00 --trips 2 --walk 0 --share 50 --within 1800 --workers 2 --tries 1".split()
 )
+RING = 63  # stops of the first ring of footpaths in the greatest feed
 GREATEST = Path(__file__).resolve().parent.parent / "bench/greatest.py"
 
 
@@ -250,11 +251,11 @@ def greatest(program: str, room: Path) -> Iterator[tuple[str, str]]:
     words += "--from 08:00 --to 08:00 --trips 4 --share 50 --within 600 --workers 1 --tries 1".split()
     out, err, status = left_by(program, words, room)
     head, row = (out.split("\n") + ["", ""])[:2]
-    # the first 62 stops are a ring with a second between neighbours, and no ride is as quick
-    ring = [str(min(stop, 62 - stop)) for stop in range(62)]
+    # the first stops are a ring with a second between neighbours, and no ride is as quick
+    ring = [str(min(stop, RING - stop)) for stop in range(RING)]
     right = status == 0 and not err and head.split(",")[4:] == [str(it) for it in range(65_535)]
     cells = row.split(",")[4:]
-    right = right and out.count("\n") == 2 and len(cells) == 65_535 and cells[:62] == ring
+    right = right and out.count("\n") == 2 and len(cells) == 65_535 and cells[:RING] == ring
     yield "the greatest feed", "" if right else f"status {status}, told {err[:200]!r}, row {row[:200]!r}"
     past = [
         ("footpaths.csv", "0,65534,1\n", "too many footpaths"),
