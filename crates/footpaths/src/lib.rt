@@ -19,14 +19,10 @@ mod adjacency;
 mod changes;
 mod closure;
 mod direct_list;
-#[cfg(test)]
-mod direct_tests;
 mod faults;
 mod laws;
 mod pairs;
 mod settling;
-#[cfg(test)]
-mod tests;
 mod walks;
 
 pub use closure::{close, limit_fits};

@@ -16,8 +16,6 @@ mod checks;
 mod console;
 mod day_lines;
 mod explain;
-#[cfg(test)]
-mod explain_tests;
 mod lines;
 mod measures;
 mod memory;
@@ -27,8 +25,6 @@ mod report;
 mod row_lines;
 mod rules;
 mod table_lines;
-#[cfg(test)]
-mod tests;
 
 pub use console::Console;
 pub use memory::{Memory, memory_of};

@@ -132,7 +132,7 @@ fn whole_line(alloc: Global, line: Result<String, AllocError>) -> Result<String,
 }
 
 /// A line that covers one of so many bytes, after which the next one begins at its start.
-pub(crate) fn moving_line(line: String, before: u64) -> Result<String, AllocError> {
+fn moving_line(line: String, before: u64) -> Result<String, AllocError> {
     let mut line = line;
     for _ in line.len() as u64..before {
         line.push(' ')?;

@@ -1,16 +1,46 @@
 -- Trips that a round may leave out.
-use Rattle.std.proofs.Common.{◌≡◌, ℕ, ◌<◌, ◌≤◌, ◌∙◌, List, length, slice_index, slice_get, get_or, Some, IsTrue, refl, sym, ap, subst, arith}
+use Rattle.std.proofs.Common.{◌≡◌, ℕ, ◌<◌, ◌≤◌, ◌∙◌, inl, inr, List, length, slice_index, slice_get, get_or, Some, IsTrue, refl, sym, ap, subst, arith}
+use Rattle.std.proofs.lemmas.Bool.{cases_lt}
 use Rattle.std.proofs.lemmas.Option.{slice_get_within, slice_get-get_or}
 use Rattle.timetable.specs.declared.trips.Event.{Event}
 use Rattle.timetable.specs.Networks.{IsEvent}
 use Rattle.timetable.specs.Journeys.{IsRide}
-use Rattle.timetable.proofs.Known.{event_stop, event_axis}
-use Rattle.rounds.specs.Laws.{FallenStopsSuffice, EarlierTripsServe, DeadLanesRideNothing}
+use Rattle.timetable.proofs.Known.{event_axis}
+use Rattle.rounds.specs.Laws.{FallenStopsSuffice, FallenRoundsAreFull, EarlierTripsServe, DeadLanesRideNothing}
 
 pub fallen_suffice : FallenStopsSuffice
 fallen_suffice t before ready ride none still p x l c =
     let low = still c.j c.on c.ride.from in
     none p x l (record { j = c.j; i = c.i; on = c.on; off = c.off; ride = c.ride; in_time = omega (arith, low, c.in_time); stop = c.stop; time = c.time })
+
+pub fallen_full : FallenRoundsAreFull
+fallen_full trips before ready old new none h =
+    record {
+      same_length = h.same_length;
+      label = λ p l.
+          let e = h.label p l in
+          record {
+            holds = elim e.holds [ inl s ↦ inl s | inr c ↦ inr (record { trip = c.trip; t = c.t; runs = c.runs; carries = c.carries }) ];
+            least = λ m o. elim o [
+              | inl s ↦ e.least m (inl s)
+              | inr a ↦
+                  let c = a.carries in
+                  elim (cases_lt (slice_index ready c.on.stop.0) (slice_index before c.on.stop.0)) [
+                    | inl fell ↦
+                        e.least m (inr (record { trip = a.trip; stop = c.on.stop.0; fell = fell; serves = (c.j, c.on, (a.t, a.runs, c.ride.from), refl); t = a.t; runs = a.runs; carries = c }))
+                    | inr still ↦
+                        let low = e.least (slice_index old p) (inl refl) in
+                        let was = none p m l (record {
+                          trip = a.trip;
+                          t = a.t;
+                          runs = a.runs;
+                          carries = record { j = c.j; i = c.i; on = c.on; off = c.off; ride = c.ride; in_time = omega (arith, c.in_time); stop = c.stop; time = c.time };
+                        }) in
+                        omega arith
+                  ]
+            ];
+          };
+    }
 
 pub earlier_serve : EarlierTripsServe
 earlier_serve u t ready p end e behind c from soon =
@@ -23,9 +53,8 @@ earlier_serve u t ready p end e behind c from soon =
     (off.arrive, record { j = c.j; i = c.i; on = e; off = off; ride = ride; in_time = soon; stop = off_pair.stop ∙ c.stop; time = refl }, omega (arith, off_pair.arrive, c.time))
 
 pub dead_ride_nothing : DeadLanesRideNothing
-dead_ride_nothing n ready p end ok never c =
-    let event : IsEvent n.trips c.trip c.carries.j c.carries.on = (c.t, c.runs, c.carries.ride.from) in
-    let stop = event_stop n ok c.trip c.carries.j c.carries.on event in
-    let axis = event_axis n ok c.trip c.carries.j c.carries.on event in
-    let none = never c.carries.on.stop.0 stop in
-    omega (arith, c.carries.in_time)
+dead_ride_nothing n trip t ready p end ok runs never c =
+    let event : IsEvent n.trips trip c.j c.on = (t, runs, c.ride.from) in
+    let axis = event_axis n ok trip c.j c.on event in
+    let none = never c.j c.on c.ride.from in
+    omega (arith, c.in_time)

@@ -10,7 +10,7 @@ use Rattle.timetable.proofs.Lowering.{lowers_alike, lowers_both, lowers_none}
 use Rattle.timetable.proofs.Known.{foot_short, change_short}
 use Rattle.trip_lanes.specs.Lane.{LeavesLater}
 use Rattle.trip_lanes.proofs.Again.{NothingLower, nothing_changes}
-use Rattle.timetable.specs.declared.limits.TheConstants.{MOST_FOOT_SECONDS, END_OF_AXIS}
+use Rattle.timetable.specs.declared.limits.TheConstants.{MOST_FOOT_SECONDS, MOST_CHANGE_SECONDS, END_OF_AXIS}
 use Rattle.trip_lanes.proofs.Walking.{ChangedAt}
 
 -- one of the first x walks of the list
@@ -63,8 +63,8 @@ changed_by x late time read change is same h =
     lowers_alike (λ p y o. (o.0, o.1 ∙ e)) (λ p y o. (o.0, o.1 ∙ sym e)) h
 
 -- a change where nobody arrived offers nothing, and another ends once its time has passed
-pub change_is : (feet : FeetData) → AreFeet feet → (ride : List ℕ) (x : ℕ) (old new : List ℕ) → (slice_index ride x ≢ NEVER → slice_index ride x < END_OF_AXIS) → ((p : ℕ) → slice_index old p ≤ NEVER) → Lowers (λ p y. (p ≡ x) × (y ≡ min (slice_index ride x + slice_index feet.changes x) NEVER)) old new → Lowers (ChangedAt feet ride x) old new
-change_is feet ok ride x old new room fits h =
+pub change_ends : (feet : FeetData) → AreFeet feet → (ride : List ℕ) (x : ℕ) (old new : List ℕ) → (slice_index ride x ≢ NEVER → slice_index ride x + MOST_CHANGE_SECONDS < 2 ^ 32) → ((p : ℕ) → slice_index old p ≤ NEVER) → Lowers (λ p y. (p ≡ x) × (y ≡ min (slice_index ride x + slice_index feet.changes x) NEVER)) old new → Lowers (ChangedAt feet ride x) old new
+change_ends feet ok ride x old new room fits h =
     elim (cases_eq (slice_index ride x) NEVER) [
       | inl e ↦
           let none : NothingLower (λ p y. (p ≡ x) × (y ≡ min (slice_index ride x + slice_index feet.changes x) NEVER)) old = λ p y l o. let f = fits p in omega (arith, o.1, e) in
@@ -77,3 +77,7 @@ change_is feet ok ride x old new room fits h =
           (λ p y o. (o.0, omega (arith, o.2)))
           h
     ]
+
+-- the same on the axis
+pub change_is : (feet : FeetData) → AreFeet feet → (ride : List ℕ) (x : ℕ) (old new : List ℕ) → (slice_index ride x ≢ NEVER → slice_index ride x < END_OF_AXIS) → ((p : ℕ) → slice_index old p ≤ NEVER) → Lowers (λ p y. (p ≡ x) × (y ≡ min (slice_index ride x + slice_index feet.changes x) NEVER)) old new → Lowers (ChangedAt feet ride x) old new
+change_is feet ok ride x old new room fits h = change_ends feet ok ride x old new (λ ne. let early = room ne in omega arith) fits h

@@ -4,7 +4,7 @@ ghost use Rattle.trip_lanes.specs.Lane.{lane, LeavesLater, MarksFallen};
 ghost use Rattle.trip_lanes.specs.Scan.{NothingLower};
 ghost use Rattle.trip_lanes.specs.Walks.{OfferedFrom, TransferredFrom};
 ghost use Rattle.timetable.specs.Steps.{Lowers, WalkedOrStayed, ChangedOrWalked};
-ghost use Rattle.timetable.specs.declared.limits.TheConstants.{MOST_FOOT_SECONDS, END_OF_AXIS};
+ghost use Rattle.timetable.specs.declared.limits.TheConstants.{MOST_FOOT_SECONDS, MOST_CHANGE_SECONDS, END_OF_AXIS};
 
 use crate::kernels::{Lanes, lower_marked, lower_of};
 use std::simd::prelude::*;
@@ -36,7 +36,7 @@ pub fn walk(feet: &Feet, ride: &[Lanes], ready: &mut [Lanes])
 pub fn transfer(feet: &Feet, ride: &[Lanes], ready: &mut [Lanes])
     requires ride { length ride.now ≡ length feet.now.walks }
     requires ready { length ready.old ≡ length feet.now.walks }
-    requires rides { (l p : ℕ) → l < 16 → slice_index (lane l ride.now) p ≢ NEVER → slice_index (lane l ride.now) p < END_OF_AXIS }
+    requires rides { (l p : ℕ) → l < 16 → slice_index (lane l ride.now) p ≢ NEVER → slice_index (lane l ride.now) p + MOST_CHANGE_SECONDS < 2 ^ 32 }
     requires fits { (l p : ℕ) → l < 16 → slice_index (lane l ready.old) p ≤ NEVER }
     ensures { (l : ℕ) → l < 16 → Lowers (ChangedOrWalked feet.now (lane l ride.now)) (lane l ready.old) (lane l ready.new) }
 {

@@ -11,13 +11,13 @@ use Rattle.work_book.specs.Book.{is_marked, job_among}
 use Rattle.work_book.specs.Laws.{AreDrawnOnce, AreKeptOnce}
 use Rattle.work_book.specs.Views.{knows, first_view, share_of, untold}
 use Rattle.work_book.specs.Shown.{mark_of, next_of, shown}
-use Rattle.work_book.specs.Rule.{IsKept, Fits}
+use Rattle.work_book.specs.Rule.{IsKept, Fits, MarksOwn}
 use Rattle.work_book.specs.Board.{Closes, AreSettledAsDrawn}
 use Rattle.work_book.specs.declared.rule.View.{View}
 use Rattle.work_book.specs.declared.rule.Extent.{Extent}
 use Rattle.work_book.specs.declared.shared.Closed.{Closed}
 use Rattle.work_book.proofs.Counts.{sum_at, sum_one}
-use Rattle.work_book.proofs.Held.{Held, held_of, kept_of, limit_of, draws_of, keeps_of, times, once_below, once_set, once_below_at, marked_shown, all_found, all_counted}
+use Rattle.work_book.proofs.Held.{Held, held_of, kept_of, limit_of, draws_of, keeps_of, times, once_below, once_set, once_below_at, marked_shown, own_none, all_found, all_counted}
 
 zero_at : (n i : ℕ) → slice_index (replicate n 0) i ≡ 0
 zero_at zero i = refl
@@ -41,6 +41,7 @@ opens k few =
       room = omega arith;
       few = few;
       fits = first_fits ws;
+      own = first_own ws;
     }
   where
     first_fits : (ws : List ℕ) (i : ℕ) (v : View) → get_elem? (first_view (limit_of k) ∷ []) i ≡ some v → Fits (limit_of k) ws v
@@ -51,6 +52,10 @@ opens k few =
       known = λ j p. absurd (true≢false (sym p));
     }
     first_fits ws (suc i) v e = absurd (some-ne-none v (sym e))
+
+    first_own : (ws : List ℕ) (i : ℕ) (v : View) → get_elem? (first_view (limit_of k) ∷ []) i ≡ some v → MarksOwn k.jobs ws v
+    first_own ws zero v e = subst (MarksOwn k.jobs ws) (some-injective _ v e) (own_none k.jobs ws (first_view (limit_of k)) refl refl)
+    first_own ws (suc i) v e = absurd (some-ne-none v (sym e))
 
 lt_true : (n : ℕ) → 0 < n → nat_lt 0 n ≡ true
 lt_true n h = grind (arith, nat_tests)
@@ -78,6 +83,9 @@ closes_at c id v s h same at =
           (all_found (λ job. is_marked (shown k s.words (v ∷ [])) job ≡ true) v.known
           (λ x found. marked_shown k s.words (v ∷ []) x ∙ lt_true _ (mine.known x found)));
       numbers = subst (λ (ws : List ℕ). AreSettledAsDrawn (shown k ws (v ∷ []))) same (as_drawn k s (v ∷ []) h);
+      jobs_of = (h.own id v at).jobs_of;
+      marks = subst (λ (ws : List ℕ). All (λ n. mark_of ws (job_among k.jobs n) ≡ n + 1) v.under) same
+          (all_found (λ n. mark_of s.words (job_among k.jobs n) ≡ n + 1) v.under (h.own id v at).marks);
       all_drawn = λ all. subst (λ (ws : List ℕ). AreDrawnOnce (shown k ws (v ∷ []))) same
           (λ x.
           let a = sum_one (draws_of x) share_of s.views id v at (let b = h.shares in omega arith) (λ j w e none. ap (times x) ((h.fits j w e).empty none).0) in

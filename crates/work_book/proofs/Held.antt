@@ -1,5 +1,5 @@
 -- The rule of a board, as sums over its views and facts about its words.
-use Rattle.std.proofs.Common.{◌≡◌, ◌≢◌, ◌==◌, ◌⊎◌, ℕ, zero, suc, ◌+◌, ◌-◌, ◌*◌, ◌<◌, ◌≤◌, List, [], ◌∷◌, ◌++◌, Bool, true, false, ◌||◌, length, set, get_or, slice_index, map, drop, nat_lt, if◌then◌else◌, unwrap_or, refl, sym, ap, ◌∙◌, subst, ⊎_elim, inl, inr, arith, count_by}
+use Rattle.std.proofs.Common.{◌≡◌, ◌≢◌, ◌==◌, ◌⊎◌, ℕ, zero, suc, ◌+◌, ◌-◌, ◌*◌, ◌<◌, ◌≤◌, List, [], ◌∷◌, ◌++◌, Bool, true, false, ◌||◌, length, set, get_or, slice_index, map, drop, nat_lt, if◌then◌else◌, unwrap_or, true≢false, refl, sym, ap, ◌∙◌, subst, ⊎_elim, inl, inr, arith, count_by}
 use Rattle.std.specs.List.{sum_by, slice_get, list_any, All}
 use Rattle.std.proofs.lemmas.Bool.Decides.{nat_tests}
 use Rattle.std.proofs.lemmas.List.Sums.{sum_by-cons, sum_by-append}
@@ -9,11 +9,11 @@ use lib.ListN.{get_elem?}
 use Rattle.atomic_table.specs.Table.{State}
 use Rattle.atomic_table.proofs.Lists.{at_set}
 use Rattle.work_book.specs.Seat.{SeatState}
-use Rattle.work_book.specs.Book.{is_marked}
+use Rattle.work_book.specs.Book.{is_marked, job_among}
 use Rattle.work_book.specs.Laws.{drawn_in, kept_in}
-use Rattle.work_book.specs.Views.{seat_of, knows, share_of, untold}
+use Rattle.work_book.specs.Views.{seat_of, knows, settled_under, share_of, untold}
 use Rattle.work_book.specs.Shown.{mark_of, next_of, shown}
-use Rattle.work_book.specs.Rule.{IsKept, Fits, AreNumbers}
+use Rattle.work_book.specs.Rule.{IsKept, Fits, AreNumbers, MarksOwn}
 use Rattle.work_book.specs.declared.rule.View.{View}
 use Rattle.work_book.specs.declared.rule.Extent.{Extent}
 use Rattle.work_book.proofs.Fair.{counted}
@@ -49,6 +49,7 @@ pub record Held (k : Extent) (s : State (Unit {0}) View) : Type 0 where
   pub room : slice_index s.words 0 + sum_by untold s.views ≤ limit_of k + 65536
   pub few : limit_of k ≤ 8388480
   pub fits : (i : ℕ) (v : View) → get_elem? s.views i ≡ some v → Fits (limit_of k) s.words v
+  pub own : (i : ℕ) (v : View) → get_elem? s.views i ≡ some v → MarksOwn k.jobs s.words v
 
 sum_seats : (f : SeatState → ℕ) (vs : List View) → sum_by f (map seat_of vs) ≡ sum_by (λ v. f (seat_of v)) vs
 sum_seats f [] = refl
@@ -78,6 +79,7 @@ held_of k s h = record {
   room = h.room;
   few = h.few;
   fits = h.fits;
+  own = h.own;
 }
 
 pub kept_of : (k : Extent) (s : State (Unit {0}) View) → Held k s → IsKept k s
@@ -90,6 +92,7 @@ kept_of k s h = record {
   room = h.room;
   few = h.few;
   fits = h.fits;
+  own = h.own;
 }
 
 -- no word goes down
@@ -116,6 +119,39 @@ fits_set limit old new vs i w up others mine j u e =
     (λ (x : (j ≡ i) × (w ≡ u)). subst (Fits limit new) x.1 mine)
     (λ (x : (j ≢ i) × (get_elem? vs j ≡ some u)). fits_on limit old new u up (others j u x.1))
     (at_set vs i j w u e)
+
+-- a mark that is set stays as it is
+abbrev pub Stays : List ℕ → List ℕ → Type 0
+Stays old new = (j : ℕ) → 0 < mark_of old j → mark_of new j ≡ mark_of old j
+
+pub same_marks : (ws : List ℕ) → Stays ws ws
+same_marks ws j p = refl
+
+pub own_on : (jobs : ℕ) (old new : List ℕ) (v w : View) → Stays old new → w.kept ≡ v.kept → w.under ≡ v.under → MarksOwn jobs old v → MarksOwn jobs new w
+own_on jobs old new v w stay kept under o = record {
+  jobs_of = kept ∙ o.jobs_of ∙ ap (map (job_among jobs)) (sym under);
+  marks = λ number p.
+      let a = o.marks number (sym (ap (list_any (λ x. x == number)) under) ∙ p) in
+      let b = stay (job_among jobs number) (omega arith) in
+      b ∙ a;
+}
+
+-- one view changes, and no mark that is set
+pub own_set : (jobs : ℕ) (old new : List ℕ) (vs : List View) (i : ℕ) (w : View) → Stays old new
+    → ((j : ℕ) (u : View) → get_elem? vs j ≡ some u → MarksOwn jobs old u) → MarksOwn jobs new w
+    → (j : ℕ) (u : View) → get_elem? (set vs i w) j ≡ some u → MarksOwn jobs new u
+own_set jobs old new vs i w stay others mine j u e =
+    ⊎_elim
+    (λ (x : (j ≡ i) × (w ≡ u)). subst (MarksOwn jobs new) x.1 mine)
+    (λ (x : (j ≢ i) × (get_elem? vs j ≡ some u)). own_on jobs old new u u stay refl refl (others j u x.1))
+    (at_set vs i j w u e)
+
+-- a seat without a kept job
+pub own_none : (jobs : ℕ) (words : List ℕ) (v : View) → v.kept ≡ [] → v.under ≡ [] → MarksOwn jobs words v
+own_none jobs words v kept under = record {
+  jobs_of = kept ∙ ap (map (job_among jobs)) (sym under);
+  marks = λ number p. absurd (true≢false (sym p ∙ ap (list_any (λ x. x == number)) under));
+}
 
 pub times_append : (x : ℕ) (xs ys : List ℕ) → times x (xs ++ ys) ≡ times x xs + times x ys
 times_append x xs ys = sum_by-append (λ y. if y == x then 1 else 0) xs ys

@@ -15,7 +15,7 @@ use Rattle.work_book.specs.Moves.{Mine, Draws}
 use Rattle.work_book.specs.declared.rule.View.{View}
 use Rattle.work_book.specs.declared.rule.Extent.{Extent}
 use Rattle.work_book.proofs.Counts.{sum_set, sum_at, sum_le}
-use Rattle.work_book.proofs.Held.{Held, held_of, kept_of, limit_of, draws_of, keeps_of, times, times_append, once_below, once_set, once_below_at, Grows, fits_set, all_counted}
+use Rattle.work_book.proofs.Held.{Held, held_of, kept_of, limit_of, draws_of, keeps_of, times, times_append, once_below, once_set, once_below_at, Grows, fits_set, own_on, own_set, all_counted}
 
 -- one number more is drawn
 once_more : (x n : ℕ) → once_below x n + times x (n ∷ []) ≡ once_below x (n + 1)
@@ -46,10 +46,10 @@ module _ (ws : List ℕ) (m : ℕ) (some_words : 0 < length ws) where
 -- a step of the first word to n + 1, n being what it was, after which the view is w
 draw_keeps : (k : Extent) (id : ℕ) (v w : View) (s : State (Unit {0}) View) → Held k s → get_elem? s.views id ≡ some v
     → ((x : ℕ) → times x w.drawn + once_below x (next_of (limit_of k) s.words) ≡ times x v.drawn + once_below x (min (slice_index s.words 0 + 1) (limit_of k)))
-    → w.kept ≡ v.kept → w.share ≡ v.share → slice_index s.words 0 + 1 + sum_by untold (set s.views id w) ≤ limit_of k + 65536
+    → w.kept ≡ v.kept → w.under ≡ v.under → w.share ≡ v.share → slice_index s.words 0 + 1 + sum_by untold (set s.views id w) ≤ limit_of k + 65536
     → Fits (limit_of k) (set s.words 0 (slice_index s.words 0 + 1)) w
     → IsKept k record { words = set s.words 0 (slice_index s.words 0 + 1); homes = s.homes; views = set s.views id w }
-draw_keeps k id v w s h at numbers keeps_same shares_same roomy fit =
+draw_keeps k id v w s h at numbers keeps_same under_same shares_same roomy fit =
     let n : ℕ = slice_index s.words 0 in
     let wide : 0 < length s.words = let a = h.wide in omega arith in
     let now : slice_index (set s.words 0 (n + 1)) 0 ≡ n + 1 = number_now s.words (n + 1) wide in
@@ -78,6 +78,9 @@ draw_keeps k id v w s h at numbers keeps_same shares_same roomy fit =
       room = omega (arith, now);
       few = h.few;
       fits = fits_set (limit_of k) s.words (set s.words 0 (n + 1)) s.views id w (number_grows s.words (n + 1) wide (omega arith)) h.fits fit;
+      own =
+          own_set k.jobs s.words (set s.words 0 (n + 1)) s.views id w (λ j p. mark_same s.words (n + 1) wide j) h.own
+          (own_on k.jobs s.words (set s.words 0 (n + 1)) v w (λ j p. mark_same s.words (n + 1) wide j) keeps_same under_same (h.own id v at));
     })
 
 no_wrap : (k : Extent) (s : State (Unit {0}) View) → Held k s → (slice_index s.words 0 + 1) % 2 ^ 64 ≡ slice_index s.words 0 + 1
@@ -101,6 +104,7 @@ module _ (k : Extent) (slots id : ℕ) (me : Mine) (new : me.0.told ≡ false) (
       omega arith)
       refl
       refl
+      refl
       (let a = sum_set untold s.views id v w at in let b = sum_le untold share_of untold_le s.views in let c = h.shares in omega arith)
       record {
         limited = λ p. of_board;
@@ -121,6 +125,7 @@ module _ (k : Extent) (slots id : ℕ) (me : Mine) (new : me.0.told ≡ false) (
       (λ x.
       let c : once_below x (min n (limit_of k)) ≡ once_below x (min (n + 1) (limit_of k)) = let e : min n (limit_of k) ≡ min (n + 1) (limit_of k) = omega arith in ap (λ (z : ℕ). once_below x z) e in
       omega arith)
+      refl
       refl
       refl
       (let a = sum_set untold s.views id v w at in let b = untold_is v new in let c = h.room in omega arith)

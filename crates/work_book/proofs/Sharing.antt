@@ -1,21 +1,20 @@
--- A split, a join and a load of any word keep the rule.
-use Rattle.std.proofs.Common.{◌≡◌, ◌≢◌, ◌⊎◌, ℕ, ◌+◌, ◌-◌, ◌<◌, ◌≤◌, List, [], ◌∷◌, ◌++◌, Bool, true, false, ◌||◌, set, slice_index, if◌then◌else◌, true≢false, refl, sym, ap, ◌∙◌, subst, ⊎_elim, inl, inr, arith}
+-- A split and a join keep the rule.
+use Rattle.std.proofs.Common.{◌≡◌, ◌≢◌, ◌⊎◌, ℕ, ◌+◌, ◌-◌, ◌==◌, ◌<◌, ◌≤◌, List, [], ◌∷◌, ◌++◌, Bool, true, false, ◌||◌, set, map, slice_index, if◌then◌else◌, true≢false, refl, sym, ap, ◌∙◌, subst, ⊎_elim, inl, inr, arith}
 use Rattle.std.specs.List.{sum_by, list_any}
-use Rattle.std.proofs.lemmas.List.{set-get_or}
+use Rattle.std.proofs.lemmas.List.{map-append}
 use Rattle.std.proofs.lemmas.List.Sums.{sum_by_push}
 use Rattle.std.proofs.lemmas.List.Folds.{list_any-append}
-use mathlib.Core.Option.{some, none}
+use mathlib.Core.Option.{some}
 use lib.ListN.{get_elem?}
-use Rattle.atomic_table.specs.Table.{State, keeps, step, Allows, Splits, Joins}
-use Rattle.atomic_table.proofs.Lists.{at_set, at_snoc, set_again}
-use Rattle.work_book.specs.Views.{knows, spent, less_one, split_off, merged, share_of, untold}
-use Rattle.work_book.specs.Shown.{mark_of, next_of}
-use Rattle.work_book.specs.Rule.{IsKept, Fits}
-use Rattle.work_book.specs.Moves.{Mine, Shows, IsOnce}
+use Rattle.atomic_table.specs.Table.{State, Splits, Joins}
+use Rattle.atomic_table.proofs.Lists.{at_set, at_snoc}
+use Rattle.work_book.specs.Book.{job_among}
+use Rattle.work_book.specs.Views.{knows, settled_under, spent, less_one, split_off, merged, share_of, untold}
+use Rattle.work_book.specs.Rule.{IsKept, Fits, MarksOwn}
 use Rattle.work_book.specs.declared.rule.View.{View}
 use Rattle.work_book.specs.declared.rule.Extent.{Extent}
-use Rattle.work_book.proofs.Counts.{sum_set, sum_at}
-use Rattle.work_book.proofs.Held.{Held, held_of, kept_of, limit_of, draws_of, keeps_of, times_append, same_words, fits_set, once_below_le, once_set_le}
+use Rattle.work_book.proofs.Counts.{sum_set}
+use Rattle.work_book.proofs.Held.{Held, held_of, kept_of, limit_of, draws_of, keeps_of, times_append, same_words, fits_set, same_marks, own_on, own_set, own_none}
 
 untold_split : (b : Bool) (s : ℕ) → 2 ≤ s → (if b then 0 else (s - 1)) + (if b then 0 else 1) ≡ (if b then 0 else s)
 untold_split true s h = refl
@@ -52,6 +51,13 @@ held_split k id v two s h at =
           (λ (same : split_off v ≡ u).
           subst (Fits (limit_of k) s.words) same record { limited = λ p. mine.limited (omega arith); told = mine.told; empty = λ p. (refl, refl); known = mine.known })
           (at_snoc vs (split_off v) u i e);
+      own = λ i u e.
+          ⊎_elim
+          (λ (was : get_elem? vs i ≡ some u).
+          own_set k.jobs s.words s.words s.views id (less_one v) (same_marks s.words) h.own
+          (own_on k.jobs s.words s.words v (less_one v) (same_marks s.words) refl refl (h.own id v at)) i u was)
+          (λ (same : split_off v ≡ u). subst (MarksOwn k.jobs s.words) same (own_none k.jobs s.words (split_off v) refl refl))
+          (at_snoc vs (split_off v) u i e);
     }
 
 pub splits : (k : Extent) (id : ℕ) (v : View) → 2 ≤ v.share → Splits (IsKept k) id v (less_one v) (split_off v)
@@ -60,6 +66,12 @@ splits k id v two s h at = kept_of k _ (held_split k id v two s (held_of k s h) 
 pub either_true : (a b : Bool) → (a || b) ≡ true → (a ≡ true) ⊎ (b ≡ true)
 either_true true b e = inl refl
 either_true false b e = inr e
+
+own_both : (jobs : ℕ) (words : List ℕ) (v w : View) → MarksOwn jobs words v → MarksOwn jobs words w → MarksOwn jobs words (merged v w)
+own_both jobs words v w a b = record {
+  jobs_of = (λ i. a.jobs_of i ++ b.jobs_of i) ∙ sym (map-append (job_among jobs) v.under w.under);
+  marks = λ n p. ⊎_elim (a.marks n) (b.marks n) (either_true (settled_under v n) (settled_under w n) (sym (list_any-append (λ x. x == n) v.under w.under) ∙ p));
+}
 
 held_join : (k : Extent) (id : ℕ) (v : View) (other : ℕ) (w : View) → 1 ≤ v.share → (s : State (Unit {0}) View) → Held k s → get_elem? s.views id ≡ some v → ¬ (other ≡ id)
     → get_elem? (set s.views id (merged v w)) other ≡ some w → Held k record { words = s.words; homes = s.homes; views = set (set s.views id (merged v w)) other spent }
@@ -103,28 +115,11 @@ held_join k id v other w one s h at apart there =
             known = λ j p. ⊎_elim (mine.known j) (yours.known j) (either_true (knows v j) (knows w j) (sym (list_any-append _ v.known w.known) ∙ p));
           })
           record { limited = λ p. absurd (omega arith); told = λ t. absurd (true≢false (sym t)); empty = λ p. (refl, refl); known = λ j p. absurd (true≢false (sym p)) };
+      own =
+          own_set k.jobs s.words s.words vs other spent (same_marks s.words)
+          (own_set k.jobs s.words s.words s.views id both (same_marks s.words) h.own (own_both k.jobs s.words v w (h.own id v at) (h.own other w theirs)))
+          (own_none k.jobs s.words spent refl refl);
     }
 
 pub joins : (k : Extent) (id : ℕ) (v : View) (other : ℕ) (w : View) → 1 ≤ v.share → Joins (IsKept k) id v other w (merged v w) spent
 joins k id v other w one s h at apart there = kept_of k _ (held_join k id v other w one s (held_of k s h) at apart there)
-
--- no number and no job stands twice in a view
-once_in : (k : Extent) (id : ℕ) (v : View) (s : State (Unit {0}) View) → Held k s → get_elem? s.views id ≡ some v → IsOnce v
-once_in k id v s h at = record {
-  drawn = λ x. let a = sum_at (draws_of x) s.views id v at in let b = h.drawn x in let c = once_below_le x (next_of (limit_of k) s.words) in omega arith;
-  kept = λ j. let a = sum_at (keeps_of j) s.views id v at in let b = h.kept j in let c = once_set_le (mark_of s.words j) in omega arith;
-}
-
-pub shows : (k : Extent) (slots id : ℕ) (me : Mine) → Allows (IsKept k) slots id me 0 (λ n. n) (Shows (step slots 0 0 0 none) me)
-shows k slots id me s h len at fit = (
-  me.0,
-  keeps,
-  tt,
-  subst (λ (z : List ℕ × List View). IsKept k record { words = z.0; homes = s.homes; views = z.1 })
-      (λ i. (sym (set-get_or s.words 0 0) i, sym (set_again s.views id me.0 at) i)) h,
-  (
-    refl,
-    once_in k id me.0 s (held_of k s h) at,
-    (let a = sum_at share_of s.views id me.0 at in let b = h.shares in omega arith),
-  ),
-)

@@ -3,7 +3,7 @@ use Rattle.std.specs.Prelude.{◌≡◌, ℕ, ◌-◌, ◌<◌, ◌≤◌, false
 use Rattle.std.specs.List.{All}
 use Rattle.atomic_table.specs.Table.{Me, Step}
 use Rattle.work_book.specs.Laws.{drawn_in, kept_in}
-use Rattle.work_book.specs.Views.{seat_of, knows, drew, told_nothing, knowing, keeping}
+use Rattle.work_book.specs.Views.{seat_of, knows, stepped, drew, told_nothing, knowing, keeping}
 use Rattle.work_book.specs.declared.rule.View.{View}
 
 -- a seat, by its view; it holds no slot of the table
@@ -22,14 +22,14 @@ pub record IsOnce (v : View) : Type 0 where
 
 -- a load of any word shows that nothing stands twice, and that there are no more shares than all
 abbrev pub Shows : Step (Unit {0}) → Mine → ℕ → Mine → Type 0
-Shows s v found w = (w ≡ v) × IsOnce v.0 × (v.0.share ≤ 65536)
+Shows s v found w = (w.1 ≡ v.1) × (w.0 ≡ stepped v.0) × IsOnce v.0 × (v.0.share ≤ 65536)
 
 -- a job whose word is 0 wasn't known to be settled; one whose word isn't 0 is known from then on
 abbrev pub Looks : Step (Unit {0}) → Mine → ℕ → Mine → Type 0
 Looks s v found w =
-    (w.1 ≡ v.1) × (found ≡ 0 → (w.0 ≡ v.0) × (knows v.0 (s.word - 1) ≡ false)) × (0 < found → w.0 ≡ knowing (s.word - 1) v.0)
+    (w.1 ≡ v.1) × (found ≡ 0 → (w.0 ≡ stepped v.0) × (knows v.0 (s.word - 1) ≡ false)) × (0 < found → w.0 ≡ knowing (s.word - 1) v.0)
 
--- a job whose word was 0 is kept, and settled from then on; one whose word wasn't 0 was settled before
+-- a job whose word was 0 is kept, under the number that its word is set to, less 1, and settled from then on; one whose word wasn't 0 was settled before
 abbrev pub Settles : Step (Unit {0}) → Mine → ℕ → Mine → Type 0
 Settles s v found w =
-    (w.1 ≡ v.1) × (found ≡ 0 → (w.0 ≡ keeping (s.word - 1) v.0) × (knows v.0 (s.word - 1) ≡ false)) × (0 < found → w.0 ≡ knowing (s.word - 1) v.0)
+    (w.1 ≡ v.1) × (found ≡ 0 → (w.0 ≡ keeping (s.word - 1) (s.second - 1) v.0) × (knows v.0 (s.word - 1) ≡ false)) × (0 < found → w.0 ≡ knowing (s.word - 1) v.0)

@@ -1,12 +1,12 @@
 -- What holds of a board between any two steps, in every schedule.
-use Rattle.std.specs.Prelude.{◌≡◌, ◌+◌, ◌-◌, ◌*◌, ◌<◌, ◌≤◌, ℕ, true, List, [], length, slice_index}
+use Rattle.std.specs.Prelude.{◌≡◌, ◌+◌, ◌-◌, ◌*◌, ◌<◌, ◌≤◌, ℕ, true, List, [], length, map, slice_index}
 use Rattle.std.specs.List.{sum_by}
 use mathlib.Core.Option.{some}
 use lib.ListN.{get_elem?}
 use Rattle.atomic_table.specs.Table.{State}
 use Rattle.work_book.specs.Book.{BookState, job_among, is_marked}
 use Rattle.work_book.specs.Laws.{AreDrawnOnce, AreKeptOnce}
-use Rattle.work_book.specs.Views.{knows, share_of, untold}
+use Rattle.work_book.specs.Views.{knows, settled_under, share_of, untold}
 use Rattle.work_book.specs.Shown.{mark_of, shown}
 use Rattle.work_book.specs.declared.rule.Extent.{Extent}
 use Rattle.work_book.specs.declared.rule.View.{View}
@@ -23,6 +23,11 @@ pub record Fits (limit : ℕ) (words : List ℕ) (v : View) : Type 0 where
 abbrev pub AreNumbers : BookState → List ℕ → Type 0
 AreNumbers book words = (job : ℕ) → 0 < mark_of words job → (mark_of words job ≤ book.next) × (job_among book.jobs (mark_of words job - 1) ≡ job)
 
+-- each job that a seat kept is that of the number under which it settled it, and the job's mark is this number, plus 1
+pub record MarksOwn (jobs : ℕ) (words : List ℕ) (v : View) : Type 0 where
+  pub jobs_of : v.kept ≡ map (job_among jobs) v.under
+  pub marks : (number : ℕ) → settled_under v number ≡ true → mark_of words (job_among jobs number) ≡ number + 1
+
 -- the rule of a board of so many jobs and tries: its words and views are in order
 pub record IsKept (k : Extent) (s : State (Unit {0}) View) : Type 0 where
   pub wide : length s.words ≡ k.jobs + 1
@@ -35,3 +40,4 @@ pub record IsKept (k : Extent) (s : State (Unit {0}) View) : Type 0 where
   pub room : slice_index s.words 0 + sum_by untold s.views ≤ k.jobs * k.tries + 65536
   pub few : k.jobs * k.tries ≤ 8388480
   pub fits : (i : ℕ) (v : View) → get_elem? s.views i ≡ some v → Fits (k.jobs * k.tries) s.words v
+  pub own : (i : ℕ) (v : View) → get_elem? s.views i ≡ some v → MarksOwn k.jobs s.words v

@@ -14,39 +14,61 @@ knows v job = list_any (λ known. known == job) v.known
 
 -- the seat that a board is made with: it drew nothing, knows of no settled job, and has every share. Numbers stop at the limit
 abbrev pub first_view : ℕ → View
-first_view limit = record { drawn = []; kept = []; known = []; told = false; share = 65536; limit = limit }
+first_view limit = record { drawn = []; kept = []; under = []; known = []; told = false; share = 65536; limit = limit; steps = 0 }
 
 -- what a join leaves of the seat that is taken in
 abbrev pub spent : View
-spent = record { drawn = []; kept = []; known = []; told = false; share = 0; limit = 0 }
+spent = record { drawn = []; kept = []; under = []; known = []; told = false; share = 0; limit = 0; steps = 0 }
 
--- a split takes one share
+-- the seat after one more step, which told it nothing new
+abbrev pub stepped : View → View
+stepped v = record v { steps = v.steps + 1 }
+
+-- a split takes one share, by one step
 abbrev pub less_one : View → View
-less_one v = record v { share = v.share - 1 }
+less_one v = record v { share = v.share - 1; steps = v.steps + 1 }
 
 -- the seat that a split makes drew and kept nothing, has that share, and knows what the first knows
 abbrev pub split_off : View → View
-split_off v = record v { drawn = []; kept = []; share = 1 }
+split_off v = record v { drawn = []; kept = []; under = []; share = 1; steps = 0 }
 
--- a seat that takes another in has the lists and the shares of both, and knows what either knows
+-- a seat that takes another in, by one step, has the lists, the shares and the steps of both, and knows what either knows
 abbrev pub merged : View → View → View
-merged v w = record { drawn = v.drawn ++ w.drawn; kept = v.kept ++ w.kept; known = v.known ++ w.known; told = v.told || w.told; share = v.share + w.share; limit = v.limit }
+merged v w = record {
+  drawn = v.drawn ++ w.drawn;
+  kept = v.kept ++ w.kept;
+  under = v.under ++ w.under;
+  known = v.known ++ w.known;
+  told = v.told || w.told;
+  share = v.share + w.share;
+  limit = v.limit;
+  steps = v.steps + w.steps + 1;
+}
 
--- the seat with one more number drawn, the last
+-- the seat with one more number drawn, the last, by one step
 abbrev pub drew : ℕ → View → View
-drew number v = record v { drawn = v.drawn ++ number ∷ [] }
+drew number v = record v { drawn = v.drawn ++ number ∷ []; steps = v.steps + 1 }
 
--- the seat, told that all numbers are drawn
+-- the seat, told that all numbers are drawn: by one step, or by none where it was told so before
 abbrev pub told_nothing : View → View
-told_nothing v = record v { told = true }
+told_nothing v = record v { told = true; steps = if v.told then v.steps else v.steps + 1 }
 
--- the seat, which knows now that the job is settled
+-- the seat, which knows now, by one step, that the job is settled
 abbrev pub knowing : ℕ → View → View
-knowing job v = record v { known = v.known ++ job ∷ [] }
+knowing job v = record v { known = v.known ++ job ∷ []; steps = v.steps + 1 }
 
--- the seat with one more job kept, the last, which it knows to be settled
-abbrev pub keeping : ℕ → View → View
-keeping job v = record v { kept = v.kept ++ job ∷ []; known = v.known ++ job ∷ [] }
+-- the seat with one more job kept, the last, under a number, by one step; it knows that the job is settled
+abbrev pub keeping : ℕ → ℕ → View → View
+keeping job number v = record v {
+  kept = v.kept ++ job ∷ [];
+  under = v.under ++ number ∷ [];
+  known = v.known ++ job ∷ [];
+  steps = v.steps + 1;
+}
+
+-- whether the seat settled a job under the number, and kept it
+abbrev pub settled_under : View → ℕ → Bool
+settled_under v number = list_any (λ under. under == number) v.under
 
 -- the share of a seat, which is 0 where another took it in
 abbrev pub share_of : View → ℕ

@@ -1,7 +1,7 @@
 //! The board, which threads share, and its calls.
 ghost use Rattle.std.specs.Prelude.{◌≡◌, ◌*◌, ◌<◌, ◌≤◌, IfOk, IsTrue, IsFalse, replicate, false, []};
 ghost use Rattle.work_book.specs.Book.{is_marked};
-ghost use Rattle.work_book.specs.Views.{first_view, less_one, split_off, merged, knowing, knows};
+ghost use Rattle.work_book.specs.Views.{first_view, less_one, split_off, merged, stepped, knowing, knows};
 ghost use Rattle.work_book.specs.Moves.{IsOnce};
 ghost use Rattle.work_book.specs.Board.{seen_by, IsOf, IsLease, HasDrawn, HasGiven, Drawn, SettledAs, Closes, book_of};
 
@@ -65,11 +65,11 @@ impl Board {
         }
     }
 
-    /// Takes another seat in, with all that it drew and kept, and its share.
+    /// Takes another seat in, with all that it drew and kept, and its share, by two atomic steps, both loads.
     pub fn join(&self, seat: &mut WorkSeat, other: WorkSeat)
         requires board { IsOf self.now seat.old × IsOf self.now other }
         ensures board { IsOf self.now seat.new }
-        ensures both { seen_by seat.new ≡ merged (seen_by seat.old) (seen_by other) }
+        ensures both { seen_by seat.new ≡ stepped (merged (seen_by seat.old) (seen_by other)) }
         ensures once { IsOnce (seen_by seat.new) }
     {
         let WorkSeat {
@@ -109,7 +109,7 @@ impl Board {
         requires job { job < self.now.jobs }
         ensures board { IsOf self.now seat.new }
         ensures settled { IsTrue result → seen_by seat.new ≡ knowing job (seen_by seat.old) }
-        ensures unsettled { IsFalse result → (seen_by seat.new ≡ seen_by seat.old) × (knows (seen_by seat.old) job ≡ false) }
+        ensures unsettled { IsFalse result → (seen_by seat.new ≡ stepped (seen_by seat.old)) × (knows (seen_by seat.old) job ≡ false) }
     {
         let mark = self
             .table
@@ -126,7 +126,7 @@ impl Board {
         requires lease { IsLease self.now lease }
         requires drawn { HasDrawn (seen_by seat.old) lease }
         ensures board { IsOf self.now seat.new }
-        ensures settled { SettledAs (seen_by seat.old) lease.job result (seen_by seat.new) }
+        ensures settled { SettledAs (seen_by seat.old) lease result (seen_by seat.new) }
     {
         let found = self.table.shared.compare_exchange::<Settling>(
             &mut seat.seat,

@@ -15,6 +15,8 @@ pub struct View {
     pub drawn: LinkedList<u64>,
     /// The jobs that it was the first to settle.
     pub kept: LinkedList<u32>,
+    /// The numbers under which it did, in the same order.
+    pub under: LinkedList<u64>,
     /// The jobs that it knows to be settled.
     pub known: LinkedList<u32>,
     /// Whether it was told that all numbers are drawn.
@@ -23,6 +25,8 @@ pub struct View {
     pub share: u32,
     /// Where the numbers of its board stop.
     pub limit: u64,
+    /// How many atomic steps it made, itself or by a seat that it took in.
+    pub steps: u64,
 }
 
 /// The rule of a board. Word 0 counts draws, and word j + 1 is the mark of job j.

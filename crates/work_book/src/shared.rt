@@ -19,7 +19,7 @@ pub enum Draw {
 
 /// A book of work that threads share: a word for the next number, and one for each job.
 ///
-/// Every call is one atomic step at most, takes no lock and waits for nobody.
+/// Every call is one atomic step at most, but `join`, which is two. None takes a lock or waits for anybody.
 #[derive(Drop)]
 pub struct Board {
     pub(crate) table: Table<(), View, Extent, Numbers, Global>,

@@ -96,11 +96,11 @@ known_last job xs now e = ap (list_any (λ known. known == job)) e ∙ list_any-
     last true = refl
     last false = ap (λ b. b || false) itself
 
-pub known_after : (v w : View) (job : ℕ) (s : Settled) → SettledAs v job s w → knows w job ≡ true
-known_after v w job Kept e = known_last job v.known w.known (ap (λ (z : View). z.known) e.0)
-known_after v w job Double e = known_last job v.known w.known (ap (λ (z : View). z.known) e)
+pub known_after : (v w : View) (lease : Lease) (s : Settled) → SettledAs v lease s w → knows w lease.job ≡ true
+known_after v w lease Kept e = known_last lease.job v.known w.known (ap (λ (z : View). z.known) e.0)
+known_after v w lease Double e = known_last lease.job v.known w.known (ap (λ (z : View). z.known) e)
 
 -- a settle of a job that the seat knows to be settled keeps nothing
-pub settles_known : (v w : View) (job : ℕ) (s : Settled) → SettledAs v job s w → knows v job ≡ true → w.kept ≡ v.kept
-settles_known v w job Kept e known = let clash : true ≡ false = sym known ∙ e.1 in cc
-settles_known v w job Double e known = ap (λ (z : View). z.kept) e
+pub settles_known : (v w : View) (lease : Lease) (s : Settled) → SettledAs v lease s w → knows v lease.job ≡ true → w.kept ≡ v.kept
+settles_known v w lease Kept e known = let clash : true ≡ false = sym known ∙ e.1 in cc
+settles_known v w lease Double e known = ap (λ (z : View). z.kept) e

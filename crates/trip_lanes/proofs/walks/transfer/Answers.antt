@@ -7,7 +7,7 @@ use Rattle.trip_lanes.proofs.Walking.{transfer_one, transfer_each}
 use Rattle.trip_lanes.specs.Lane.{lane}
 use Rattle.trip_lanes.proofs.Lower.{lane_old}
 use Rattle.trip_lanes.proofs.Carry.{lane_falls}
-use Rattle.trip_lanes.proofs.LaneWalk.{later_is, change_is, changed_by}
+use Rattle.trip_lanes.proofs.LaneWalk.{later_is, change_ends, changed_by}
 use Rattle.trip_lanes.proofs.walks.transfer.Goals as goal
 
 pub walk_from-requires : goal.walk_from-requires
@@ -37,7 +37,7 @@ loop-stop-preserved c =
           let b = lane_falls (lane k c.loop-stop.ready) (lane k c.lower_all.new.labels) (c.lower_all.ensures k l) p in
           omega arith in
           transfer_one feet ride x c.leaving.result.now c.leaving.ensures (c.loop-stop.invariant.lanes k l)
-          (change_is feet c.known.ensures ride x (lane k c.loop-stop.ready) (lane k c.lower_all.new.labels) early before
+          (change_ends feet c.known.ensures ride x (lane k c.loop-stop.ready) (lane k c.lower_all.new.labels) early before
           (changed_by x (slice_index c.later.result k) (slice_index ride x) c.change.result (slice_index feet.changes x) (rw read (c.later.ensures k l)) c.change.ensures (c.lower_all.ensures k l)))
           (later_is feet c.known.ensures x c.leaving.result.now (slice_index ride x) (lane k c.lower_all.new.labels) (lane k c.walk_from.new.ready) c.leaving.ensures (λ ne. omega (arith, early ne)) fits (rw read (c.walk_from.ensures k l)));
     }

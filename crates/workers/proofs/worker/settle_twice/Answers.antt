@@ -15,7 +15,7 @@ returns-in-Kept-clause-rows g c =
     let job = c.args.lease.job in
     let s = study_of c.args.study.now in
     let once : w.kept ≡ v.kept ++ job ∷ [] = ap (λ (z : View). z.kept) c.in-Kept.ensures.settled.0 in
-    let twice : x.kept ≡ w.kept = settles_known w x job c.settle-second.result c.settle-second.ensures.settled (known_after v w job Kept c.in-Kept.ensures.settled) in
+    let twice : x.kept ≡ w.kept = settles_known w x c.args.lease c.settle-second.result c.settle-second.ensures.settled (known_after v w c.args.lease Kept c.in-Kept.ensures.settled) in
     let now : x.kept ≡ v.kept ++ job ∷ [] = twice ∙ once in
     let one = holds_new s c.args.rows.now.items c.push_reserved.new.self.items v.kept x.kept job c.in_ok-row.row c.requires.rows c.in_ok-row.ensures (search rules) now in
     holds_again s c.push_reserved.new.self.items c.push_reserved-in-Kept.new.self.items x.kept job c.in_ok-again.again one c.in_ok-again.ensures (last_in job v.kept x.kept now) (search rules)
@@ -25,7 +25,6 @@ returns-in-Double-clause-rows g c =
     let v = seen_by c.args.seat.now in
     let w = seen_by c.settle-first.new.seat in
     let x = seen_by c.settle-second.new.seat in
-    let job = c.args.lease.job in
     let once : w.kept ≡ v.kept = ap (λ (z : View). z.kept) c.in-Double.ensures.settled in
-    let twice : x.kept ≡ w.kept = settles_known w x job c.settle-second.result c.settle-second.ensures.settled (known_after v w job Double c.in-Double.ensures.settled) in
+    let twice : x.kept ≡ w.kept = settles_known w x c.args.lease c.settle-second.result c.settle-second.ensures.settled (known_after v w c.args.lease Double c.in-Double.ensures.settled) in
     holds_same (study_of c.args.study.now) c.args.rows.now.items c.reserve.new.self.items v.kept x.kept c.requires.rows (search rules) (twice ∙ once)

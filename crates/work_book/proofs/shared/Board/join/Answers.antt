@@ -1,5 +1,7 @@
-use Rattle.std.proofs.Common.{rules}
-use Rattle.work_book.proofs.Sharing.{joins, shows}
+use Rattle.std.proofs.Common.{rules, subst, sym}
+use Rattle.work_book.specs.Moves.{IsOnce}
+use Rattle.work_book.proofs.Marking.{shows}
+use Rattle.work_book.proofs.Sharing.{joins}
 use Rattle.work_book.proofs.shared.Board.join.Goals as goal
 
 pub join_seat-requires : goal.join_seat-requires
@@ -7,3 +9,6 @@ join_seat-requires c = (search rules, search rules, search rules, search rules, 
 
 pub load-requires : goal.load-requires
 load-requires c = (search rules, search rules, shows _ _ _ _)
+
+pub returns-clause-once : goal.returns-clause-once
+returns-clause-once c = let told = c.load.ensures.2 in subst IsOnce (sym told.1) (record { drawn = told.2.drawn; kept = told.2.kept })

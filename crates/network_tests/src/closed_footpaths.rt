@@ -1,7 +1,11 @@
-//! Worked examples of closed footpaths.
-use crate::{Direct, FootFault, close, closures_are_unique, limit_fits, too_many_have_no_closure};
-use std::alloc::Global;
-use timetable::{Feet, MOST_FOOTPATHS, MOST_STOPS, StopNo};
+//! Worked examples of closed footpaths: those of a feed whose stops are named by their numbers, and of a file.
+use crate::small_feeds::feed_in;
+use footpaths::{
+    Direct, FootFault, close, closures_are_unique, direct, limit_fits, too_many_have_no_closure,
+};
+use gtfs_tables::{Feed, FeedBytes, file_fits};
+use std::alloc::{AllocError, Global};
+use timetable::{Feet, StopNo};
 
 /// The direct footpaths of a test.
 #[derive(Clone, Copy)]
@@ -38,52 +42,115 @@ enum Trial<'a> {
     Direct(usize, (StopNo, StopNo, u32)),
 }
 
-/// Adds a footpath where it may be added.
-fn add(direct: &mut Direct, from: u32, to: u32, seconds: u32) -> Option<()> {
-    let fits = from < direct.stops() && to < direct.stops() && from != to;
-    if !fits || direct.pairs().len() >= MOST_FOOTPATHS {
+/// Adds the record of a footpath: from, to, and seconds.
+fn add(
+    alloc: Global,
+    records: &mut Vec<u8>,
+    from: u32,
+    to: u32,
+    seconds: u32,
+) -> Result<(), AllocError> {
+    let record = format!(in alloc; "{from},{to},{seconds}\n")?;
+    records.extend_from_slice(record.as_bytes())
+}
+
+fn add_list(
+    alloc: Global,
+    records: &mut Vec<u8>,
+    paths: &[(u32, u32, u32)],
+) -> Result<(), AllocError> {
+    for (from, to, seconds) in paths {
+        add(alloc, records, *from, *to, *seconds)?;
+    }
+    Ok(())
+}
+
+fn add_hub(alloc: Global, records: &mut Vec<u8>, stops: u32) -> Result<(), AllocError> {
+    for stop in 1..stops {
+        add(alloc, records, 0, stop, 60)?;
+        add(alloc, records, stop, 0, 60)?;
+    }
+    Ok(())
+}
+
+fn add_near(
+    alloc: Global,
+    records: &mut Vec<u8>,
+    stops: u32,
+    from: u32,
+    near: u32,
+) -> Result<(), AllocError> {
+    for step in 0..near {
+        let to = from.saturating_add(step).saturating_add(1);
+        let round = to.checked_sub(stops);
+        add(alloc, records, from, round.unwrap_or(to), 60)?;
+    }
+    Ok(())
+}
+
+fn add_ring(alloc: Global, records: &mut Vec<u8>, stops: u32, near: u32) -> Result<(), AllocError> {
+    for stop in 0..stops {
+        add_near(alloc, records, stops, stop, near)?;
+    }
+    Ok(())
+}
+
+/// The file of the given footpaths between so many stops.
+fn file_of(alloc: Global, stops: u32, given: Given<'_>) -> Result<Vec<u8>, AllocError> {
+    let mut records = Vec::from_slice(alloc, b"from_stop_id,to_stop_id,seconds\n")?;
+    match given {
+        Given::List(paths) => add_list(alloc, &mut records, paths)?,
+        Given::Hub => add_hub(alloc, &mut records, stops)?,
+        Given::Ring(near) => add_ring(alloc, &mut records, stops, near)?,
+    }
+    Ok(records)
+}
+
+/// A header, and for each of so many stops a record that begins with its number.
+fn numbered(alloc: Global, header: &str, stops: u32, rest: &str) -> Result<Vec<u8>, AllocError> {
+    let mut records = Vec::from_slice(alloc, header.as_bytes())?;
+    for stop in 0..stops {
+        let record = format!(in alloc; "{stop},{stop}{rest}\n")?;
+        records.extend_from_slice(record.as_bytes())?;
+    }
+    Ok(records)
+}
+
+/// A feed of so many stops, each with a change time of 90 seconds, and no trips.
+fn feed_of(alloc: Global, stops: u32) -> Option<Box<Feed>> {
+    let names = numbered(alloc, "stop_id,stop_name\n", stops, "").ok()?;
+    let header = "from_stop_id,to_stop_id,transfer_type,min_transfer_time\n";
+    let changes = numbered(alloc, header, stops, ",2,90").ok()?;
+    let files = FeedBytes {
+        stops: Some(names.as_slice()),
+        routes: Some(b"route_id\n"),
+        calendar: None,
+        calendar_dates: Some(b"service_id,date,exception_type\n"),
+        trips: Some(b"route_id,service_id,trip_id\n"),
+        stop_times: Some(b"trip_id,stop_id,stop_sequence\n"),
+        frequencies: None,
+        transfers: Some(changes.as_slice()),
+    };
+    feed_in(alloc, files)
+}
+
+/// The direct footpaths of a feed and a file, none where there are none. They stand in a box, so that whoever holds them lets
+/// go of them in one step.
+fn direct_in(alloc: Global, feed: &Feed, own: &[u8]) -> Option<Box<Direct>> {
+    if !file_fits(Some(own)) {
         return None;
     }
-    direct.push(StopNo(from), StopNo(to), seconds).ok()
+    match direct(alloc, feed, Some(own)) {
+        Ok(direct) => Box::new(alloc, direct).ok(),
+        Err(_) => None,
+    }
 }
 
-fn add_list(direct: &mut Direct, paths: &[(u32, u32, u32)]) -> Option<()> {
-    for (from, to, seconds) in paths {
-        add(direct, *from, *to, *seconds)?;
-    }
-    Some(())
-}
-
-fn add_hub(direct: &mut Direct) -> Option<()> {
-    for stop in 1..direct.stops() {
-        add(direct, 0, stop, 60)?;
-        add(direct, stop, 0, 60)?;
-    }
-    Some(())
-}
-
-fn add_near(direct: &mut Direct, from: u32, near: u32) -> Option<()> {
-    for step in 0..near {
-        let to = from.checked_add(step)?.checked_add(1)?;
-        let round = to.checked_sub(direct.stops());
-        add(direct, from, round.unwrap_or(to), 60)?;
-    }
-    Some(())
-}
-
-fn add_ring(direct: &mut Direct, near: u32) -> Option<()> {
-    for stop in 0..direct.stops() {
-        add_near(direct, stop, near)?;
-    }
-    Some(())
-}
-
-fn add_given(direct: &mut Direct, given: Given<'_>) -> Option<()> {
-    match given {
-        Given::List(paths) => add_list(direct, paths),
-        Given::Hub => add_hub(direct),
-        Given::Ring(near) => add_ring(direct, near),
-    }
+/// The given direct footpaths between so many stops.
+fn direct_of(alloc: Global, stops: u32, given: Given<'_>) -> Option<Box<Direct>> {
+    let feed = feed_of(alloc, stops)?;
+    let own = file_of(alloc, stops, given).ok()?;
+    direct_in(alloc, &feed, &own)
 }
 
 /// The walking time between two stops.
@@ -131,8 +198,7 @@ fn are_expected(feet: &Feet, all: &[Expected]) -> bool {
     true
 }
 
-/// Whether the footpaths, closed as far as a limit, are as expected. One function owns the closed footpaths of all tests, since
-/// letting go of them is long to prove.
+/// Whether the footpaths, closed as far as a limit, are as expected.
 fn closes(alloc: Global, direct: &Direct, limit: u32, all: &[Expected]) -> bool {
     if !limit_fits(limit) {
         return false;
@@ -157,22 +223,12 @@ fn holds_of(alloc: Global, direct: &Direct, trial: Trial<'_>) -> bool {
     }
 }
 
-/// Whether the footpaths are added, and a trial of them goes as it should.
-fn adds(alloc: Global, direct: &mut Direct, given: Given<'_>, trial: Trial<'_>) -> bool {
-    add_given(direct, given).is_some() && holds_of(alloc, direct, trial)
-}
-
-/// Whether a trial of the given footpaths between so many stops goes as it should. One function owns the direct footpaths of
-/// all tests.
+/// Whether a trial of the given footpaths between so many stops goes as it should.
 fn holds(alloc: Global, stops: u32, given: Given<'_>, trial: Trial<'_>) -> bool {
-    if stops as usize > MOST_STOPS {
-        return false;
+    match direct_of(alloc, stops, given) {
+        Some(direct) => holds_of(alloc, &direct, trial),
+        None => false,
     }
-    let Some(changes) = vec![in alloc; 90; stops as usize].ok() else {
-        return false;
-    };
-    let mut direct = Direct::new(alloc, stops, changes);
-    adds(alloc, &mut direct, given, trial)
 }
 
 /// Whether the footpaths of a list between three stops, closed as far as a limit, are as expected.

@@ -1,5 +1,5 @@
 //! Worked examples of the direct footpaths of a feed.
-use crate::{Direct, direct};
+use footpaths::{Direct, direct};
 use gtfs_tables::{Feed, FeedBytes, file_fits, read_feed};
 use std::alloc::{AllocError, Global};
 use std::process::Abort;

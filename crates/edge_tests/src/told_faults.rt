@@ -1,35 +1,45 @@
 //! What is told of faults that a study of the small feed has with one file changed. The texts are written by hand.
 
-use crate::advice::limit_of;
-use crate::explain::explanation;
-use crate::tests::{Asked, MONDAY, scenario_file, settings_of, small_inputs};
-use gtfs_tables::FeedBytes;
+use crate::pages::{Page, blank};
+use crate::small_study::{Asked, MONDAY, scenario_file, settings_of, small_inputs};
+use gtfs_tables::{FeedBytes, FeedFault};
+use reports::Report;
 use std::alloc::Global;
 use std::process::Abort;
 use std::sync::Wait;
 use std::thread::Threads;
-use studies::{Inputs, run_study};
+use studies::{Inputs, StudyFault, run_study};
 use table_records::{FileName, What};
 use workers::Open;
 
-/// What is told of the fault of a study.
-fn told_of<R: Threads + Wait + Sync>(
+/// Tells of a fault on a page, beside its line.
+fn tell_on<R: Wait>(page: &Page<'_, R>, alloc: Global, fault: &StudyFault, inputs: &Inputs<'_>) {
+    let report = Report::new(alloc, page, inputs);
+    report.refused(fault, inputs);
+}
+
+/// What is told of a fault, beside its line.
+fn told_of<R: Wait>(rt: &R, alloc: Global, fault: &StudyFault, inputs: &Inputs<'_>) -> Vec<u8> {
+    let page = blank(rt, alloc, MONDAY);
+    tell_on(&page, alloc, fault, inputs);
+    page.text.into_inner()
+}
+
+/// The fault of a study, if it has one.
+fn fault_of<R: Threads + Wait + Sync>(
     rt: &R,
     alloc: Global,
     inputs: &Inputs<'_>,
     asked: Asked,
-) -> Option<String> {
+) -> Option<StudyFault> {
     let settings = settings_of(alloc, asked)?;
     if !inputs.fits() || !settings.fits() {
         return None;
     }
-    match run_study(rt, alloc, inputs, &settings, &Open) {
-        Ok(_) => None,
-        Err(fault) => explanation(alloc, &fault, inputs),
-    }
+    run_study(rt, alloc, inputs, &settings, &Open).err()
 }
 
-/// That this is told of the fault of a study on the Monday.
+/// That this is told of the fault of a study.
 fn expect<R: Threads + Wait + Sync + Abort>(
     rt: &R,
     alloc: Global,
@@ -37,11 +47,12 @@ fn expect<R: Threads + Wait + Sync + Abort>(
     asked: Asked,
     text: &str,
 ) {
-    let Some(told) = told_of(rt, alloc, inputs, asked) else {
-        assert!(rt; false, "nothing is told in place of {text}");
+    let Some(fault) = fault_of(rt, alloc, inputs, asked) else {
+        assert!(rt; false, "no fault in place of {text}");
         return;
     };
-    assert_eq!(rt; told.as_str(), text);
+    let told = told_of(rt, alloc, &fault, inputs);
+    assert_eq!(rt; told.as_slice(), text.as_bytes());
 }
 
 #[test]
@@ -516,30 +527,39 @@ fn an_open_time_is_not_what_was_refused(rt: HostRuntime) {
     );
 }
 
-/// That this is the limit of a file.
-fn expect_limit(rt: &impl Abort, file: FileName, words: &'static str) {
-    assert!(rt; limit_of(file, What::TooMany) == Some(words));
+/// That this is told of a fault of a file that has fewer records.
+fn expect_told(rt: &(impl Wait + Abort), alloc: Global, file: FileName, what: What, text: &str) {
+    let fault = StudyFault::Feed(FeedFault::at(file, 9, what));
+    let told = told_of(rt, alloc, &fault, &small_inputs());
+    assert_eq!(rt; told.as_slice(), text.as_bytes());
 }
 
 #[test]
 fn files_have_their_limits(rt: HostRuntime) {
-    expect_limit(
+    let alloc = rt.alloc();
+    expect_told(
         &rt,
+        alloc,
         FileName::Stops,
-        "stops.txt may have 65535 records beside its header",
+        What::TooMany,
+        "ttm: stops.txt may have 65535 records beside its header\n",
     );
-    expect_limit(
+    expect_told(
         &rt,
+        alloc,
         FileName::Trips,
-        "trips.txt may have 1000000 records beside its header",
+        What::TooMany,
+        "ttm: trips.txt may have 1000000 records beside its header\n",
     );
-    expect_limit(
+    expect_told(
         &rt,
+        alloc,
         FileName::StopTimes,
-        "stop_times.txt may have 8000000 records beside its header",
+        What::TooMany,
+        "ttm: stop_times.txt may have 8000000 records beside its header\n",
     );
-    assert!(rt; limit_of(FileName::Trips, What::BadNumber).is_none());
-    assert!(rt; limit_of(FileName::Routes, What::TooMany).is_none());
+    expect_told(&rt, alloc, FileName::Trips, What::BadNumber, "");
+    expect_told(&rt, alloc, FileName::Routes, What::TooMany, "");
 }
 
 #[test]

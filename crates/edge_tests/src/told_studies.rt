@@ -1,154 +1,16 @@
 //! What is told of studies of the small feed. The texts are written by hand.
 
-use crate::console::Console;
-use crate::memory::{Memory, memory_of};
-use crate::progress::moving_line;
-use crate::report::Report;
-use gtfs_tables::{FeedBytes, read_date};
+use crate::pages::{Page, blank};
+use crate::small_study::{Asked, MONDAY, scenario_file, settings_of, small_inputs};
+use gtfs_tables::FeedBytes;
+use reports::{Console, Report, memory_of};
 use std::alloc::Global;
 use std::process::Abort;
-use std::sync::atomic::{AtomicU64, Ordering};
-use std::sync::{Mutex, Wait};
-use std::test::Fail;
+use std::sync::Wait;
 use std::thread::Threads;
-use studies::{Inputs, NamedFile, Settings, watch_study};
+use studies::{Inputs, NamedFile, watch_study};
 use work_book::{Lease, Settled};
 use workers::{Gate, Verdict};
-
-/// A console that keeps what is told, with a clock that goes on by so much at each look.
-#[derive(Drop)]
-struct Page<'r, R> {
-    rt: &'r R,
-    text: Mutex<Vec<u8>>,
-    clock: AtomicU64,
-    step: u64,
-    terminal: bool,
-    free: u64,
-}
-
-impl<'r, R: Wait> Console for Page<'r, R> {
-    fn tell(&self, text: &[u8]) {
-        let mut all = self.text.lock(self.rt);
-        let _ = all.extend_from_slice(text);
-    }
-
-    fn is_terminal(&self) -> bool {
-        self.terminal
-    }
-
-    fn milliseconds(&self) -> Option<u64> {
-        Some(self.clock.fetch_add(self.step, Ordering::SeqCst))
-    }
-
-    fn memory(&self, _alloc: Global) -> Memory {
-        Memory {
-            free: Some(self.free),
-            peak: Some(500),
-        }
-    }
-}
-
-const STOPS: &[u8] = b"stop_id,stop_name
-A,Alpha
-B,Beta
-C,Gamma
-";
-
-const ROUTES: &[u8] = b"route_id
-R1
-R2
-";
-
-const CALENDAR: &[u8] =
-    b"service_id,monday,tuesday,wednesday,thursday,friday,saturday,sunday,start_date,end_date
-MON,1,0,0,0,0,0,0,20260504,20260531
-";
-
-const TRIPS: &[u8] = b"route_id,service_id,trip_id
-R1,MON,T1
-R2,MON,T2
-";
-
-const STOP_TIMES: &[u8] = b"trip_id,arrival_time,departure_time,stop_id,stop_sequence
-T1,08:00:00,08:00:00,A,1
-T1,08:10:00,08:10:00,B,2
-T2,08:15:00,08:15:00,B,1
-T2,08:30:00,08:30:00,C,2
-";
-
-const WALKS: &[u8] = b"from_stop_id,to_stop_id,seconds
-A,B,60
-B,C,60
-";
-
-const FROM_A: &[u8] = b"stop_id
-A
-";
-
-/// What is asked: the date, the days before and after it that count, and the shares; and what the console is like: when its
-/// clock begins and by how much it goes on, and what the machine has free.
-#[derive(Clone, Copy)]
-pub(crate) struct Asked {
-    pub(crate) date: &'static [u8],
-    pub(crate) back: u32,
-    pub(crate) ahead: u32,
-    pub(crate) shares: &'static [u32],
-    pub(crate) start: u64,
-    pub(crate) step: u64,
-    pub(crate) terminal: bool,
-    pub(crate) free: u64,
-}
-
-pub(crate) const MONDAY: Asked = Asked {
-    date: b"20260504",
-    back: 1,
-    ahead: 1,
-    shares: &[50],
-    start: 0,
-    step: 61_000,
-    terminal: false,
-    free: 1000,
-};
-
-/// The small feed, with walks, from stop A.
-pub(crate) fn small_inputs() -> Inputs<'static> {
-    Inputs {
-        feed: FeedBytes {
-            stops: Some(STOPS),
-            routes: Some(ROUTES),
-            calendar: Some(CALENDAR),
-            calendar_dates: None,
-            trips: Some(TRIPS),
-            stop_times: Some(STOP_TIMES),
-            frequencies: None,
-            transfers: None,
-        },
-        footpaths: Some(WALKS),
-        origins: Some(FROM_A),
-        opportunities: None,
-        scenarios: &[],
-    }
-}
-
-/// The settings of a study of one minute, by one worker.
-pub(crate) fn settings_of(alloc: Global, asked: Asked) -> Option<Settings> {
-    let date = read_date(asked.date)?;
-    let shares = Vec::from_slice(alloc, asked.shares).ok()?;
-    let withins = Vec::from_slice(alloc, &[1800]).ok()?;
-    Some(Settings {
-        date,
-        back: asked.back,
-        ahead: asked.ahead,
-        first: 480,
-        minutes: 1,
-        rides: 2,
-        walk: 120,
-        shares,
-        withins,
-        workers: 1,
-        tries: 1,
-    })
-}
 
 /// A gate that loses each lease.
 #[derive(Clone, Copy)]
@@ -185,18 +47,6 @@ fn is_made<R: Threads + Wait + Sync>(
     };
     report.ended();
     made
-}
-
-/// A page on which nothing is told yet.
-fn blank<R: Wait>(rt: &R, alloc: Global, asked: Asked) -> Page<'_, R> {
-    Page {
-        rt,
-        text: Mutex::new(Vec::new(alloc)),
-        clock: AtomicU64::new(asked.start),
-        step: asked.step,
-        terminal: asked.terminal,
-        free: asked.free,
-    }
 }
 
 /// That a study is made, and what is told of it.
@@ -311,13 +161,6 @@ fn two_scenarios(alloc: Global) -> Option<Vec<NamedFile>> {
     Some(files)
 }
 
-/// A scenario file.
-pub(crate) fn scenario_file(alloc: Global, name: &[u8], bytes: &[u8]) -> Option<NamedFile> {
-    let name = Vec::from_slice(alloc, name).ok()?;
-    let bytes = Vec::from_slice(alloc, bytes).ok()?;
-    Some(NamedFile { name, bytes })
-}
-
 #[test]
 fn rows_of_scenarios_move_along_on_a_terminal(rt: HostRuntime) {
     let alloc = rt.alloc();
@@ -393,32 +236,41 @@ fn late(alloc: Global) -> Option<Vec<NamedFile>> {
     Some(files)
 }
 
-#[test]
-fn each_row_of_a_long_run_is_told(rt: HostRuntime) {
-    let alloc = rt.alloc();
-    let Some(files) = late(alloc) else {
-        assert!(rt; false);
-        return;
-    };
+/// What is asked of a long run: four rows.
+const LONG_RUN: Asked = Asked {
+    back: 2,
+    shares: &[25, 50],
+    start: 7_000_000,
+    step: 1_000_000,
+    free: 336,
+    ..MONDAY
+};
+
+/// What is told of a long run, none where there is no matrix.
+fn long_run<R: Threads + Wait + Sync>(rt: &R, alloc: Global, asked: Asked) -> Option<Vec<u8>> {
+    let files = late(alloc)?;
     let inputs = Inputs {
         feed: feed_with_leavings(),
         origins: Some(b"stop_id\nB\nA\n"),
         scenarios: files.as_slice(),
         ..small_inputs()
     };
-    let asked = Asked {
-        back: 2,
-        shares: &[25, 50],
-        start: 7_000_000,
-        step: 1_000_000,
-        free: 336,
-        ..MONDAY
+    let page = blank(rt, alloc, asked);
+    if is_made(rt, alloc, &page, &inputs, asked, false) {
+        Some(page.text.into_inner())
+    } else {
+        None
+    }
+}
+
+#[test]
+fn each_row_of_a_long_run_is_told(rt: HostRuntime) {
+    let Some(told) = long_run(&rt, rt.alloc(), LONG_RUN) else {
+        assert!(rt; false);
+        return;
     };
-    expect(
-        &rt,
-        alloc,
-        &inputs,
-        asked,
+    assert_eq!(rt;
+        told.as_slice(),
         b"ttm: stops: 3
 ttm: routes: 2
 ttm: trips: 3
@@ -444,7 +296,8 @@ ttm: rows done: 4 of 4, 100 percent, about 0:00:00 left
 ttm: rows done: 4 of 4
 ttm: time: 1:40:00
 ttm: bytes taken at most: 500
-",
+"
+            .as_slice()
     );
 }
 
@@ -491,13 +344,49 @@ fn rows_that_are_lost_are_not_done(rt: HostRuntime) {
     );
 }
 
+/// Whether what is told on a terminal of a long run ends so, with a clock of such steps.
+fn moves(rt: &(impl Threads + Wait + Sync), alloc: Global, step: u64, text: &[u8]) -> bool {
+    let asked = Asked {
+        step,
+        terminal: true,
+        ..LONG_RUN
+    };
+    match long_run(rt, alloc, asked) {
+        Some(told) => told.as_slice().ends_with(text),
+        None => false,
+    }
+}
+
 #[test]
-fn a_shorter_line_covers_the_one_before(rt: HostRuntime) -> Result<(), Fail> {
-    let line = moving_line(format!(in rt.alloc(); "ttm: 1")?, 9)?;
-    assert_eq!(rt; line.as_str(), "ttm: 1   \r");
-    let longer = moving_line(format!(in rt.alloc(); "ttm: 10")?, 6)?;
-    assert_eq!(rt; longer.as_str(), "ttm: 10\r");
-    Ok(())
+fn a_shorter_line_covers_the_one_before(rt: HostRuntime) {
+    let alloc = rt.alloc();
+    // the second line is one byte shorter than the first, and the last one byte longer than the third
+    assert!(rt;
+        moves(
+            &rt,
+            alloc,
+            12_000_000,
+            b"free: 336
+ttm: rows done: 1 of 4, 25 percent, about 10:00:00 left\rttm: rows done: 2 of 4, 50 percent, about 6:40:00 left \rttm: rows done: 3 of 4, 75 percent, about 3:20:00 left\rttm: rows done: 4 of 4, 100 percent, about 0:00:00 left\r
+ttm: rows done: 4 of 4
+ttm: time: 20:00:00
+ttm: bytes taken at most: 500
+"
+        )
+    );
+    // the last line is two bytes shorter than the third
+    assert!(rt;
+        moves(
+            &rt,
+            alloc,
+            3_600_000_000,
+            b"about 1000:00:00 left\rttm: rows done: 4 of 4, 100 percent, about 0:00:00 left  \r
+ttm: rows done: 4 of 4
+ttm: time: 6000:00:00
+ttm: bytes taken at most: 500
+"
+        )
+    );
 }
 
 #[test]
