@@ -4,7 +4,7 @@ ghost use Rattle.service_days.specs.Instances.{IsRun};
 ghost use Rattle.studies.specs.Inputs.{AreWithinLimit, inputs_of};
 ghost use Rattle.studies.specs.Parts.{direct_in, feed_in, network_faults, networks_of, scenarios_in};
 ghost use Rattle.studies.specs.Settings.{SettingsFit};
-ghost use Rattle.studies.specs.Stages.{TellsNetworks};
+ghost use Rattle.studies.specs.Stages.{IsOfNoRun, TellsNetworks};
 ghost use Rattle.studies.specs.Study.{AreEdited, AreNetworks, AreRead, Tells};
 
 use crate::fault::StudyFault;
@@ -35,6 +35,7 @@ pub(crate) fn make_networks<W: Watch>(
     requires direct { direct.now ≡ direct_in (inputs_of inputs.now) }
     ensures networks { IfOk result (λ v. AreNetworks (inputs_of inputs.now) settings.now v.items) }
     ensures fault { IfErr result (λ e. Tells e (inputs_of inputs.now) settings.now) }
+    ensures no_run { IfErr result IsOfNoRun }
 {
     let scenarios = match read_scenarios(alloc, inputs.scenarios, feed) {
         Ok(scenarios) => scenarios,
@@ -60,6 +61,7 @@ fn networks_for<W: Watch>(
     requires scenarios { scenarios.now ≡ scenarios_in (inputs_of inputs.now) }
     ensures networks { IfOk result (λ v. AreNetworks (inputs_of inputs.now) settings.now v.items) }
     ensures fault { IfErr result (λ e. Tells e (inputs_of inputs.now) settings.now) }
+    ensures no_run { IfErr result IsOfNoRun }
 {
     let runs = match active(alloc, feed, settings.date, settings.back, settings.ahead) {
         Ok(runs) => runs,
@@ -88,6 +90,7 @@ fn all_networks(
     ensures good { IfOk result (λ _. network_faults feed.now runs.now 0 scenarios.now ≡ []) }
     ensures networks { IfOk result (λ v. v.items ≡ networks_of feed.now runs.now feet.now scenarios.now) }
     ensures fault { IfErr result (λ e. TellsNetworks e feed.now runs.now scenarios.now) }
+    ensures no_run { IfErr result IsOfNoRun }
 {
     let mut networks = Vec::new(alloc);
     for (i, scenario) in scenarios.iter().enumerate() {

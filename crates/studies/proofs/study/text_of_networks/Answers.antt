@@ -21,7 +21,7 @@ returns-in-Err-clause-fault g c =
     let i = inputs_of c.args.inputs.now in
     let origins = c.as_slice.ensures.value ∙ c.requires.tables.origins_are ∙ ap (λ (d : FeedData). origins_of i.origins d) c.requires.feed in
     let opportunities = c.as_slice-2.ensures.value ∙ c.requires.tables.opportunities_are ∙ ap (λ (d : FeedData). opportunities_of i.opportunities d) c.requires.feed in
-    inl (run_told i c.args.settings.now c.args.networks.now _ c.in-Err.fault c.requires.networks
+    inl (run_told (g.G.Gate.decides c.args.gate.now) (g.G.Gate.was_told c.args.gate.now) i c.args.settings.now c.args.networks.now _ c.in-Err.fault c.requires.networks
     (study_is i c.args.settings.now c.args.networks.now c.as_slice.result.now c.as_slice-2.result.now (query_of c.asked.result) origins opportunities c.asked.ensures)
     c.in-Err.ensures.fault)
 
@@ -60,4 +60,5 @@ returns-clause-text g c =
     c.in-Ok.ensures.matrix c.text_of_matrix.ensures.text
 
 pub returns-clause-fault : goal.returns-clause-fault
-returns-clause-fault g c = text_told (inputs_of c.args.inputs.now) c.args.settings.now c.text_of_matrix.result c.text_of_matrix.ensures.fault
+returns-clause-fault g c =
+    text_told (inputs_of c.args.inputs.now) c.args.settings.now (g.G.Gate.decides c.args.gate.now) (g.G.Gate.was_told c.args.gate.now) c.text_of_matrix.result c.text_of_matrix.ensures.fault
