@@ -18,6 +18,8 @@ mod day_lines;
 mod explain;
 #[cfg(test)]
 mod explain_tests;
+#[cfg(test)]
+mod gate_tests;
 mod lines;
 mod measures;
 mod memory;

@@ -11,3 +11,4 @@ pub mod FewOrigins
 pub mod StudyFacts
 pub mod OneMeaning
 pub mod AnyGate
+pub mod Saw

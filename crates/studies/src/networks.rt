@@ -5,6 +5,7 @@ ghost use Rattle.studies.specs.Inputs.{AreWithinLimit, inputs_of};
 ghost use Rattle.studies.specs.Parts.{direct_in, feed_in, network_faults, networks_of, scenarios_in};
 ghost use Rattle.studies.specs.Settings.{SettingsFit};
 ghost use Rattle.studies.specs.Stages.{IsOfNoRun, TellsNetworks};
+ghost use Rattle.studies.specs.Watched.{read, listed};
 ghost use Rattle.studies.specs.Study.{AreEdited, AreNetworks, AreRead, Tells};
 
 use crate::fault::StudyFault;
@@ -33,7 +34,9 @@ pub(crate) fn make_networks<W: Watch>(
     requires read { AreRead (inputs_of inputs.now) }
     requires feed { feed.now ≡ feed_in (inputs_of inputs.now) }
     requires direct { direct.now ≡ direct_in (inputs_of inputs.now) }
+    requires told { W.saw watch.now read }
     ensures networks { IfOk result (λ v. AreNetworks (inputs_of inputs.now) settings.now v.items) }
+    ensures told { IfOk result (λ _. W.saw watch.now listed) }
     ensures fault { IfErr result (λ e. Tells e (inputs_of inputs.now) settings.now) }
     ensures no_run { IfErr result IsOfNoRun }
 {
@@ -58,8 +61,10 @@ fn networks_for<W: Watch>(
     requires edited { AreEdited (inputs_of inputs.now) }
     requires feed { feed.now ≡ feed_in (inputs_of inputs.now) }
     requires direct { direct.now ≡ direct_in (inputs_of inputs.now) }
+    requires told { W.saw watch.now read }
     requires scenarios { scenarios.now ≡ scenarios_in (inputs_of inputs.now) }
     ensures networks { IfOk result (λ v. AreNetworks (inputs_of inputs.now) settings.now v.items) }
+    ensures told { IfOk result (λ _. W.saw watch.now listed) }
     ensures fault { IfErr result (λ e. Tells e (inputs_of inputs.now) settings.now) }
     ensures no_run { IfErr result IsOfNoRun }
 {

@@ -8,6 +8,7 @@ ghost use Rattle.studies.specs.Inputs.{AreWithinLimit, inputs_of};
 ghost use Rattle.studies.specs.Parts.{feed_in, labels_in};
 ghost use Rattle.studies.specs.Settings.{SettingsFit};
 ghost use Rattle.studies.specs.Stages.{AreTables, IsFeedOf, TellsText};
+ghost use Rattle.studies.specs.Watched.{SawAll, read, listed};
 ghost use Rattle.studies.specs.Study.{AreNamed, AreNetworks, AreRead, IsStudyText, Tells, TellsBy};
 
 use crate::fault::StudyFault;
@@ -67,6 +68,7 @@ pub fn watch_study<G: Gate + Sync, W: Watch, R: Threads + Wait + Sync>(
     requires files { AreWithinLimit (inputs_of inputs.now) }
     requires settings { SettingsFit settings.now }
     ensures text { IfOk result (λ text. IsStudyText (inputs_of inputs.now) settings.now text.items) }
+    ensures told { IfOk result (λ _. SawAll (W.saw watch.now) (inputs_of inputs.now) settings.now) }
     ensures fault { IfErr result (λ e. Tells e (inputs_of inputs.now) settings.now) }
     ensures run { IfErr result (λ e. TellsBy (G.decides gate.now) (G.was_told gate.now) e (inputs_of inputs.now) settings.now) }
 {
@@ -89,6 +91,7 @@ fn text_of_files<G: Gate + Sync, W: Watch, R: Threads + Wait + Sync>(
     requires settings { SettingsFit settings.now }
     requires named { AreNamed (inputs_of inputs.now) }
     ensures text { IfOk result (λ text. IsStudyText (inputs_of inputs.now) settings.now text.items) }
+    ensures told { IfOk result (λ _. SawAll (W.saw watch.now) (inputs_of inputs.now) settings.now) }
     ensures fault { IfErr result (λ e. TellsBy (G.decides gate.now) (G.was_told gate.now) e (inputs_of inputs.now) settings.now) }
 {
     let feed = match read_feed(alloc, &inputs.feed) {
@@ -115,6 +118,7 @@ fn text_of_feed<G: Gate + Sync, W: Watch, R: Threads + Wait + Sync>(
     requires named { AreNamed (inputs_of inputs.now) }
     requires feed { IsFeedOf (inputs_of inputs.now) feed.now }
     ensures text { IfOk result (λ text. IsStudyText (inputs_of inputs.now) settings.now text.items) }
+    ensures told { IfOk result (λ _. SawAll (W.saw watch.now) (inputs_of inputs.now) settings.now) }
     ensures fault { IfErr result (λ e. TellsBy (G.decides gate.now) (G.was_told gate.now) e (inputs_of inputs.now) settings.now) }
 {
     let tables = match read_tables(alloc, inputs, feed) {
@@ -141,7 +145,9 @@ fn text_of_tables<G: Gate + Sync, W: Watch, R: Threads + Wait + Sync>(
     requires read { AreRead (inputs_of inputs.now) }
     requires feed { feed.now ≡ feed_in (inputs_of inputs.now) }
     requires tables { AreTables (inputs_of inputs.now) feed.now tables.now }
+    requires told { W.saw watch.now read }
     ensures text { IfOk result (λ text. IsStudyText (inputs_of inputs.now) settings.now text.items) }
+    ensures told { IfOk result (λ _. SawAll (W.saw watch.now) (inputs_of inputs.now) settings.now) }
     ensures fault { IfErr result (λ e. TellsBy (G.decides gate.now) (G.was_told gate.now) e (inputs_of inputs.now) settings.now) }
 {
     let networks = match make_networks(alloc, inputs, settings, feed, &tables.direct, watch) {
@@ -169,7 +175,9 @@ fn text_of_networks<G: Gate + Sync, W: Watch, R: Threads + Wait + Sync>(
     requires feed { feed.now ≡ feed_in (inputs_of inputs.now) }
     requires tables { AreTables (inputs_of inputs.now) feed.now tables.now }
     requires networks { AreNetworks (inputs_of inputs.now) settings.now networks.now }
+    requires told { W.saw watch.now listed }
     ensures text { IfOk result (λ text. IsStudyText (inputs_of inputs.now) settings.now text.items) }
+    ensures told { IfOk result (λ _. SawAll (W.saw watch.now) (inputs_of inputs.now) settings.now) }
     ensures fault { IfErr result (λ e. TellsBy (G.decides gate.now) (G.was_told gate.now) e (inputs_of inputs.now) settings.now) }
 {
     feed.known();

@@ -1,4 +1,4 @@
-use Rattle.std.proofs.Common.{◌≡◌, ◌*◌, ◌∙◌, ap, rules, subst, sym}
+use Rattle.std.proofs.Common.{◌≡◌, ◌*◌, ◌∙◌, inr, ap, rules, subst, sym}
 use Rattle.std.specs.Prelude.{IfErr}
 use Rattle.work_book.specs.Board.{seen_by}
 use Rattle.work_book.specs.Views.{first_view}
@@ -25,3 +25,6 @@ returns-clause-fault g c =
     subst (λ (x : SettingsData). IfErr r (λ e. IsFaultOfNew s decides was_told x.workers x.tries e)) c.settings.view_is
     (run_fault r s decides was_told board v asked.workers asked.tries jobs c.in-Ok.ensures.size.1
     (subst (λ (z : View). IfErr r (λ e. IsFaultOf s decides was_told board asked.workers z v e)) start c.run_workers-matrix.ensures.fault))
+
+pub returns-clause-told : goal.returns-clause-told
+returns-clause-told g c = inr (c.rows_end.ensures.told (study_of c.args.study.now) c.rows_begin.ensures.told)

@@ -37,3 +37,9 @@ returns-clause-text g c = c.text_of_networks.ensures.text
 
 pub returns-clause-fault : goal.returns-clause-fault
 returns-clause-fault g c = c.text_of_networks.ensures.fault
+
+pub text_of_networks-requires-clause-told : goal.text_of_networks-requires-clause-told
+text_of_networks-requires-clause-told g c = λ _ _. c.in-Ok.ensures.told
+
+pub returns-clause-told : goal.returns-clause-told
+returns-clause-told g c = c.text_of_networks.ensures.told

@@ -24,3 +24,6 @@ returns-in-Err-clause-run g c =
 
 pub returns-in-Err-clause-fault : goal.returns-in-Err-clause-fault
 returns-in-Err-clause-fault g c = names_told (inputs_of c.args.inputs.now) c.args.settings.now c.in-Err.fault c.in-Err.ensures.fault
+
+pub returns-in-Ok-clause-told : goal.returns-in-Ok-clause-told
+returns-in-Ok-clause-told g c = c.text_of_files.ensures.told
