@@ -9,6 +9,7 @@ use crate::measures::time_text;
 use crate::progress::Progress;
 use crate::row_lines::{row_count, tell_rows};
 use crate::table_lines::tell_tables;
+use collector::Matrix;
 use footpaths::Direct;
 use gtfs_tables::Feed;
 use scenarios::Scenario;
@@ -17,7 +18,7 @@ use std::alloc::{AllocError, Global};
 use studies::{Inputs, Settings, StudyFault, Watch};
 use timetable::{Feet, StopNo};
 use work_book::{Lease, Settled};
-use workers::{Gate, Study, Verdict};
+use workers::{Gate, RunFault, Study, Verdict};
 
 /// Tells on a console what a study is made of and how far it is. A study takes it as its watch and as its gate.
 #[derive(Drop)]
@@ -105,7 +106,7 @@ impl<'a, C: Console> Watch for Report<'a, C> {
             .begin(row_count(study), self.console.milliseconds());
     }
 
-    fn rows_end(&self) {
+    fn rows_end(&self, _made: &Result<Matrix, RunFault>) {
         self.progress.end(self.console);
     }
 }

@@ -10,3 +10,5 @@ pub mod NetworkFaults
 pub mod FewOrigins
 pub mod StudyFacts
 pub mod OneMeaning
+pub mod AnyGate
+pub mod Saw

@@ -1,5 +1,5 @@
 -- What each stage of a study tells is told of the files, and what it makes is made of them.
-use Rattle.std.proofs.Common.{◌≡◌, ◌⊎◌, ◌≤◌, ◌<◌, ◌+◌, ◌∙◌, ℕ, suc, List, [], ◌∷◌, All, Result, Ok, Err, ap, subst, sym, refl, inl, inr, length, arith}
+use Rattle.std.proofs.Common.{◌≡◌, ◌⊎◌, ◌≤◌, ◌<◌, ◌+◌, ◌*◌, ◌∙◌, ℕ, suc, List, [], ◌∷◌, All, Result, Ok, Err, ap, subst, sym, refl, inl, inr, length, arith}
 use Rattle.std.specs.Prelude.{IfErr, IfOk}
 use Rattle.std.proofs.lemmas.List.{length-map}
 use Rattle.std.proofs.lemmas.List.Elements.{All-cons, All-nil}
@@ -38,11 +38,14 @@ use Rattle.studies.specs.Names.{names_of}
 use Rattle.studies.specs.Settings.{SettingsData, SettingsFit, query_of, window_of}
 use Rattle.studies.specs.Parts.{direct_in, edit_faults, feed_in, labels_in, network_faults, networks_of, opportunities_in, origins_in, own_faults, runs_in, scenarios_in, study_in}
 use Rattle.work_book.specs.declared.rule.View.{View}
-use Rattle.workers.specs.Outcomes.{IsFaultOf}
+use Rattle.work_book.specs.declared.shared.Board.{Board}
+use Rattle.work_book.specs.Views.{first_view}
+use Rattle.workers.specs.Held.{Decides, WasTold}
+use Rattle.workers.specs.Jobs.{jobs_of}
+use Rattle.workers.specs.Outcomes.{IsFaultOf, IsFaultOfNew}
 use Rattle.workers.specs.declared.faults.RunFault.{RunFault}
-use Rattle.workers.specs.declared.faults.RunFault.TheVariants as run
-use Rattle.studies.specs.Stages.{AreTables, IsFeedOf, TellsEdits, TellsNames, TellsNetworks, TellsRun, TellsText}
-use Rattle.studies.specs.Study.{AreDated, AreEdited, AreNamed, AreNetworks, AreRead, AreWalked, IsFaultOfRun, IsStudyText, Tells}
+use Rattle.studies.specs.Stages.{AreTables, IsFeedOf, TellsEdits, TellsNames, TellsNetworks, TellsText}
+use Rattle.studies.specs.Study.{AreDated, AreEdited, AreNamed, AreNetworks, AreRead, AreWalked, IsFaultOfRun, IsStudyText, Tells, TellsBy}
 use Rattle.studies.proofs.Firsts.{first_left, first_right, none_of_both}
 
 -- settings, by their fields
@@ -128,18 +131,18 @@ module _ (i : InputFiles) (s : SettingsData) where
   pub are_walked : (direct : DirectLists) (feet : FeetData) → AreDated i s → direct ≡ direct_in i → IsClosure direct s.walk feet → AreWalked i s feet
   are_walked direct feet dated is closed = record { dated = dated; walks = subst (λ (d : DirectLists). IsClosure d s.walk feet) is closed }
 
-  pub text_told : {V : Type 0} (r : Result V StudyFault) → IfErr r TellsText → IfErr r (λ e. Tells e i s)
-  text_told (Ok v) h = h
-  text_told (Err fault.Scenarios) h = absurd h
-  text_told (Err (fault.Name k)) h = absurd h
-  text_told (Err (fault.Feed e)) h = absurd h
-  text_told (Err (fault.Scenario k e)) h = absurd h
-  text_told (Err (fault.Days e)) h = absurd h
-  text_told (Err (fault.Feet e)) h = absurd h
-  text_told (Err (fault.Net k e)) h = absurd h
-  text_told (Err (fault.Run e)) h = absurd h
-  text_told (Err (fault.Text e)) h = inl h
-  text_told (Err fault.Memory) h = inl h
+  pub text_told : {V : Type 0} (decides : Decides) (was_told : WasTold) (r : Result V StudyFault) → IfErr r TellsText → IfErr r (λ e. TellsBy decides was_told e i s)
+  text_told decides was_told (Ok v) h = h
+  text_told decides was_told (Err fault.Scenarios) h = absurd h
+  text_told decides was_told (Err (fault.Name k)) h = absurd h
+  text_told decides was_told (Err (fault.Feed e)) h = absurd h
+  text_told decides was_told (Err (fault.Scenario k e)) h = absurd h
+  text_told decides was_told (Err (fault.Days e)) h = absurd h
+  text_told decides was_told (Err (fault.Feet e)) h = absurd h
+  text_told decides was_told (Err (fault.Net k e)) h = absurd h
+  text_told decides was_told (Err (fault.Run e)) h = absurd h
+  text_told decides was_told (Err (fault.Text e)) h = inl h
+  text_told decides was_told (Err fault.Memory) h = inl h
 
 -- the parts before the networks, as they are of the files
 module _ (i : InputFiles) (s : SettingsData) (feed : FeedData) (runs : List Run) (feet : FeetData) (scenarios : List ScenarioData)
@@ -284,15 +287,13 @@ name_count files =
     ap suc (length-map files name) ∙ one_first (length files)
 
 -- what a run of workers tells
-pub run_told : (i : InputFiles) (s : SettingsData) (networks : List Net) (study : StudyData) (e : RunFault) → AreNetworks i s networks → study ≡ study_in i s networks
-    → TellsRun e study → IsFaultOfRun e i s
-run_told i s networks study run.Memory made is h = tt
-run_told i s networks study run.Spawn made is h = (study, record { networks = networks; made = made; study_is = is }, h)
-run_told i s networks study (run.Unfinished scenario origin) made is h = (study, record { networks = networks; made = made; study_is = is }, h.0, h.1)
+pub run_told : (decides : Decides) (was_told : WasTold) (i : InputFiles) (s : SettingsData) (networks : List Net) (study : StudyData) (e : RunFault) → AreNetworks i s networks
+    → study ≡ study_in i s networks → IsFaultOfNew study decides was_told s.workers s.tries e → IsFaultOfRun decides was_told e i s
+run_told decides was_told i s networks study e made is h = record { study = study; means = record { networks = networks; made = made; study_is = is }; why = h }
 
--- what the fault of a run over a board tells of its study
-pub run_fault : (r : Result MatrixData RunFault) (s : StudyData) (v : View) → IfErr r (λ e. IsFaultOf s v e) → IfErr r (λ e. TellsRun e s)
-run_fault (Ok m) s v h = h
-run_fault (Err run.Memory) s v h = tt
-run_fault (Err run.Spawn) s v h = h.0
-run_fault (Err (run.Unfinished scenario origin)) s v h = (h.scenario_in, h.origin_in)
+-- the fault of a run over a new board
+pub run_fault : (r : Result MatrixData RunFault) (s : StudyData) (decides : Decides) (was_told : WasTold) (board : Board) (v : View) (workers tries : ℕ)
+    → board.jobs ≡ jobs_of s → board.tries ≡ tries → IfErr r (λ e. IsFaultOf s decides was_told board workers (first_view (jobs_of s * tries)) v e)
+    → IfErr r (λ e. IsFaultOfNew s decides was_told workers tries e)
+run_fault (Ok m) s decides was_told board v workers tries jobs tries_are h = h
+run_fault (Err e) s decides was_told board v workers tries jobs tries_are h = inr (record { board = board; jobs = jobs; tries_are = tries_are; view = v; why = h })

@@ -9,3 +9,4 @@ pub mod Stages
 pub mod Study
 pub mod Laws
 pub mod FeedFiles
+pub mod Watched

@@ -11,10 +11,6 @@ use Rattle.service_days.specs.declared.run.Run.{Run}
 use Rattle.scenarios.specs.declared.faults.ScenarioWhat.TheVariants as edit
 use Rattle.scenarios.specs.ScenarioData.{ScenarioData}
 use Rattle.matrix_text.specs.declared.faults.TextFault.TheVariants as text
-use Rattle.workers.specs.declared.faults.RunFault.{RunFault}
-use Rattle.workers.specs.declared.faults.RunFault.TheVariants as run
-use Rattle.workers.specs.Jobs.{jobs_of}
-use Rattle.workers.specs.Study.{StudyData}
 use Rattle.studies.specs.declared.fault.StudyFault.{StudyFault}
 use Rattle.studies.specs.declared.fault.StudyFault.TheVariants as fault
 use Rattle.studies.specs.declared.parts.Tables.{Tables}
@@ -55,11 +51,10 @@ TellsNetworks (fault.Net k e) feed runs xs = (e ≡ net.Memory) ⊎ IsFirst (k, 
 TellsNetworks fault.Memory feed runs xs = ⊤
 TellsNetworks _ feed runs xs = ⊥
 
--- want of memory, or a run of workers that gives no matrix: none was started for the study's places, or one has no row
-abbrev pub TellsRun : RunFault → StudyData → Type 0
-TellsRun run.Memory s = ⊤
-TellsRun run.Spawn s = 0 < jobs_of s
-TellsRun (run.Unfinished scenario origin) s = (scenario < length s.networks) × (origin < length s.origins)
+-- no run of workers is told of
+abbrev pub IsOfNoRun : StudyFault → Type 0
+IsOfNoRun (fault.Run e) = ⊥
+IsOfNoRun _ = ⊤
 
 -- want of memory
 abbrev pub TellsText : StudyFault → Type 0

@@ -13,8 +13,8 @@ use Rattle.footpaths.specs.Closure.{HasTooMany, IsClosure}
 use Rattle.scenarios.specs.declared.faults.ScenarioWhat.TheVariants as edit
 use Rattle.collector.specs.Places.{MatrixData}
 use Rattle.workers.specs.declared.faults.RunFault.{RunFault}
-use Rattle.workers.specs.declared.faults.RunFault.TheVariants as run
-use Rattle.workers.specs.Jobs.{jobs_of}
+use Rattle.workers.specs.Held.{Decides, WasTold}
+use Rattle.workers.specs.Outcomes.{IsFaultOfNew}
 use Rattle.workers.specs.Matrices.{IsMatrix}
 use Rattle.workers.specs.Study.{StudyData}
 use Rattle.matrix_text.specs.declared.faults.TextFault.TheVariants as text
@@ -78,29 +78,33 @@ Refuses (fault.Run e) i s = ⊥
 Refuses (fault.Text e) i s = ⊥
 Refuses fault.Memory i s = ⊥
 
--- why workers gave no matrix of the study that the files mean: no worker was started for its places, or one of them has no row
-abbrev pub IsFaultOfRun : RunFault → InputFiles → SettingsData → Type 0
-IsFaultOfRun run.Memory i s = ⊤
-IsFaultOfRun run.Spawn i s = (study : StudyData) × Means i s study × (0 < jobs_of study)
-IsFaultOfRun (run.Unfinished scenario origin) i s =
-    (study : StudyData) × Means i s study × (scenario < length study.networks) × (origin < length study.origins)
+-- why a gate's run of workers gave no matrix of the study that the files mean: by as many workers as the settings say, on a board
+-- where each row may be begun as often as they say
+pub record IsFaultOfRun (decides : Decides) (was_told : WasTold) (e : RunFault) (i : InputFiles) (s : SettingsData) : Type 0 where
+  pub study : StudyData
+  pub means : Means i s study
+  pub why : IsFaultOfNew study decides was_told s.workers s.tries e
 
 -- what the files don't decide: want of memory, and a run of workers that gives no matrix
-abbrev pub IsNotOfFiles : StudyFault → InputFiles → SettingsData → Type 0
-IsNotOfFiles fault.Scenarios i s = ⊥
-IsNotOfFiles (fault.Name k) i s = ⊥
-IsNotOfFiles (fault.Feed e) i s = e.what ≡ what.Memory
-IsNotOfFiles (fault.Scenario k e) i s = e.what ≡ edit.Memory
-IsNotOfFiles (fault.Days e) i s = e ≡ day.Memory
-IsNotOfFiles (fault.Feet e) i s = e ≡ foot.Memory
-IsNotOfFiles (fault.Net k e) i s = e ≡ net.Memory
-IsNotOfFiles (fault.Run e) i s = IsFaultOfRun e i s
-IsNotOfFiles (fault.Text e) i s = e ≡ text.Memory
-IsNotOfFiles fault.Memory i s = ⊤
+abbrev pub IsNotOfFiles : Decides → WasTold → StudyFault → InputFiles → SettingsData → Type 0
+IsNotOfFiles decides was_told fault.Scenarios i s = ⊥
+IsNotOfFiles decides was_told (fault.Name k) i s = ⊥
+IsNotOfFiles decides was_told (fault.Feed e) i s = e.what ≡ what.Memory
+IsNotOfFiles decides was_told (fault.Scenario k e) i s = e.what ≡ edit.Memory
+IsNotOfFiles decides was_told (fault.Days e) i s = e ≡ day.Memory
+IsNotOfFiles decides was_told (fault.Feet e) i s = e ≡ foot.Memory
+IsNotOfFiles decides was_told (fault.Net k e) i s = e ≡ net.Memory
+IsNotOfFiles decides was_told (fault.Run e) i s = IsFaultOfRun decides was_told e i s
+IsNotOfFiles decides was_told (fault.Text e) i s = e ≡ text.Memory
+IsNotOfFiles decides was_told fault.Memory i s = ⊤
 
--- what may be told of the files
+-- what may be told of the files, where a gate decides so of the leases, and was told so of them
+abbrev pub TellsBy : Decides → WasTold → StudyFault → InputFiles → SettingsData → Type 0
+TellsBy decides was_told e i s = IsNotOfFiles decides was_told e i s ⊎ Refuses e i s
+
+-- what may be told of the files, whatever the gate is
 abbrev pub Tells : StudyFault → InputFiles → SettingsData → Type 0
-Tells e i s = IsNotOfFiles e i s ⊎ Refuses e i s
+Tells e i s = TellsBy (λ _ _. ⊤) (λ _ _. ⊤) e i s
 
 -- the text of the matrix of the study that the files mean
 pub record IsStudyText (i : InputFiles) (s : SettingsData) (bytes : List ℕ) : Type 0 where

@@ -1,9 +1,10 @@
 //! The matrix of a study, by workers over a new board.
-ghost use Rattle.std.specs.Prelude.{IfErr, IfOk};
+ghost use Rattle.std.specs.Prelude.{◌≡◌, ◌⊎◌, Err, IfErr, IfOk};
 ghost use Rattle.workers.specs.Matrices.{HasShape, IsMatrix};
+ghost use Rattle.workers.specs.Outcomes.{IsFaultOfNew};
 ghost use Rattle.workers.specs.Study.{StudyFits, study_of};
 ghost use Rattle.studies.specs.Settings.{SettingsFit};
-ghost use Rattle.studies.specs.Stages.{TellsRun};
+ghost use Rattle.studies.specs.Watched.{listed, ended};
 
 use crate::settings::Settings;
 use crate::watch::Watch;
@@ -25,9 +26,12 @@ pub(crate) fn matrix_of<G: Gate + Sync, W: Watch, R: Threads + Wait + Sync>(
 ) -> Result<Matrix, RunFault>
     requires study { StudyFits (study_of study.now) }
     requires settings { SettingsFit settings.now }
+    requires listed { W.saw watch.now listed }
     ensures matrix { IfOk result (λ matrix. IsMatrix (study_of study.now) matrix) }
     ensures shape { IfOk result (λ matrix. HasShape (study_of study.now) matrix) }
-    ensures fault { IfErr result (λ fault. TellsRun fault (study_of study.now)) }
+    ensures fault { IfErr result (λ fault.
+        IsFaultOfNew (study_of study.now) (G.decides gate.now) (G.was_told gate.now) settings.now.workers settings.now.tries fault) }
+    ensures told { (result ≡ Err RunFault.Memory) ⊎ W.saw watch.now (ended (study_of study.now) result) }
 {
     let jobs = study.networks.len() as u32 * study.origins.len() as u32;
     let Ok((board, mut seat)) = Board::new(alloc, jobs, settings.tries) else {
@@ -35,6 +39,6 @@ pub(crate) fn matrix_of<G: Gate + Sync, W: Watch, R: Threads + Wait + Sync>(
     };
     watch.rows_begin(study);
     let matrix = run_workers(rt, alloc, study, &board, &mut seat, settings.workers, gate);
-    watch.rows_end();
+    watch.rows_end(&matrix);
     matrix
 }

@@ -4,7 +4,8 @@ ghost use Rattle.service_days.specs.Instances.{IsRun};
 ghost use Rattle.studies.specs.Inputs.{AreWithinLimit, inputs_of};
 ghost use Rattle.studies.specs.Parts.{direct_in, feed_in, network_faults, networks_of, scenarios_in};
 ghost use Rattle.studies.specs.Settings.{SettingsFit};
-ghost use Rattle.studies.specs.Stages.{TellsNetworks};
+ghost use Rattle.studies.specs.Stages.{IsOfNoRun, TellsNetworks};
+ghost use Rattle.studies.specs.Watched.{read, listed};
 ghost use Rattle.studies.specs.Study.{AreEdited, AreNetworks, AreRead, Tells};
 
 use crate::fault::StudyFault;
@@ -33,8 +34,11 @@ pub(crate) fn make_networks<W: Watch>(
     requires read { AreRead (inputs_of inputs.now) }
     requires feed { feed.now ≡ feed_in (inputs_of inputs.now) }
     requires direct { direct.now ≡ direct_in (inputs_of inputs.now) }
+    requires told { W.saw watch.now read }
     ensures networks { IfOk result (λ v. AreNetworks (inputs_of inputs.now) settings.now v.items) }
+    ensures told { IfOk result (λ _. W.saw watch.now listed) }
     ensures fault { IfErr result (λ e. Tells e (inputs_of inputs.now) settings.now) }
+    ensures no_run { IfErr result IsOfNoRun }
 {
     let scenarios = match read_scenarios(alloc, inputs.scenarios, feed) {
         Ok(scenarios) => scenarios,
@@ -57,9 +61,12 @@ fn networks_for<W: Watch>(
     requires edited { AreEdited (inputs_of inputs.now) }
     requires feed { feed.now ≡ feed_in (inputs_of inputs.now) }
     requires direct { direct.now ≡ direct_in (inputs_of inputs.now) }
+    requires told { W.saw watch.now read }
     requires scenarios { scenarios.now ≡ scenarios_in (inputs_of inputs.now) }
     ensures networks { IfOk result (λ v. AreNetworks (inputs_of inputs.now) settings.now v.items) }
+    ensures told { IfOk result (λ _. W.saw watch.now listed) }
     ensures fault { IfErr result (λ e. Tells e (inputs_of inputs.now) settings.now) }
+    ensures no_run { IfErr result IsOfNoRun }
 {
     let runs = match active(alloc, feed, settings.date, settings.back, settings.ahead) {
         Ok(runs) => runs,
@@ -88,6 +95,7 @@ fn all_networks(
     ensures good { IfOk result (λ _. network_faults feed.now runs.now 0 scenarios.now ≡ []) }
     ensures networks { IfOk result (λ v. v.items ≡ networks_of feed.now runs.now feet.now scenarios.now) }
     ensures fault { IfErr result (λ e. TellsNetworks e feed.now runs.now scenarios.now) }
+    ensures no_run { IfErr result IsOfNoRun }
 {
     let mut networks = Vec::new(alloc);
     for (i, scenario) in scenarios.iter().enumerate() {

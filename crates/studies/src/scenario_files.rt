@@ -1,7 +1,7 @@
 //! The scenarios that files state.
 ghost use Rattle.std.specs.Prelude.{◌≡◌, ◌≤◌, [], All, IfErr, IfOk, length};
 ghost use Rattle.studies.specs.Parts.{edit_faults, scenarios_of};
-ghost use Rattle.studies.specs.Stages.{TellsEdits};
+ghost use Rattle.studies.specs.Stages.{IsOfNoRun, TellsEdits};
 
 use crate::fault::StudyFault;
 use crate::named_file::NamedFile;
@@ -20,6 +20,7 @@ pub(crate) fn read_scenarios(
     ensures good { IfOk result (λ _. edit_faults feed.now 0 files.now ≡ []) }
     ensures scenarios { IfOk result (λ v. v.items ≡ scenarios_of feed.now files.now) }
     ensures fault { IfErr result (λ e. TellsEdits e feed.now files.now) }
+    ensures no_run { IfErr result IsOfNoRun }
 {
     let mut scenarios = Vec::new(alloc);
     if scenarios.push(base(alloc)).is_err() {

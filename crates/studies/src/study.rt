@@ -8,7 +8,8 @@ ghost use Rattle.studies.specs.Inputs.{AreWithinLimit, inputs_of};
 ghost use Rattle.studies.specs.Parts.{feed_in, labels_in};
 ghost use Rattle.studies.specs.Settings.{SettingsFit};
 ghost use Rattle.studies.specs.Stages.{AreTables, IsFeedOf, TellsText};
-ghost use Rattle.studies.specs.Study.{AreNamed, AreNetworks, AreRead, IsStudyText, Tells};
+ghost use Rattle.studies.specs.Watched.{SawAll, read, listed};
+ghost use Rattle.studies.specs.Study.{AreNamed, AreNetworks, AreRead, IsStudyText, Tells, TellsBy};
 
 use crate::fault::StudyFault;
 use crate::inputs::Inputs;
@@ -45,6 +46,7 @@ pub fn run_study<G: Gate + Sync, R: Threads + Wait + Sync>(
     requires settings { SettingsFit settings.now }
     ensures text { IfOk result (λ text. IsStudyText (inputs_of inputs.now) settings.now text.items) }
     ensures fault { IfErr result (λ e. Tells e (inputs_of inputs.now) settings.now) }
+    ensures run { IfErr result (λ e. TellsBy (G.decides gate.now) (G.was_told gate.now) e (inputs_of inputs.now) settings.now) }
 {
     watch_study(rt, alloc, inputs, settings, gate, &Unwatched)
 }
@@ -66,7 +68,9 @@ pub fn watch_study<G: Gate + Sync, W: Watch, R: Threads + Wait + Sync>(
     requires files { AreWithinLimit (inputs_of inputs.now) }
     requires settings { SettingsFit settings.now }
     ensures text { IfOk result (λ text. IsStudyText (inputs_of inputs.now) settings.now text.items) }
+    ensures told { IfOk result (λ _. SawAll (W.saw watch.now) (inputs_of inputs.now) settings.now) }
     ensures fault { IfErr result (λ e. Tells e (inputs_of inputs.now) settings.now) }
+    ensures run { IfErr result (λ e. TellsBy (G.decides gate.now) (G.was_told gate.now) e (inputs_of inputs.now) settings.now) }
 {
     match check_names(inputs.scenarios) {
         Ok(()) => text_of_files(rt, alloc, inputs, settings, gate, watch),
@@ -87,7 +91,8 @@ fn text_of_files<G: Gate + Sync, W: Watch, R: Threads + Wait + Sync>(
     requires settings { SettingsFit settings.now }
     requires named { AreNamed (inputs_of inputs.now) }
     ensures text { IfOk result (λ text. IsStudyText (inputs_of inputs.now) settings.now text.items) }
-    ensures fault { IfErr result (λ e. Tells e (inputs_of inputs.now) settings.now) }
+    ensures told { IfOk result (λ _. SawAll (W.saw watch.now) (inputs_of inputs.now) settings.now) }
+    ensures fault { IfErr result (λ e. TellsBy (G.decides gate.now) (G.was_told gate.now) e (inputs_of inputs.now) settings.now) }
 {
     let feed = match read_feed(alloc, &inputs.feed) {
         Ok(feed) => feed,
@@ -113,7 +118,8 @@ fn text_of_feed<G: Gate + Sync, W: Watch, R: Threads + Wait + Sync>(
     requires named { AreNamed (inputs_of inputs.now) }
     requires feed { IsFeedOf (inputs_of inputs.now) feed.now }
     ensures text { IfOk result (λ text. IsStudyText (inputs_of inputs.now) settings.now text.items) }
-    ensures fault { IfErr result (λ e. Tells e (inputs_of inputs.now) settings.now) }
+    ensures told { IfOk result (λ _. SawAll (W.saw watch.now) (inputs_of inputs.now) settings.now) }
+    ensures fault { IfErr result (λ e. TellsBy (G.decides gate.now) (G.was_told gate.now) e (inputs_of inputs.now) settings.now) }
 {
     let tables = match read_tables(alloc, inputs, feed) {
         Ok(tables) => tables,
@@ -139,8 +145,10 @@ fn text_of_tables<G: Gate + Sync, W: Watch, R: Threads + Wait + Sync>(
     requires read { AreRead (inputs_of inputs.now) }
     requires feed { feed.now ≡ feed_in (inputs_of inputs.now) }
     requires tables { AreTables (inputs_of inputs.now) feed.now tables.now }
+    requires told { W.saw watch.now read }
     ensures text { IfOk result (λ text. IsStudyText (inputs_of inputs.now) settings.now text.items) }
-    ensures fault { IfErr result (λ e. Tells e (inputs_of inputs.now) settings.now) }
+    ensures told { IfOk result (λ _. SawAll (W.saw watch.now) (inputs_of inputs.now) settings.now) }
+    ensures fault { IfErr result (λ e. TellsBy (G.decides gate.now) (G.was_told gate.now) e (inputs_of inputs.now) settings.now) }
 {
     let networks = match make_networks(alloc, inputs, settings, feed, &tables.direct, watch) {
         Ok(networks) => networks,
@@ -167,8 +175,10 @@ fn text_of_networks<G: Gate + Sync, W: Watch, R: Threads + Wait + Sync>(
     requires feed { feed.now ≡ feed_in (inputs_of inputs.now) }
     requires tables { AreTables (inputs_of inputs.now) feed.now tables.now }
     requires networks { AreNetworks (inputs_of inputs.now) settings.now networks.now }
+    requires told { W.saw watch.now listed }
     ensures text { IfOk result (λ text. IsStudyText (inputs_of inputs.now) settings.now text.items) }
-    ensures fault { IfErr result (λ e. Tells e (inputs_of inputs.now) settings.now) }
+    ensures told { IfOk result (λ _. SawAll (W.saw watch.now) (inputs_of inputs.now) settings.now) }
+    ensures fault { IfErr result (λ e. TellsBy (G.decides gate.now) (G.was_told gate.now) e (inputs_of inputs.now) settings.now) }
 {
     feed.known();
     let study = Study {

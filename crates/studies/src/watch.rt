@@ -1,18 +1,29 @@
 //! Watches: who is told what each stage of a study has made.
 
 use crate::settings::Settings;
+use collector::Matrix;
 use footpaths::Direct;
 use gtfs_tables::Feed;
 use scenarios::Scenario;
 use service_days::Run;
 use timetable::{Feet, StopNo};
-use workers::Study;
+use workers::{RunFault, Study};
 
 /// Is told what each stage of a study has made, in the order of its methods, by the thread that runs the study. Nothing that it
 /// does changes the study. A stage that refuses is the last one that is told of.
+///
+/// Contracts know of a watch which stages it was told, and in which order: its calls alone can show that.
 pub trait Watch {
+    ghost use Rattle.std.specs.Prelude.{List};
+    ghost use Rattle.workers.specs.Study.{StudyData, study_of};
+    ghost use Rattle.studies.specs.Watched.{Stage, read, listed, begun, ended};
+
+    // that it was told these stages, one after the other
+    ghost saw: { Self → List Stage → Type 0 } = { λ _ _. Unit {0} };
+
     /// The feed and the analyst's own tables are read: the direct footpaths, and the stops at which journeys begin.
-    fn tables_read(&self, feed: &Feed, direct: &Direct, origins: &[StopNo]);
+    fn tables_read(&self, feed: &Feed, direct: &Direct, origins: &[StopNo])
+        ensures told { saw self.now read };
 
     /// The scenario files are read, the runs of the study's days are listed, and the footpaths are closed; no network is made yet.
     fn days_listed(
@@ -22,13 +33,19 @@ pub trait Watch {
         scenarios: &[Scenario],
         runs: &[Run],
         feet: &Feet,
-    );
+    )
+        requires after { saw self.now read }
+        ensures told { saw self.now listed };
 
     /// The networks are made, and the workers are about to begin.
-    fn rows_begin(&self, study: &Study<'_>);
+    fn rows_begin(&self, study: &Study<'_>)
+        requires after { saw self.now listed }
+        ensures told { saw self.now (begun (study_of study.now)) };
 
     /// The workers have ended, whatever came of it.
-    fn rows_end(&self);
+    fn rows_end(&self, made: &Result<Matrix, RunFault>)
+        requires after { (study : StudyData) × saw self.now (begun study) }
+        ensures told { (study : StudyData) → saw self.now (begun study) → saw self.now (ended study made.now) };
 }
 
 /// The watch that is told everything and does nothing.
@@ -49,5 +66,5 @@ impl Watch for Unwatched {
 
     fn rows_begin(&self, _study: &Study<'_>) {}
 
-    fn rows_end(&self) {}
+    fn rows_end(&self, _made: &Result<Matrix, RunFault>) {}
 }

@@ -1,19 +1,29 @@
 -- What a run of workers ends with.
-use Rattle.std.proofs.Common.{◌≡◌, [], Bool, false, Result, Ok, Err}
+use Rattle.std.proofs.Common.{◌≡◌, ◌<◌, ℕ, zero, suc, List, [], ◌∷◌, Bool, true, false, not, nat_eq, Result, Ok, Err, inr, length, nat_lt, refl, ap, sym, ◌∙◌, arith}
+use Rattle.std.proofs.lemmas.Bool.Decides.{nat_tests}
 use Rattle.std.specs.Prelude.{IfErr, IfOk}
+use Rattle.std.specs.List.{All}
+use Rattle.std.proofs.lemmas.List.Elements.{All-append, All-head, All-tail}
+use Rattle.work_book.specs.Board.{seen_by}
 use Rattle.work_book.specs.Moves.{IsOnce}
+use Rattle.work_book.specs.Views.{merged}
+use Rattle.work_book.specs.declared.lease.Lease.{Lease}
+use Rattle.work_book.specs.declared.lease.Settled.TheVariants.{Kept}
 use Rattle.work_book.specs.declared.rule.View.{View}
 use Rattle.collector.specs.Places.{PlacesData, MatrixData}
 use Rattle.collector.specs.Offers.{IsFinished}
 use Rattle.workers.specs.Study.{StudyData, StudyFits}
 use Rattle.workers.specs.Matrices.{IsMatrix, HasShape}
 use Rattle.workers.specs.Filling.{AreFilledAs}
-use Rattle.workers.specs.Outcomes.{KeptEachJob, IsFaultOf, IsFaultOfPlaces}
+use Rattle.work_book.specs.declared.shared.Board.{Board}
+use Rattle.workers.specs.Held.{Decides, WasTold, AreTold}
+use Rattle.workers.specs.Threads.{AreWorked}
+use Rattle.workers.specs.Outcomes.{KeptEachJob, IsFaultOf, IsWhy, joined, without}
 use Rattle.workers.specs.declared.faults.RunFault.{RunFault}
-use Rattle.workers.specs.declared.faults.RunFault.TheVariants.{Memory, Spawn, Unfinished}
+use Rattle.workers.specs.declared.worker.Worked.{Worked}
 use Rattle.workers.proofs.Unique.{matrix_unique}
 use Rattle.workers.proofs.Filled.{matrix_of, shape_of}
-use Rattle.workers.proofs.Fills.{all_filled, each_kept, first_unkept, some_job}
+use Rattle.workers.proofs.Fills.{all_filled, each_kept}
 
 module _ (s : StudyData) (v : View) (places : PlacesData) (was : AreFilledAs s v.kept places) where
   pub matrix_ended : (r : Result MatrixData RunFault) → IfOk r (λ m. IsFinished places m) → IfOk r (λ m. IsMatrix s m)
@@ -28,12 +38,45 @@ module _ (s : StudyData) (v : View) (places : PlacesData) (was : AreFilledAs s v
   kept_ended (Ok m) once done = each_kept s v places m was done once
   kept_ended (Err e) once done = done
 
-  pub fault_ended : (r : Result MatrixData RunFault) (short started : Bool) → IsOnce v → (started ≡ false → (v.drawn ≡ []) × (v.kept ≡ []))
-      → IfErr r (λ e. IsFaultOfPlaces places short started e) → IfErr r (λ e. IsFaultOf s v e)
-  fault_ended (Ok m) short started once none h = h
-  fault_ended (Err Memory) short started once none h = tt
-  fault_ended (Err Spawn) short started once none h = (some_job s v.kept places _ _ was h.4, (none h.0).0, (none h.0).1)
-  fault_ended (Err (Unfinished scenario origin)) short started once none h = first_unkept s v places scenario origin was h.2 once
+-- what the workers left is why there is no matrix
+pub fault_ended : (s : StudyData) (decides : Decides) (was_told : WasTold) (board : Board) (workers : ℕ) (start v : View) (worked : List Worked) (r : Result MatrixData RunFault)
+    → AreWorked board s decides was_told worked → v ≡ joined (without workers start) worked → IfErr r (λ e. IsWhy s v worked e)
+    → IfErr r (λ e. IsFaultOf s decides was_told board workers start v e)
+fault_ended s decides was_told board workers start v worked (Ok m) ended view_is h = h
+fault_ended s decides was_told board workers start v worked (Err e) ended view_is h = inr (record { worked = worked; ended = ended; view_is = view_is; why = h })
+
+pub none_told : (was_told : WasTold) → AreTold was_told []
+none_told was_told k d below = absurd (omega (arith, below))
+
+-- what is so of each kept job is so of those of a seat that took others in
+pub kept_told : (was_told : WasTold) (v : View) (worked : List Worked) → AreTold was_told v.kept → All (λ w. AreTold was_told (seen_by w.seat).kept) worked
+    → AreTold was_told (joined v worked).kept
+kept_told was_told v [] mine theirs = mine
+kept_told was_told v (w ∷ worked) mine theirs =
+    kept_told was_told (merged v (seen_by w.seat)) worked
+    (All-append (λ job. (lease : Lease) × (lease.job ≡ job) × was_told lease Kept) v.kept (seen_by w.seat).kept mine (All-head (λ w. AreTold was_told (seen_by w.seat).kept) w worked theirs))
+    (All-tail (λ w. AreTold was_told (seen_by w.seat).kept) w worked theirs)
+
+some_eq : (n : ℕ) → nat_eq (suc n) 0 ≡ false
+some_eq n = grind (arith, nat_tests)
+
+some_lt : (n : ℕ) → nat_lt 0 (suc n) ≡ true
+some_lt n = grind (arith, nat_tests)
+
+not_none : (n : ℕ) → not (nat_eq n 0) ≡ nat_lt 0 n
+not_none zero = refl
+not_none (suc n) = ap not (some_eq n) ∙ sym (some_lt n)
+
+-- where workers gave something back some were started
+pub started_is : (worked : List Worked) (n : ℕ) (empty : Bool) → n ≡ length worked → empty ≡ nat_eq n 0 → not empty ≡ nat_lt 0 (length worked)
+started_is worked n empty long is = ap not is ∙ not_none n ∙ ap (nat_lt 0) long
+
+lt_of : (n : ℕ) → nat_lt 0 n ≡ true → 0 < n
+lt_of n h = grind (arith, nat_tests)
+
+-- whether some are there
+pub some_are : (worked : List Worked) (started : Bool) → started ≡ nat_lt 0 (length worked) → started ≡ true → 0 < length worked
+some_are worked started is h = lt_of (length worked) (sym is ∙ h)
 
 -- two matrices of a study are one
 pub one_matrix : (s : StudyData) (r q : Result MatrixData RunFault) → IfOk r (λ m. IsMatrix s m) → IfOk q (λ m. IsMatrix s m) → IfOk r (λ one. IfOk q (λ many. one ≡ many))

@@ -1,7 +1,8 @@
 pub mod Shares
 pub mod Wide
 pub mod Seat
-pub mod NextJob
+pub mod Knows
+mod NextJob
 pub mod Filled
 pub mod Unique
 pub mod Times
@@ -10,3 +11,4 @@ pub mod Joined
 pub mod Fills
 pub mod Ended
 pub mod Wholes
+pub mod AnyGate

@@ -1,10 +1,22 @@
--- The rows that a worker holds, beside the jobs that its seat kept.
-use Rattle.std.specs.Prelude.{ℕ, ◌==◌, ◌+◌, ◌*◌, ◌<◌, List, length, map, count_by, All}
-use Rattle.work_book.specs.Board.{seen_by, IsOf}
+-- The rows that a worker holds, beside the jobs that its seat kept, and why it ended.
+use Rattle.std.specs.Prelude.{◌≡◌, ◌⊎◌, ℕ, ◌==◌, ◌+◌, ◌*◌, ◌<◌, true, false, List, length, map, count_by, All, ⊤}
+use Rattle.work_book.specs.Board.{seen_by, IsOf, HasDrawn, SettledAs}
+use Rattle.work_book.specs.Steps.{lease_among}
+use Rattle.work_book.specs.Views.{knows}
+use Rattle.work_book.specs.declared.lease.Lease.{Lease}
+use Rattle.work_book.specs.declared.lease.Settled.{Settled}
+use Rattle.work_book.specs.declared.lease.Settled.TheVariants.{Kept}
+use Rattle.work_book.specs.declared.rule.View.{View}
 use Rattle.work_book.specs.declared.shared.Board.{Board}
 use Rattle.collector.specs.Row.{RowData}
 use Rattle.workers.specs.Study.{StudyData}
 use Rattle.workers.specs.Rows.{IsRowOf}
+use Rattle.workers.specs.declared.gates.Verdict.{Verdict}
+use Rattle.workers.specs.declared.gates.Verdict.TheVariants.{Lose, Vanish}
+use Rattle.workers.specs.declared.worker.Ending.{Ending}
+use Rattle.workers.specs.declared.worker.Ending.TheVariants as ending
+use Rattle.workers.specs.declared.worker.Next.{Next}
+use Rattle.workers.specs.declared.worker.Next.TheVariants as next
 use Rattle.workers.specs.declared.worker.Worked.{Worked}
 
 -- how often a job stands in a list
@@ -31,7 +43,49 @@ pub record HoldsRows (s : StudyData) (rows : List RowData) (kept : List ℕ) : T
   pub are_rows : AreRowsOf s rows
   pub jobs : HaveSameJobs (jobs_of_rows s rows) kept
 
--- what a worker promises: its seat is of the board, and its rows are the study's, of exactly the jobs that its seat kept
-pub record WorkedFor (board : Board) (s : StudyData) (w : Worked) : Type 0 where
+-- what a gate may decide of a lease
+abbrev pub Decides : Type 1
+Decides = Lease → Verdict → Type 0
+
+-- what a gate was told of a lease
+abbrev pub WasTold : Type 1
+WasTold = Lease → Settled → Type 0
+
+-- the gate was told, of a lease of each of these jobs, that it was kept
+abbrev pub AreTold : WasTold → List ℕ → Type 0
+AreTold was_told jobs = All (λ job. (lease : Lease) × (lease.job ≡ job) × was_told lease Kept) jobs
+
+-- a lease's job was settled, and the gate was told what came of it
+abbrev pub IsHeard : WasTold → Lease → View → View → Type 0
+IsHeard was_told lease v w = (settled : Settled) × SettledAs v lease.job settled w × was_told lease settled
+
+-- what a seat knows to be settled it knows afterwards too
+abbrev pub KnowsAsMuch : View → View → Type 0
+KnowsAsMuch v w = (job : ℕ) → knows v job ≡ true → knows w job ≡ true
+
+-- nothing is left to do with a lease: its job is settled, or the gate decided that it is lost
+abbrev pub IsDone : Decides → Lease → View → Type 0
+IsDone decides lease v = (knows v lease.job ≡ true) ⊎ decides lease Lose
+
+-- why a worker ended: all numbers are drawn, and nothing is left to do with those that it drew; or the gate decided that the
+-- worker vanishes at a lease that it drew; or it found no memory, before it was told so
+abbrev pub HasEnded : Decides → Board → View → Ending → Type 0
+HasEnded decides board v ending.Nothing = (v.told ≡ true) × All (λ number. IsDone decides (lease_among board.jobs number) v) v.drawn
+HasEnded decides board v ending.Vanished = (lease : Lease) × HasDrawn v lease × decides lease Vanish
+HasEnded decides board v ending.Short = v.told ≡ false
+
+-- what a worker does after a lease: it draws another where nothing is left to do; else the gate decided that it vanishes, or it
+-- found no memory
+abbrev pub LeavesAs : Decides → Lease → View → Next → Type 0
+LeavesAs decides lease v next.Draw = IsDone decides lease v
+LeavesAs decides lease v (next.End ending.Nothing) = ⊥
+LeavesAs decides lease v (next.End ending.Vanished) = decides lease Vanish
+LeavesAs decides lease v (next.End ending.Short) = ⊤
+
+-- what a worker promises: its seat is of the board, its rows are the study's, of exactly the jobs that its seat kept, the gate was
+-- told of each of them, and the worker ended for this reason
+pub record WorkedFor (board : Board) (s : StudyData) (decides : Decides) (was_told : WasTold) (w : Worked) : Type 0 where
   pub of_board : IsOf board w.seat
   pub holds : HoldsRows s w.rows.items (seen_by w.seat).kept
+  pub told : AreTold was_told (seen_by w.seat).kept
+  pub ended : HasEnded decides board (seen_by w.seat) w.ending

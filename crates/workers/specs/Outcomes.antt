@@ -1,14 +1,20 @@
--- What a run of workers ends with, by what its seat kept.
-use Rattle.std.specs.Prelude.{◌≡◌, ◌+◌, ◌*◌, ◌<◌, ℕ, Bool, false, true, [], length, ⊤}
+-- What a run of workers ends with, by what its seat kept and why its workers ended.
+use Rattle.std.specs.Prelude.{◌≡◌, ◌⊎◌, ◌+◌, ◌-◌, ◌*◌, ◌<◌, ℕ, Bool, false, true, List, [], ◌∷◌, length}
+use Rattle.std.specs.List.{list_any}
+use Rattle.work_book.specs.Board.{seen_by}
 use Rattle.work_book.specs.Laws.{kept_in}
-use Rattle.work_book.specs.Views.{seat_of}
+use Rattle.work_book.specs.Views.{first_view, merged, seat_of}
 use Rattle.work_book.specs.declared.rule.View.{View}
-use Rattle.collector.specs.Places.{PlacesData}
-use Rattle.collector.specs.Offers.{IsFirstEmpty}
+use Rattle.work_book.specs.declared.shared.Board.{Board}
 use Rattle.workers.specs.Study.{StudyData}
 use Rattle.workers.specs.Jobs.{jobs_of}
+use Rattle.workers.specs.Held.{Decides, WasTold}
+use Rattle.workers.specs.Threads.{AreWorked}
 use Rattle.workers.specs.declared.faults.RunFault.{RunFault}
 use Rattle.workers.specs.declared.faults.RunFault.TheVariants.{Memory, Spawn, Unfinished}
+use Rattle.workers.specs.declared.worker.Ending.{Ending}
+use Rattle.workers.specs.declared.worker.Ending.TheVariants as ending
+use Rattle.workers.specs.declared.worker.Worked.{Worked}
 
 -- the seat kept each job of the study, once
 abbrev pub KeptEachJob : StudyData → View → Type 0
@@ -21,14 +27,52 @@ pub record IsFirstUnkept (s : StudyData) (v : View) (scenario origin : ℕ) : Ty
   pub unkept : kept_in (scenario * length s.origins + origin) (seat_of v) ≡ 0
   pub before : (job : ℕ) → job < scenario * length s.origins + origin → kept_in job (seat_of v) ≡ 1
 
--- why there is no matrix: no worker drew for a study with a place, or the named place is the first one without a row
-abbrev pub IsFaultOf : StudyData → View → RunFault → Type 0
-IsFaultOf s v Memory = ⊤
-IsFaultOf s v Spawn = (0 < jobs_of s) × (v.drawn ≡ []) × (v.kept ≡ [])
-IsFaultOf s v (Unfinished scenario origin) = IsFirstUnkept s v scenario origin
+-- the seat, when so many were split off
+abbrev pub without : ℕ → View → View
+without n v = record v { share = v.share - n }
 
--- why places with an empty one give no matrix: a worker found no memory, or none was started, or else the first empty place
-abbrev pub IsFaultOfPlaces : PlacesData → Bool → Bool → RunFault → Type 0
-IsFaultOfPlaces places short started Memory = short ≡ true
-IsFaultOfPlaces places short started Spawn = (started ≡ false) × (short ≡ false) × (scenario : ℕ) × (origin : ℕ) × IsFirstEmpty places scenario origin
-IsFaultOfPlaces places short started (Unfinished scenario origin) = (started ≡ true) × (short ≡ false) × IsFirstEmpty places scenario origin
+-- the seat that took in these workers' seats, one after the other
+abbrev pub joined : View → List Worked → View
+joined v [] = v
+joined v (w ∷ worked) = joined (merged v (seen_by w.seat)) worked
+
+-- the worker found no memory
+abbrev pub is_short : Ending → Bool
+is_short ending.Nothing = false
+is_short ending.Vanished = false
+is_short ending.Short = true
+
+abbrev pub is_some_short : List Worked → Bool
+is_some_short worked = list_any (λ w. is_short w.ending) worked
+
+-- why workers that were started left a place empty: one of them found no memory; or none was started; or else the named place is
+-- the first one without a row
+abbrev pub IsWhy : StudyData → View → List Worked → RunFault → Type 0
+IsWhy s v worked Memory = is_some_short worked ≡ true
+IsWhy s v worked Spawn = (0 < jobs_of s) × (worked ≡ [])
+IsWhy s v worked (Unfinished scenario origin) = (0 < length worked) × (is_some_short worked ≡ false) × IsFirstUnkept s v scenario origin
+
+-- so many seats were split off for workers; each of those that were started ended as it promised, the seat took in theirs, and
+-- that is why there is no matrix
+pub record IsLeft (s : StudyData) (decides : Decides) (was_told : WasTold) (board : Board) (workers : ℕ) (start v : View) (fault : RunFault) : Type 0 where
+  pub worked : List Worked
+  pub ended : AreWorked board s decides was_told worked
+  pub view_is : v ≡ joined (without workers start) worked
+  pub why : IsWhy s v worked fault
+
+-- why a run of workers gave no matrix: memory was wanted before the start, and nothing was drawn; or what its workers left
+abbrev pub IsFaultOf : StudyData → Decides → WasTold → Board → ℕ → View → View → RunFault → Type 0
+IsFaultOf s decides was_told board workers start v fault =
+    ((fault ≡ Memory) × (v.drawn ≡ start.drawn) × (v.kept ≡ start.kept)) ⊎ IsLeft s decides was_told board workers start v fault
+
+-- ... on a new board, where each job is offered so often
+pub record IsFaultOnBoard (s : StudyData) (decides : Decides) (was_told : WasTold) (workers tries : ℕ) (fault : RunFault) : Type 0 where
+  pub board : Board
+  pub jobs : board.jobs ≡ jobs_of s
+  pub tries_are : board.tries ≡ tries
+  pub view : View
+  pub why : IsFaultOf s decides was_told board workers (first_view (jobs_of s * tries)) view fault
+
+-- ... or there was no memory for the board
+abbrev pub IsFaultOfNew : StudyData → Decides → WasTold → ℕ → ℕ → RunFault → Type 0
+IsFaultOfNew s decides was_told workers tries fault = (fault ≡ Memory) ⊎ IsFaultOnBoard s decides was_told workers tries fault

@@ -1,5 +1,7 @@
 //! A run of workers over a board, from the first seat to the matrix.
-ghost use Rattle.std.specs.Prelude.{◌≡◌, ◌<◌, [], true, All, IfOk, IfErr, vec_len};
+ghost use Rattle.std.specs.Prelude.{◌≡◌, ◌<◌, ◌||◌, List, [], true, All, IfOk, IfErr, vec_len, length, nat_lt};
+ghost use Rattle.work_book.specs.declared.rule.View.{View};
+ghost use Rattle.workers.specs.declared.worker.Worked.{Worked};
 ghost use Rattle.work_book.specs.Board.{seen_by, IsOf};
 ghost use Rattle.work_book.specs.Moves.{IsOnce};
 ghost use Rattle.collector.specs.Offers.{IsFinished};
@@ -7,16 +9,17 @@ ghost use Rattle.collector.specs.Run.{offered};
 ghost use Rattle.workers.specs.Study.{StudyData, study_of, StudyFits};
 ghost use Rattle.workers.specs.Matrices.{IsMatrix, HasShape};
 ghost use Rattle.workers.specs.Jobs.{jobs_of};
-ghost use Rattle.workers.specs.Threads.{AreReady, AreWorked};
+ghost use Rattle.workers.specs.Held.{AreTold, HoldsRows};
+ghost use Rattle.workers.specs.Threads.{AreReady};
 ghost use Rattle.workers.specs.Filling.{AreFilledAs};
-ghost use Rattle.workers.specs.Outcomes.{KeptEachJob, IsFaultOf, IsFaultOfPlaces};
+ghost use Rattle.workers.specs.Outcomes.{KeptEachJob, IsFaultOf, IsWhy, is_short, is_some_short, joined, without};
 
 use crate::faults::RunFault;
 use crate::gates::Gate;
 use crate::jobs::empty_places;
 use crate::study::Study;
 use crate::threads::run_all;
-use crate::worker::Worked;
+use crate::worker::{Ending, Worked};
 use collector::{Collector, Matrix, Row};
 use std::alloc::{AllocError, Global};
 use std::sync::Wait;
@@ -50,7 +53,9 @@ pub fn run_workers<G: Gate + Sync, R: Threads + Wait + Sync>(
     ensures matrix { IfOk result (λ matrix. IsMatrix (study_of study.now) matrix) }
     ensures shape { IfOk result (λ matrix. HasShape (study_of study.now) matrix) }
     ensures kept { IfOk result (λ _. KeptEachJob (study_of study.now) (seen_by seat.new)) }
-    ensures fault { IfErr result (λ fault. IsFaultOf (study_of study.now) (seen_by seat.new) fault) }
+    ensures told { AreTold (G.was_told gate.now) (seen_by seat.new).kept }
+    ensures fault { IfErr result (λ fault.
+        IsFaultOf (study_of study.now) (G.decides gate.now) (G.was_told gate.now) board.now workers (seen_by seat.old) (seen_by seat.new) fault) }
 {
     let Ok(mut collector) = empty_places(alloc, study) else {
         return Err(RunFault::Memory);
@@ -77,6 +82,7 @@ fn split_all(
     requires share { workers < (seen_by seat.old).share }
     ensures board { IsOf board.now seat.new }
     ensures lists { ((seen_by seat.new).drawn ≡ (seen_by seat.old).drawn) × ((seen_by seat.new).kept ≡ (seen_by seat.old).kept) }
+    ensures left { IfOk result (λ _. seen_by seat.new ≡ without workers (seen_by seat.old)) }
     ensures ready { IfOk result (λ seats. AreReady board.now seats.items) }
     ensures count { IfOk result (λ seats. vec_len seats ≡ workers) }
 {
@@ -99,8 +105,9 @@ fn gather(
     requires once { IsOnce (seen_by seat.old) }
     ensures board { IsOf board.now seat.new }
     ensures once { IsOnce (seen_by seat.new) }
-    ensures none { worked.items ≡ [] → seen_by seat.new ≡ seen_by seat.old }
-    ensures filled { (s : StudyData) → StudyFits s → AreWorked board.now s worked.items →
+    ensures joined { seen_by seat.new ≡ joined (seen_by seat.old) worked.items }
+    ensures short { result ≡ is_some_short worked.items }
+    ensures filled { (s : StudyData) → StudyFits s → All (λ w. HoldsRows s w.rows.items (seen_by w.seat).kept) worked.items →
         AreFilledAs s (seen_by seat.old).kept collector.old → AreFilledAs s (seen_by seat.new).kept collector.new }
 {
     let mut short = false;
@@ -108,13 +115,23 @@ fn gather(
         let Worked {
             seat: theirs,
             rows,
-            short: found_none,
+            ending,
         } = done;
         board.join(seat, theirs);
         offer_all(collector, rows);
-        short |= found_none;
+        short = is_short_too(short, ending);
     }
     short
+}
+
+/// Whether a worker found no memory, or one before it.
+fn is_short_too(short: bool, ending: Ending) -> bool
+    ensures { result ≡ (short || is_short ending) }
+{
+    match ending {
+        Ending::Short => true,
+        Ending::Nothing | Ending::Vanished => short,
+    }
 }
 
 /// Offers each row once.
@@ -129,7 +146,8 @@ fn offer_all(collector: &mut Collector, rows: Vec<Row>)
 /// The matrix of places that all have their rows, or why there is none.
 fn matrix_of(collector: Collector, short: bool, started: bool) -> Result<Matrix, RunFault>
     ensures full { IfOk result (λ matrix. IsFinished collector matrix) }
-    ensures fault { IfErr result (λ fault. IsFaultOfPlaces collector short started fault) }
+    ensures fault { (s : StudyData) → (v : View) → (worked : List Worked) → AreFilledAs s v.kept collector → IsOnce v →
+        short ≡ is_some_short worked → started ≡ nat_lt 0 (length worked) → IfErr result (λ fault. IsWhy s v worked fault) }
 {
     match collector.finish() {
         Ok(matrix) => Ok(matrix),

@@ -1,9 +1,9 @@
 //! Workers in threads: started together, and joined.
-ghost use Rattle.std.specs.Prelude.{◌≡◌, ◌+◌, ◌≤◌, [], IfOk, vec_len, vec_capacity};
+ghost use Rattle.std.specs.Prelude.{◌≡◌, ◌+◌, ◌≤◌, [], All, IfOk, vec_len, vec_capacity};
 ghost use Rattle.workers.specs.Study.{study_of};
 ghost use Rattle.workers.specs.Held.{WorkedFor};
 ghost use Rattle.workers.specs.Parts.{study_by};
-ghost use Rattle.workers.specs.Threads.{AreOfOneStudy, IsReady, AreReady, AreWorked, ArePromised};
+ghost use Rattle.workers.specs.Threads.{AreOfOneStudy, IsReady, AreReady, AreWorked};
 
 use crate::gates::Gate;
 use crate::promise::{Promised, Terms};
@@ -27,7 +27,7 @@ pub(crate) fn run_all<G: Gate + Sync, R: Threads + Wait + Sync>(
 ) -> Result<Vec<Worked>, AllocError>
     requires study { AreOfOneStudy board.now (study_of study.now) }
     requires seats { AreReady board.now seats.items }
-    ensures { IfOk result (λ all. AreWorked board.now (study_of study.now) all.items) }
+    ensures { IfOk result (λ all. AreWorked board.now (study_of study.now) (G.decides gate.now) (G.was_told gate.now) all.items) }
 {
     let Study {
         number,
@@ -56,6 +56,7 @@ pub(crate) fn run_all<G: Gate + Sync, R: Threads + Wait + Sync>(
             ensures { IfOk result (λ all.
                 AreWorked board.entry.now
                 (study_by terms networks.entry.now origins.entry.now opportunities.entry.now shares.entry.now limits.entry.now)
+                (G.decides gate.entry.now) (G.was_told gate.entry.now)
                 all.items) }
         {
             let done = Vec::with_capacity(alloc, seats.len())?;
@@ -68,6 +69,7 @@ pub(crate) fn run_all<G: Gate + Sync, R: Threads + Wait + Sync>(
                 shares,
                 limits,
                 board,
+                gate,
             };
             for seat in seats {
                 match scope.spawn_with(
@@ -77,6 +79,7 @@ pub(crate) fn run_all<G: Gate + Sync, R: Threads + Wait + Sync>(
                             × IsReady board.now seat }
                         ensures { WorkedFor board.entry.now
                             (study_by terms networks.entry.now origins.entry.now opportunities.entry.now shares.entry.now limits.entry.now)
+                            (G.decides gate.entry.now) (G.was_told gate.entry.now)
                             result }
                     {
                         work_in_parts(
@@ -117,7 +120,7 @@ fn work_in_parts<G: Gate>(
 ) -> Worked
     requires study { AreOfOneStudy board.now (study_by terms networks.now origins.now opportunities.now shares.now limits.now) }
     requires seat { IsReady board.now seat }
-    ensures { WorkedFor board.now (study_by terms networks.now origins.now opportunities.now shares.now limits.now) result }
+    ensures { WorkedFor board.now (study_by terms networks.now origins.now opportunities.now shares.now limits.now) (G.decides gate.now) (G.was_told gate.now) result }
 {
     let study = Study {
         number: terms.number,
@@ -135,20 +138,19 @@ fn work_in_parts<G: Gate>(
 }
 
 /// Joins each worker.
-fn join_all<'a, 'b, R: Threads>(
+fn join_all<'a, 'b, G: Gate, R: Threads>(
     rt: &R,
-    promised: Promised<'a, 'b>,
-    handles: Vec<PromisedHandle<Worked, Promised<'a, 'b>>>,
+    promised: Promised<'a, 'b, G>,
+    handles: Vec<PromisedHandle<Worked, Promised<'a, 'b, G>>>,
     mut done: Vec<Worked>,
 ) -> Vec<Worked>
     requires room { vec_len done + vec_len handles ≤ vec_capacity done }
     requires none { done.items ≡ [] }
-    requires promised { ArePromised promised.board.now
-        (study_by promised.terms promised.networks.now promised.origins.now promised.opportunities.now promised.shares.now promised.limits.now)
-        handles.items }
+    requires promised { All (λ handle. handle.promise ≡ promised) handles.items }
     ensures worked { AreWorked promised.entry.board.now
         (study_by promised.entry.terms promised.entry.networks.now promised.entry.origins.now promised.entry.opportunities.now
         promised.entry.shares.now promised.entry.limits.now)
+        (G.decides promised.entry.gate.now) (G.was_told promised.entry.gate.now)
         result.items }
     ensures len { vec_len result ≡ vec_len handles.entry }
 {

@@ -36,3 +36,6 @@ returns-clause-networks g c = c.networks_for.ensures.networks
 
 pub returns-clause-fault : goal.returns-clause-fault
 returns-clause-fault g c = c.networks_for.ensures.fault
+
+pub returns-clause-told : goal.returns-clause-told
+returns-clause-told g c = c.networks_for.ensures.told

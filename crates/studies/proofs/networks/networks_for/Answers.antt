@@ -9,6 +9,7 @@ use Rattle.studies.specs.declared.fault.StudyFault.TheVariants as fault
 use Rattle.studies.specs.Inputs.{inputs_of}
 use Rattle.studies.specs.Settings.{SettingsData, SettingsFit}
 use Rattle.studies.specs.Study.{AreNetworks, Tells}
+use Rattle.studies.proofs.Saw.{told_ok}
 use Rattle.studies.proofs.StudyFacts.{are_dated, are_walked, days_told, feet_told, networks_made, networks_told, scenario_count, seen}
 use Rattle.studies.proofs.networks.networks_for.Goals as goal
 
@@ -68,3 +69,6 @@ returns-clause-fault g c =
     subst (λ (x : SettingsData). IfErr c.all_networks.result (λ e. Tells e i x)) c.settings.view_is
     (networks_told i s feed c.deref-2.result.now c.in-Ok-close.feet c.args.scenarios.now walked c.requires.feed runs c.requires.scenarios
     c.all_networks.result c.all_networks.ensures.fault)
+
+pub returns-clause-told : goal.returns-clause-told
+returns-clause-told g c = told_ok c.all_networks.result c.days_listed.ensures.told

@@ -23,3 +23,9 @@ returns-clause-text g c = c.text_of_tables.ensures.text
 
 pub returns-clause-fault : goal.returns-clause-fault
 returns-clause-fault g c = c.text_of_tables.ensures.fault
+
+pub text_of_tables-requires-clause-told : goal.text_of_tables-requires-clause-told
+text_of_tables-requires-clause-told g c = λ _ _. c.tables_read.ensures.told
+
+pub returns-clause-told : goal.returns-clause-told
+returns-clause-told g c = c.text_of_tables.ensures.told

@@ -16,3 +16,6 @@ returns-clause-text g c = c.text_of_feed-text.ensures.text
 
 pub returns-clause-fault : goal.returns-clause-fault
 returns-clause-fault g c = c.text_of_feed-text.ensures.fault
+
+pub returns-clause-told : goal.returns-clause-told
+returns-clause-told g c = c.text_of_feed-text.ensures.told

@@ -5,6 +5,7 @@ use Rattle.gtfs_tables.specs.Origins.{origins_of}
 use Rattle.timetable.specs.declared.trips.StopNo.{StopNo}
 use Rattle.workers.specs.Study.{Query, query_of}
 use Rattle.studies.specs.Inputs.{inputs_of}
+use Rattle.studies.proofs.Saw.{saw_all, told_ok}
 use Rattle.studies.proofs.StudyFacts.{network_count, run_told, study_fits, study_is, text_made, text_told}
 use Rattle.studies.proofs.study.text_of_networks.Goals as goal
 
@@ -21,7 +22,7 @@ returns-in-Err-clause-fault g c =
     let i = inputs_of c.args.inputs.now in
     let origins = c.as_slice.ensures.value ∙ c.requires.tables.origins_are ∙ ap (λ (d : FeedData). origins_of i.origins d) c.requires.feed in
     let opportunities = c.as_slice-2.ensures.value ∙ c.requires.tables.opportunities_are ∙ ap (λ (d : FeedData). opportunities_of i.opportunities d) c.requires.feed in
-    inl (run_told i c.args.settings.now c.args.networks.now _ c.in-Err.fault c.requires.networks
+    inl (run_told (g.G.Gate.decides c.args.gate.now) (g.G.Gate.was_told c.args.gate.now) i c.args.settings.now c.args.networks.now _ c.in-Err.fault c.requires.networks
     (study_is i c.args.settings.now c.args.networks.now c.as_slice.result.now c.as_slice-2.result.now (query_of c.asked.result) origins opportunities c.asked.ensures)
     c.in-Err.ensures.fault)
 
@@ -60,4 +61,14 @@ returns-clause-text g c =
     c.in-Ok.ensures.matrix c.text_of_matrix.ensures.text
 
 pub returns-clause-fault : goal.returns-clause-fault
-returns-clause-fault g c = text_told (inputs_of c.args.inputs.now) c.args.settings.now c.text_of_matrix.result c.text_of_matrix.ensures.fault
+returns-clause-fault g c =
+    text_told (inputs_of c.args.inputs.now) c.args.settings.now (g.G.Gate.decides c.args.gate.now) (g.G.Gate.was_told c.args.gate.now) c.text_of_matrix.result c.text_of_matrix.ensures.fault
+
+pub returns-clause-told : goal.returns-clause-told
+returns-clause-told g c =
+    let i = inputs_of c.args.inputs.now in
+    let origins = c.as_slice.ensures.value ∙ c.requires.tables.origins_are ∙ ap (λ (d : FeedData). origins_of i.origins d) c.requires.feed in
+    let opportunities = c.as_slice-2.ensures.value ∙ c.requires.tables.opportunities_are ∙ ap (λ (d : FeedData). opportunities_of i.opportunities d) c.requires.feed in
+    told_ok c.text_of_matrix.result (saw_all (g.W.Watch.saw c.args.watch.now) i c.args.settings.now c.args.networks.now _ c.in-Ok.matrix c.requires.networks
+    (study_is i c.args.settings.now c.args.networks.now c.as_slice.result.now c.as_slice-2.result.now (query_of c.asked.result) origins opportunities c.asked.ensures)
+    c.in-Ok.ensures.matrix c.in-Ok.ensures.told)

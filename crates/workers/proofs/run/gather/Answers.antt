@@ -1,17 +1,22 @@
-use Rattle.std.proofs.Common.{◌≡◌, ◌++◌, ◌∷◌, [], ℕ, List, ap, sym, subst, ◌∙◌}
+use Rattle.std.proofs.Common.{◌≡◌, ◌||◌, ◌++◌, ◌∷◌, ℕ, List, Bool, true, false, ap, sym, refl, subst, ◌∙◌}
 use Rattle.std.specs.Vec.Iter.{into_iter_items}
+use Rattle.std.proofs.lemmas.List.Elements.{All-same}
 use Rattle.work_book.specs.Board.{seen_by, IsOf}
 use Rattle.work_book.specs.declared.rule.View.{View}
 use Rattle.collector.specs.Places.{PlacesData}
-use Rattle.workers.specs.Held.{WorkedFor}
+use Rattle.workers.specs.Held.{HoldsRows}
 use Rattle.workers.specs.Filling.{AreFilledAs}
+use Rattle.workers.specs.Outcomes.{is_short, is_some_short, joined}
 use Rattle.workers.specs.declared.worker.Worked.{Worked}
 use Rattle.workers.proofs.Fills.{fills}
 use Rattle.workers.proofs.Joined.{first_of_all, rest_of_all}
 use Rattle.workers.proofs.run.gather.Goals as goal
 
-not_none : {A : Type 0} (all rest : List Worked) (x : Worked) → all ≡ x ∷ rest → all ≡ [] → A
-not_none all rest x e none = let clash : x ∷ rest ≡ [] = sym e ∙ none in cc
+-- one worker fewer is left to ask
+one_fewer : (short : Bool) (w : Worked) (rest all : List Worked) (whole : Bool) → all ≡ w ∷ rest → (short || is_some_short all) ≡ whole
+    → ((short || is_short w.ending) || is_some_short rest) ≡ whole
+one_fewer true w rest all whole e h = h
+one_fewer false w rest all whole e h = ap is_some_short (sym e) ∙ h
 
 pub loop-done-preserved : goal.loop-done-preserved
 loop-done-preserved c =
@@ -28,12 +33,26 @@ loop-done-preserved c =
       board = c.join.ensures.board;
       seats = rest_of_all (λ w. IsOf b w.seat) c.in-Some.done rest all steps.0 was.seats;
       once = c.join.ensures.once;
-      none = λ none. not_none all rest c.in-Some.done steps.0 (was.none none).0;
+      joined = ap (λ (v : View). joined v rest) c.join.ensures.both ∙ ap (joined (seen_by c.loop-done.seat)) (sym steps.0) ∙ was.joined;
+      short = ap (λ t. t || is_some_short rest) c.is_short_too-short.ensures ∙ one_fewer c.loop-done.short c.in-Some.done rest all (is_some_short c.args.worked.items) steps.0 was.short;
       filled = λ s fits worked start.
           let so_far = was.filled s fits worked start in
-          let mine = first_of_all (λ w. WorkedFor b s w) c.in-Some.done rest all steps.0 so_far.0 in (
-            rest_of_all (λ w. WorkedFor b s w) c.in-Some.done rest all steps.0 so_far.0,
+          let mine = first_of_all (λ w. HoldsRows s w.rows.items (seen_by w.seat).kept) c.in-Some.done rest all steps.0 so_far.0 in (
+            rest_of_all (λ w. HoldsRows s w.rows.items (seen_by w.seat).kept) c.in-Some.done rest all steps.0 so_far.0,
             subst (λ (z : List ℕ × PlacesData). AreFilledAs s z.0 z.1) (λ i. (sym now i, sym c.offer_all.ensures i))
-                (fills s kept more before c.in-Some.done.rows.items fits mine.holds so_far.1),
+                (fills s kept more before c.in-Some.done.rows.items fits mine so_far.1),
           );
+    }
+
+pub loop-done-init : goal.loop-done-init
+loop-done-init c =
+    let is = c.into_iter-done-iterator.ensures.into_iter_gives.0 in
+    let all = into_iter_items c.into_iter-done-iterator.result in
+    record {
+      board = c.requires.board;
+      seats = All-same (λ w. IsOf c.args.board.now w.seat) all c.args.worked.items is c.requires.worked;
+      once = c.requires.once;
+      joined = ap (joined (seen_by c.args.seat.now)) is;
+      short = ap is_some_short is;
+      filled = λ s fits worked start. (All-same (λ w. HoldsRows s w.rows.items (seen_by w.seat).kept) all c.args.worked.items is worked, start);
     }

@@ -1,7 +1,6 @@
-use Rattle.std.proofs.Common.{◌≡◌, ◌+◌, ◌≤◌, vec_items, vec_len, vec_capacity, []}
+use Rattle.std.proofs.Common.{◌≡◌, ◌+◌, ◌≤◌, All, vec_items, vec_len, vec_capacity, []}
 use Rattle.std.specs.Vec.Iter.{into_iter_items, into_iter_len}
-use Rattle.workers.specs.Parts.{study_by}
-use Rattle.workers.specs.Threads.{AreReady, ArePromised}
+use Rattle.workers.specs.Threads.{AreReady}
 use Rattle.workers.proofs.threads.fn.run_all.scope.Given as goal
 
 abbrev pub invariant-loop-seat : goal.invariant-loop-seat
@@ -10,5 +9,5 @@ invariant-loop-seat g l = record {
   done : vec_len l.handles + into_iter_len l.seat-iterator ≤ vec_capacity l.done;
   none : vec_items l.done ≡ [];
   ready : AreReady l.board (into_iter_items l.seat-iterator);
-  promised : ArePromised l.board (study_by l.terms l.networks l.origins l.opportunities l.shares l.limits) (vec_items l.handles);
+  promised : All (λ handle. handle.promise ≡ l.promised) (vec_items l.handles);
 }
