@@ -1,38 +1,41 @@
--- Which file of a disk is which input of a study.
+-- Which file of a disk is which input of a study, and which file is told where one isn't read.
 -- "The files of the feed lie in its folder, each under its own name, and may be absent. A file that an option names has to be
--- there, and is what that option says; so have the scenario files, each named by its own path, in their order."
--- (The program's own rule.)
-use Rattle.std.specs.Prelude.{◌≡◌, ◌⊎◌, ℕ, List, [], ◌∷◌, Option, Some, None, ⊤, map, codes, option_map, string_bytes}
+-- there, and is what that option says; so have the scenario files, each named by its own path, in their order. The first
+-- file that isn't read is told." (The program's own rule.)
+use Rattle.std.specs.Prelude.{◌≡◌, ◌⊎◌, ◌++◌, ℕ, List, [], ◌∷◌, Option, Some, None, Ok, Err, ⊤, map, codes, option_map, string_bytes}
 use Rattle.command_line.specs.Lines.{line, no_memory, path_rest, read_status}
 use Rattle.command_line.specs.Paths.{path_in, scenario_of}
 use Rattle.command_line.specs.declared.files.ReadFault.{ReadFault}
+use Rattle.command_line.specs.declared.files.ReadFault.TheVariants as read
+use Rattle.command_line.specs.declared.statuses.TheConstants.{NO_ROOM}
 use Rattle.command_line.specs.declared.task.Task.{Task}
 use Rattle.gtfs_tables.specs.Files as files
 use Rattle.matrix_text.specs.Prefixes.{PutsPrefix}
 use Rattle.studies.specs.FeedFiles.{files_read}
 use Rattle.studies.specs.Inputs.{InputFiles}
 use Rattle.studies.specs.NamedFile.{NamedBytes}
+use Rattle.ttm.specs.Disk.{Found}
 use Rattle.ttm.specs.declared.study_files.StudyFiles.{StudyFiles}
 
--- what a read of a path may find: the bytes of a file, or that there is none
+-- what a read of a path may find: the bytes of a file, that there is none, or why it isn't read
 abbrev pub Finds : Type 1
-Finds = List ℕ → Option (List ℕ) → Type 0
+Finds = List ℕ → Found → Type 0
 
 -- the files of the feed, each by its own name in the folder; one that isn't found is absent
 pub record IsFeedIn (finds : Finds) (folder : List ℕ) (feed : files.FeedFiles) : Type 0 where
-  pub stops : finds (path_in folder (codes "stops.txt")) feed.stops
-  pub routes : finds (path_in folder (codes "routes.txt")) feed.routes
-  pub calendar : finds (path_in folder (codes "calendar.txt")) feed.calendar
-  pub calendar_dates : finds (path_in folder (codes "calendar_dates.txt")) feed.calendar_dates
-  pub trips : finds (path_in folder (codes "trips.txt")) feed.trips
-  pub stop_times : finds (path_in folder (codes "stop_times.txt")) feed.stop_times
-  pub frequencies : finds (path_in folder (codes "frequencies.txt")) feed.frequencies
-  pub transfers : finds (path_in folder (codes "transfers.txt")) feed.transfers
+  pub stops : finds (path_in folder (codes "stops.txt")) (Ok feed.stops)
+  pub routes : finds (path_in folder (codes "routes.txt")) (Ok feed.routes)
+  pub calendar : finds (path_in folder (codes "calendar.txt")) (Ok feed.calendar)
+  pub calendar_dates : finds (path_in folder (codes "calendar_dates.txt")) (Ok feed.calendar_dates)
+  pub trips : finds (path_in folder (codes "trips.txt")) (Ok feed.trips)
+  pub stop_times : finds (path_in folder (codes "stop_times.txt")) (Ok feed.stop_times)
+  pub frequencies : finds (path_in folder (codes "frequencies.txt")) (Ok feed.frequencies)
+  pub transfers : finds (path_in folder (codes "transfers.txt")) (Ok feed.transfers)
 
 -- a file of the analyst's own is there exactly where its option is, and is found at the option's path
 abbrev pub IsOwn : Finds → Option (List ℕ) → Option (List ℕ) → Type 0
 IsOwn finds None None = ⊤
-IsOwn finds (Some path) (Some bytes) = finds path (Some bytes)
+IsOwn finds (Some path) (Some bytes) = finds path (Ok (Some bytes))
 IsOwn finds None (Some bytes) = ⊥
 IsOwn finds (Some path) None = ⊥
 
@@ -40,7 +43,7 @@ IsOwn finds (Some path) None = ⊥
 abbrev pub AreScenarios : Finds → List (List ℕ) → List NamedBytes → Type 0
 AreScenarios finds [] [] = ⊤
 AreScenarios finds (path ∷ paths) (file ∷ rest) =
-    (file.name ≡ scenario_of path) × finds path (Some file.bytes) × AreScenarios finds paths rest
+    (file.name ≡ scenario_of path) × finds path (Ok (Some file.bytes)) × AreScenarios finds paths rest
 AreScenarios finds [] (file ∷ rest) = ⊥
 AreScenarios finds (path ∷ paths) [] = ⊥
 
@@ -68,9 +71,63 @@ files_of f = record {
 abbrev pub TellsLine : Option (List ℕ) → Option (List ℕ) → List ℕ → Type 0
 TellsLine old new l = PutsPrefix old new l ⊎ PutsPrefix old new (line no_memory)
 
--- it is told why some file isn't read, with the status of that
-pub record IsUnread (err told : Option (List ℕ)) (status : ℕ) : Type 0 where
+-- a path that is asked for: a file may be there, or has to be
+pub data Ask : Type 0 where
+  Optional : List ℕ → Ask
+  Needed : List ℕ → Ask
+
+abbrev pub path_of : Ask → List ℕ
+path_of (Optional path) = path
+path_of (Needed path) = path
+
+-- the paths that a study asks for, in their order: the feed's, the analyst's own, the scenarios'
+abbrev pub feed_asks : List ℕ → List Ask
+feed_asks folder =
+    Optional (path_in folder (codes "stops.txt")) ∷ Optional (path_in folder (codes "routes.txt")) ∷ Optional (path_in folder (codes "calendar.txt"))
+    ∷ Optional (path_in folder (codes "calendar_dates.txt")) ∷ Optional (path_in folder (codes "trips.txt")) ∷ Optional (path_in folder (codes "stop_times.txt"))
+    ∷ Optional (path_in folder (codes "frequencies.txt")) ∷ Optional (path_in folder (codes "transfers.txt")) ∷ []
+
+abbrev pub own_asks : Option (List ℕ) → List Ask
+own_asks None = []
+own_asks (Some path) = Needed path ∷ []
+
+abbrev pub scenario_asks : List (List ℕ) → List Ask
+scenario_asks paths = map Needed paths
+
+abbrev pub asks_of : Task → List Ask
+asks_of task =
+    feed_asks (string_bytes task.feed) ++ (own_asks (option_map string_bytes task.footpaths) ++ (own_asks (option_map string_bytes task.origins)
+    ++ (own_asks (option_map string_bytes task.opportunities) ++ scenario_asks (map string_bytes task.scenarios.items))))
+
+-- the file of a path is read, or is absent where it may be
+abbrev pub IsRead : Finds → Ask → Type 0
+IsRead finds (Optional path) = (file : Option (List ℕ)) × finds path (Ok file)
+IsRead finds (Needed path) = (bytes : List ℕ) × finds path (Ok (Some bytes))
+
+-- it isn't read: this fault was met there, or there is none where one has to be, which is a read fault
+abbrev pub Fails : Finds → Ask → ReadFault → Type 0
+Fails finds (Optional path) fault = finds path (Err fault)
+Fails finds (Needed path) fault = finds path (Err fault) ⊎ ((fault ≡ read.Read) × finds path (Ok None))
+
+-- of these paths this is the first whose file isn't read, by this fault
+abbrev pub IsFirstUnread : Finds → List Ask → List ℕ → ReadFault → Type 0
+IsFirstUnread finds [] path fault = ⊥
+IsFirstUnread finds (ask ∷ asks) path fault =
+    ((path ≡ path_of ask) × Fails finds ask fault) ⊎ (IsRead finds ask × IsFirstUnread finds asks path fault)
+
+-- it is told why the first file of these paths that isn't read isn't, with the status of that
+pub record IsUnread (finds : Finds) (asks : List Ask) (err told : Option (List ℕ)) (status : ℕ) : Type 0 where
   pub path : List ℕ
   pub fault : ReadFault
+  pub first : IsFirstUnread finds asks path fault
   pub line_is : TellsLine err told (line (path_rest path fault))
   pub status_is : status ≡ read_status fault
+
+-- want of memory is told, with its status
+pub record IsShort (err told : Option (List ℕ)) (status : ℕ) : Type 0 where
+  pub line_is : PutsPrefix err told (line no_memory)
+  pub status_is : status ≡ NO_ROOM
+
+-- the files of these paths aren't all read, and it is told why; or memory was short for a path or a name
+abbrev pub AreUnread : Finds → List Ask → Option (List ℕ) → Option (List ℕ) → ℕ → Type 0
+AreUnread finds asks err told status = IsUnread finds asks err told status ⊎ IsShort err told status

@@ -33,7 +33,7 @@ pub(crate) fn answer_task<'a, T: Threads + Wait + Sync, C: Console + Sync, O: Wr
 ) -> ExitCode
     requires files { AreWithinLimit (inputs_of inputs.now) }
     requires settings { SettingsFit task.now.settings }
-    ensures answered { spec.IsAnswered inputs.now task.now.settings (O.contents out.old) (O.contents out.new) (E.contents err.old) (E.contents err.new) (exit_status result) }
+    ensures answered { spec.IsAnswered (inputs_of inputs.now) task.now.settings (O.contents out.old) (O.contents out.new) (E.contents err.old) (E.contents err.new) (exit_status result) }
     ensures success { exit_status result ≡ DONE → spec.IsPrinted (inputs_of inputs.now) task.now.settings (O.contents out.old) (O.contents out.new) }
     ensures quiet { exit_status result ≡ DONE → err.new ≡ err.old }
 {
@@ -55,7 +55,7 @@ pub(crate) fn answer<T: Threads + Wait + Sync, O: Write, E: Write>(
 ) -> ExitCode
     requires files { AreWithinLimit (inputs_of inputs.now) }
     requires settings { SettingsFit settings.now }
-    ensures answered { spec.IsAnswered inputs.now settings.now (O.contents out.old) (O.contents out.new) (E.contents err.old) (E.contents err.new) (exit_status result) }
+    ensures answered { spec.IsAnswered (inputs_of inputs.now) settings.now (O.contents out.old) (O.contents out.new) (E.contents err.old) (E.contents err.new) (exit_status result) }
     ensures success { exit_status result ≡ DONE → spec.IsPrinted (inputs_of inputs.now) settings.now (O.contents out.old) (O.contents out.new) }
     ensures quiet { exit_status result ≡ DONE → err.new ≡ err.old }
 {
@@ -77,7 +77,7 @@ fn answer_and_report<'a, T: Threads + Wait + Sync, C: Console + Sync, O: Write, 
 ) -> ExitCode
     requires files { AreWithinLimit (inputs_of inputs.now) }
     requires settings { SettingsFit settings.now }
-    ensures answered { spec.IsAnswered inputs.now settings.now (O.contents out.old) (O.contents out.new) (E.contents err.old) (E.contents err.new) (exit_status result) }
+    ensures answered { spec.IsAnswered (inputs_of inputs.now) settings.now (O.contents out.old) (O.contents out.new) (E.contents err.old) (E.contents err.new) (exit_status result) }
     ensures success { exit_status result ≡ DONE → spec.IsPrinted (inputs_of inputs.now) settings.now (O.contents out.old) (O.contents out.new) }
     ensures quiet { exit_status result ≡ DONE → err.new ≡ err.old }
 {
@@ -126,7 +126,7 @@ fn tell_why<E: Write>(
     inputs: &Inputs<'_>,
     err: &mut E,
 ) -> ExitCode
-    ensures told { spec.IsTold fault.now inputs.now (E.contents err.old) (E.contents err.new) (exit_status result) }
+    ensures told { spec.IsTold fault.now (inputs_of inputs.now) (E.contents err.old) (E.contents err.new) (exit_status result) }
     ensures no_success { 1 ≤ exit_status result }
 {
     tell_made(fault_line(alloc, fault, inputs), status(fault), err)

@@ -6,12 +6,15 @@
 //! A fault is told by one line on the standard error, and by the exit status. Nothing but the whole matrix, or the
 //! help or the version that was asked for, is a success.
 
-ghost use Rattle.std.specs.Prelude.{◌≡◌, ℕ, List, [], map, string_bytes};
+ghost use Rattle.std.specs.Prelude.{◌≡◌, ◌≢◌, ◌⊎◌, ℕ, List, [], map, string_bytes};
 ghost use Rattle.std.specs.Io.KnownBytes.{Appends};
+ghost use Rattle.std.specs.IoError.{error_kind};
 ghost use Rattle.std.specs.Process.{exit_status};
+ghost use Rattle.std.specs.declared.io.ErrorKind.TheVariants.{OutOfMemory};
 ghost use Rattle.clap.specs.Words.{Text};
 ghost use Rattle.studies.specs.Settings.{SettingsFit};
 ghost use Rattle.ttm.specs.Answers as spec;
+ghost use Rattle.ttm.specs.Files.{IsShort};
 
 use crate::answers::{answer, answer_task};
 use crate::disk::Disk;
@@ -25,12 +28,12 @@ use command_line::{
 use matrix_text::put_all;
 use reports::Console;
 use std::alloc::Global;
-use std::env;
 use std::io::{ErrorKind, Write};
 use std::process::ExitCode;
 use std::rt::Env;
 use std::sync::Wait;
 use std::thread::Threads;
+use std::{env, io};
 use studies::Inputs;
 
 /// What the program does: it has its words, its files, its console, its threads and memory of the runtime, and the two outputs.
@@ -40,16 +43,28 @@ pub(crate) fn run<
     E: Write,
 >(rt: &R, out: &mut O, err: &mut E) -> ExitCode
     ensures success { exit_status result ≡ DONE → (words : List Text) × spec.EndsWell (R.finds rt.now) words (O.contents out.old) (O.contents out.new) }
+    ensures ended { ((words : List Text) × spec.Ends (R.finds rt.now) words (O.contents out.old) (O.contents out.new) (E.contents err.old) (E.contents err.new) (exit_status result)) ⊎ spec.EndsUnread (O.contents out.old) (O.contents out.new) (E.contents err.old) (E.contents err.new) (exit_status result) }
     ensures quiet { exit_status result ≡ DONE → err.new ≡ err.old }
 {
     let words = match env::args(rt) {
         Ok(words) => words,
-        Err(error) if error.kind() == ErrorKind::OutOfMemory => return tell_short(err),
-        Err(_) => return tell(b"ttm: words that are not UTF-8\n", REFUSED, err),
+        Err(error) => return tell_unread(&error, err),
     };
     match words.collect::<Vec<String>>(rt.alloc()) {
         Ok(words) => run_words(rt, rt.alloc(), rt, rt, &words, out, err),
         Err(_) => tell_short(err),
+    }
+}
+
+/// Tells why the words can't be had: memory was short, or one of them isn't UTF-8.
+fn tell_unread<E: Write>(error: &io::Error, err: &mut E) -> ExitCode
+    ensures told { spec.TellsUnread (E.contents err.old) (E.contents err.new) (exit_status result) }
+    ensures short { error_kind error.now ≡ OutOfMemory → IsShort (E.contents err.old) (E.contents err.new) (exit_status result) }
+    ensures line { error_kind error.now ≢ OutOfMemory → exit_status result ≡ REFUSED }
+{
+    match error.kind() {
+        ErrorKind::OutOfMemory => tell_short(err),
+        _ => tell(b"ttm: words that are not UTF-8\n", REFUSED, err),
     }
 }
 
@@ -64,6 +79,7 @@ pub(crate) fn run_words<T: Threads + Wait + Sync, D: Disk, C: Console + Sync, O:
     err: &mut E,
 ) -> ExitCode
     ensures success { exit_status result ≡ DONE → spec.EndsWell (D.finds disk.now) (map string_bytes words.now) (O.contents out.old) (O.contents out.new) }
+    ensures ended { spec.Ends (D.finds disk.now) (map string_bytes words.now) (O.contents out.old) (O.contents out.new) (E.contents err.old) (E.contents err.new) (exit_status result) }
     ensures quiet { exit_status result ≡ DONE → err.new ≡ err.old }
 {
     if words.len() <= 1 {
@@ -81,6 +97,7 @@ fn example<T: Threads + Wait + Sync, O: Write, E: Write>(
     err: &mut E,
 ) -> ExitCode
     ensures success { exit_status result ≡ DONE → spec.IsExample (O.contents out.old) (O.contents out.new) }
+    ensures ended { spec.EndsExample (O.contents out.old) (O.contents out.new) (E.contents err.old) (E.contents err.new) (exit_status result) }
     ensures quiet { exit_status result ≡ DONE → err.new ≡ err.old }
 {
     let inputs = Inputs {
@@ -107,6 +124,7 @@ fn asked<T: Threads + Wait + Sync, D: Disk, C: Console + Sync, O: Write, E: Writ
     err: &mut E,
 ) -> ExitCode
     ensures success { exit_status result ≡ DONE → spec.Succeeds (D.finds disk.now) (map string_bytes words.now) (O.contents out.old) (O.contents out.new) }
+    ensures ended { spec.EndsWords (D.finds disk.now) (map string_bytes words.now) (O.contents out.old) (O.contents out.new) (E.contents err.old) (E.contents err.new) (exit_status result) }
     ensures quiet { exit_status result ≡ DONE → err.new ≡ err.old }
 {
     match task_of(alloc, words) {
@@ -136,18 +154,32 @@ fn tell_words<O: Write, E: Write>(
     err: &mut E,
 ) -> ExitCode
     ensures help { exit_status result ≡ DONE → (code ≡ DONE) × ((text : List ℕ) × Appends (O.contents out.old) (O.contents out.new) text) }
+    ensures ended { spec.EndsText code (O.contents out.old) (O.contents out.new) (E.contents err.old) (E.contents err.new) (exit_status result) }
     ensures quiet { exit_status result ≡ DONE → err.new ≡ err.old }
 {
     match format!(in alloc; "{error}") {
-        Ok(text) if code == DONE => put_help(text.as_bytes(), out, err),
-        Ok(text) => tell(text.as_bytes(), code, err),
+        Ok(text) => put_text(text.as_bytes(), code, out, err),
         Err(_) => tell_short(err),
+    }
+}
+
+/// Puts out a text whose status is that of help or the version, and else tells it.
+fn put_text<O: Write, E: Write>(text: &[u8], code: u8, out: &mut O, err: &mut E) -> ExitCode
+    ensures help { exit_status result ≡ DONE → (code ≡ DONE) × Appends (O.contents out.old) (O.contents out.new) text.now }
+    ensures ended { spec.IsPut text.now code (O.contents out.old) (O.contents out.new) (E.contents err.old) (E.contents err.new) (exit_status result) }
+    ensures quiet { exit_status result ≡ DONE → err.new ≡ err.old }
+{
+    if code == DONE {
+        put_help(text, out, err)
+    } else {
+        tell(text, code, err)
     }
 }
 
 /// Puts out the help or the version. Where it can't be written that is no success.
 fn put_help<O: Write, E: Write>(text: &[u8], out: &mut O, err: &mut E) -> ExitCode
     ensures help { exit_status result ≡ DONE → Appends (O.contents out.old) (O.contents out.new) text.now }
+    ensures ended { spec.IsShown text.now (O.contents out.old) (O.contents out.new) (E.contents err.old) (E.contents err.new) (exit_status result) }
     ensures quiet { exit_status result ≡ DONE → err.new ≡ err.old }
 {
     match put_all(text, out) {
@@ -169,6 +201,7 @@ fn study<T: Threads + Wait + Sync, D: Disk, C: Console + Sync, O: Write, E: Writ
 ) -> ExitCode
     requires { SettingsFit task.now.settings }
     ensures success { exit_status result ≡ DONE → spec.IsMade (D.finds disk.now) task.now (O.contents out.old) (O.contents out.new) }
+    ensures ended { spec.EndsTask (D.finds disk.now) task.now (O.contents out.old) (O.contents out.new) (E.contents err.old) (E.contents err.new) (exit_status result) }
     ensures quiet { exit_status result ≡ DONE → err.new ≡ err.old }
 {
     let mut files = StudyFiles::none(alloc);
@@ -191,6 +224,7 @@ fn read_and_answer<T: Threads + Wait + Sync, D: Disk, C: Console + Sync, O: Writ
     requires settings { SettingsFit task.now.settings }
     requires no_scenarios { files.old.scenarios.items ≡ [] }
     ensures success { exit_status result ≡ DONE → spec.IsMade (D.finds disk.now) task.now (O.contents out.old) (O.contents out.new) }
+    ensures ended { spec.EndsTask (D.finds disk.now) task.now (O.contents out.old) (O.contents out.new) (E.contents err.old) (E.contents err.new) (exit_status result) }
     ensures quiet { exit_status result ≡ DONE → err.new ≡ err.old }
 {
     match read_files(alloc, disk, task, files, err) {

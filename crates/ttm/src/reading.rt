@@ -1,6 +1,6 @@
 //! The files that a study names, each read whole: which of them have to be there, and what is told where one isn't read.
 
-ghost use Rattle.std.specs.Prelude.{◌≡◌, ◌≤◌, All, IfErr, IfOk, OnOk, Some, [], length, map, option_map, string_bytes};
+ghost use Rattle.std.specs.Prelude.{◌≡◌, ◌≤◌, ◌∷◌, All, IfErr, IfOk, OnOk, Ok, Some, [], length, map, option_map, string_bytes};
 ghost use Rattle.std.specs.Process.{exit_status};
 ghost use Rattle.command_line.specs.Lines.{line, path_rest, read_status};
 ghost use Rattle.command_line.specs.Paths as paths;
@@ -31,7 +31,7 @@ pub(crate) fn read_files<D: Disk, E: Write>(
     ensures files { OnOk result (spec.AreNamed (D.finds disk.now) task.now (spec.files_of files.new)) }
     ensures limit { OnOk result (AreWithinLimit (spec.files_of files.new)) }
     ensures quiet { OnOk result (err.new ≡ err.old) }
-    ensures unread { IfErr result (λ code. spec.IsUnread (E.contents err.old) (E.contents err.new) (exit_status code)) }
+    ensures unread { IfErr result (λ code. spec.AreUnread (D.finds disk.now) (spec.asks_of task.now) (E.contents err.old) (E.contents err.new) (exit_status code)) }
 {
     read_feed_files(alloc, disk, task.feed.as_str(), &mut files.feed, err)?;
     own_file(alloc, disk, &task.footpaths, &mut files.footpaths, err)?;
@@ -63,7 +63,7 @@ pub(crate) fn read_feed_files<D: Disk, E: Write>(
     ensures files { OnOk result (spec.IsFeedIn (D.finds disk.now) folder.now (files_read files.new)) }
     ensures limit { OnOk result (limit.AreWithinLimit (files_read files.new)) }
     ensures quiet { OnOk result (err.new ≡ err.old) }
-    ensures unread { IfErr result (λ code. spec.IsUnread (E.contents err.old) (E.contents err.new) (exit_status code)) }
+    ensures unread { IfErr result (λ code. spec.AreUnread (D.finds disk.now) (spec.feed_asks folder.now) (E.contents err.old) (E.contents err.new) (exit_status code)) }
 {
     feed_file(alloc, disk, folder, "stops.txt", &mut files.stops, err)?;
     feed_file(alloc, disk, folder, "routes.txt", &mut files.routes, err)?;
@@ -119,10 +119,10 @@ fn feed_file<D: Disk, E: Write>(
     place: &mut Option<Vec<u8>>,
     err: &mut E,
 ) -> Result<(), ExitCode>
-    ensures file { OnOk result (D.finds disk.now (paths.path_in folder.now name.now) (option_map (λ bytes. bytes.items) place.new)) }
+    ensures file { OnOk result (D.finds disk.now (paths.path_in folder.now name.now) (Ok (option_map (λ bytes. bytes.items) place.new))) }
     ensures limit { OnOk result (limit.IsWithinLimit (option_map (λ bytes. bytes.items) place.new)) }
     ensures quiet { OnOk result (err.new ≡ err.old) }
-    ensures unread { IfErr result (λ code. spec.IsUnread (E.contents err.old) (E.contents err.new) (exit_status code)) }
+    ensures unread { IfErr result (λ code. spec.AreUnread (D.finds disk.now) (spec.Optional (paths.path_in folder.now name.now) ∷ []) (E.contents err.old) (E.contents err.new) (exit_status code)) }
 {
     match path_in(alloc, folder, name) {
         Ok(path) => {
@@ -144,7 +144,7 @@ pub(crate) fn own_file<D: Disk, E: Write>(
     ensures file { OnOk result (spec.IsOwn (D.finds disk.now) (option_map string_bytes path.now) (option_map (λ bytes. bytes.items) place.new)) }
     ensures limit { OnOk result (limit.IsWithinLimit (option_map (λ bytes. bytes.items) place.new)) }
     ensures quiet { OnOk result (err.new ≡ err.old) }
-    ensures unread { IfErr result (λ code. spec.IsUnread (E.contents err.old) (E.contents err.new) (exit_status code)) }
+    ensures unread { IfErr result (λ code. spec.IsUnread (D.finds disk.now) (spec.own_asks (option_map string_bytes path.now)) (E.contents err.old) (E.contents err.new) (exit_status code)) }
 {
     match path {
         Some(path) => *place = Some(there(alloc, disk, path.as_str(), err)?),
@@ -165,7 +165,7 @@ pub(crate) fn scenario_files<D: Disk, E: Write>(
     ensures files { OnOk result (spec.AreScenarios (D.finds disk.now) (map string_bytes paths.now) files.new.items) }
     ensures limit { OnOk result (All (λ f. length f.bytes ≤ 1073741824) files.new.items) }
     ensures quiet { OnOk result (err.new ≡ err.old) }
-    ensures unread { IfErr result (λ code. spec.IsUnread (E.contents err.old) (E.contents err.new) (exit_status code)) }
+    ensures unread { IfErr result (λ code. spec.AreUnread (D.finds disk.now) (spec.scenario_asks (map string_bytes paths.now)) (E.contents err.old) (E.contents err.new) (exit_status code)) }
 {
     for path in paths {
         let file = scenario_file(alloc, disk, path.as_str(), err)?;
@@ -183,10 +183,10 @@ fn scenario_file<D: Disk, E: Write>(
     path: &str,
     err: &mut E,
 ) -> Result<NamedFile, ExitCode>
-    ensures file { IfOk result (λ file. (file.name ≡ paths.scenario_of path.now) × D.finds disk.now path.now (Some file.bytes)) }
+    ensures file { IfOk result (λ file. (file.name ≡ paths.scenario_of path.now) × D.finds disk.now path.now (Ok (Some file.bytes))) }
     ensures limit { IfOk result (λ file. length file.bytes ≤ 1073741824) }
     ensures quiet { OnOk result (err.new ≡ err.old) }
-    ensures unread { IfErr result (λ code. spec.IsUnread (E.contents err.old) (E.contents err.new) (exit_status code)) }
+    ensures unread { IfErr result (λ code. spec.AreUnread (D.finds disk.now) (spec.Needed path.now ∷ []) (E.contents err.old) (E.contents err.new) (exit_status code)) }
 {
     let bytes = there(alloc, disk, path, err)?;
     match Vec::from_slice(alloc, scenario_of(path.as_bytes())) {
@@ -202,10 +202,10 @@ fn there<D: Disk, E: Write>(
     path: &str,
     err: &mut E,
 ) -> Result<Vec<u8>, ExitCode>
-    ensures file { IfOk result (λ bytes. D.finds disk.now path.now (Some bytes.items)) }
+    ensures file { IfOk result (λ bytes. D.finds disk.now path.now (Ok (Some bytes.items))) }
     ensures limit { IfOk result (λ bytes. length bytes.items ≤ 1073741824) }
     ensures quiet { OnOk result (err.new ≡ err.old) }
-    ensures unread { IfErr result (λ code. spec.IsUnread (E.contents err.old) (E.contents err.new) (exit_status code)) }
+    ensures unread { IfErr result (λ code. spec.IsUnread (D.finds disk.now) (spec.Needed path.now ∷ []) (E.contents err.old) (E.contents err.new) (exit_status code)) }
 {
     match found(alloc, disk, path, err)? {
         Some(bytes) => Ok(bytes),
@@ -220,10 +220,10 @@ fn found<D: Disk, E: Write>(
     path: &str,
     err: &mut E,
 ) -> Result<Option<Vec<u8>>, ExitCode>
-    ensures file { IfOk result (λ file. D.finds disk.now path.now (option_map (λ bytes. bytes.items) file)) }
+    ensures file { IfOk result (λ file. D.finds disk.now path.now (Ok (option_map (λ bytes. bytes.items) file))) }
     ensures limit { IfOk result (λ file. limit.IsWithinLimit (option_map (λ bytes. bytes.items) file)) }
     ensures quiet { OnOk result (err.new ≡ err.old) }
-    ensures unread { IfErr result (λ code. spec.IsUnread (E.contents err.old) (E.contents err.new) (exit_status code)) }
+    ensures unread { IfErr result (λ code. spec.IsUnread (D.finds disk.now) (spec.Optional path.now ∷ []) (E.contents err.old) (E.contents err.new) (exit_status code)) }
 {
     match disk.find(alloc, path) {
         Ok(file) => Ok(file),
@@ -235,7 +235,6 @@ fn found<D: Disk, E: Write>(
 fn not_read<E: Write>(alloc: Global, path: &str, fault: &ReadFault, err: &mut E) -> ExitCode
     ensures status { exit_status result ≡ read_status fault.now }
     ensures line { spec.TellsLine (E.contents err.old) (E.contents err.new) (line (path_rest path.now fault.now)) }
-    ensures unread { spec.IsUnread (E.contents err.old) (E.contents err.new) (exit_status result) }
 {
     tell_made(path_line(alloc, path, fault), path_status(fault), err)
 }

@@ -1,17 +1,36 @@
-use Rattle.std.proofs.Common.{◌≡◌, ◌∙◌, ◌+◌, ◌++◌, ◌∷◌, [], Some, arith, inl, map, string_bytes, subst, take}
-use Rattle.std.proofs.lemmas.Grind.{common_steps}
+use Rattle.std.proofs.Common.{◌≡◌, ◌∙◌, ◌+◌, ◌++◌, ◌∷◌, [], Ok, Some, arith, drop, inr, map, string_bytes, subst, suc, take}
 use Rattle.std.specs.Process.{exit_status}
+use Rattle.std.proofs.lemmas.Result.{err_from_is_err_and}
+use Rattle.std.proofs.lemmas.Grind.{common_steps}
+use Rattle.command_line.specs.Lines.{line, no_memory}
 use Rattle.command_line.specs.Paths.{scenario_of}
-use Rattle.command_line.specs.declared.files.ReadFault.TheVariants as fault
-use Rattle.ttm.specs.Files.{AreScenarios, IsUnread}
+use Rattle.matrix_text.specs.Prefixes.{PutsPrefix}
+use Rattle.ttm.specs.Files.{AreScenarios, AreUnread, Needed}
 use Rattle.ttm.proofs.Scenarios.{one_more}
+use Rattle.ttm.proofs.Unread.{scenario_unread, split_map}
 use Rattle.ttm.proofs.reading.scenario_files.Goals as goal
+
+pub returns-in_err-file-clause-unread : goal.returns-in_err-file-clause-unread
+returns-in_err-file-clause-unread g c =
+    let finds = g.D.Disk.finds c.args.disk.now in
+    let paths = c.args.paths.now in
+    let i = c.loop-path.path-index in
+    let named = subst (λ path. AreUnread finds (Needed path ∷ []) (g.E.Write.contents c.loop-path.err) (g.E.Write.contents c.scenario_file.new.err) (exit_status c.in_err-file.field-0.0))
+    c.as_str.ensures.value c.in_err-file.ensures.unread in
+    let told = subst (λ err. AreUnread finds (Needed (string_bytes c.path-item.result) ∷ []) (g.E.Write.contents err) (g.E.Write.contents c.scenario_file.new.err) (exit_status c.in_err-file.field-0.0))
+    c.loop-path.invariant.quiet named in
+    let exit = err_from_is_err_and c.from_residual.result c.from_residual.ensures.1 in
+    rw (exit.1, exit.2)
+    (scenario_unread finds (map string_bytes paths) (map string_bytes (take i paths)) (string_bytes c.path-item.result) (map string_bytes (drop (suc i) paths))
+    c.loop-path.files.items _ _ _ (split_map string_bytes paths i c.path-item.result c.path-item.is (omega arith)) c.loop-path.invariant.files told)
 
 pub returns-then-is_err-clause-unread : goal.returns-then-is_err-clause-unread
 returns-then-is_err-clause-unread g c =
-    subst (λ err. IsUnread (g.E.Write.contents err) (g.E.Write.contents c.tell_short.new.err) (exit_status c.tell_short.result))
-    (c.in_ok-file.ensures.quiet ∙ c.loop-path.invariant.quiet)
-    (record { path = []; fault = fault.Memory; line_is = inl c.tell_short.ensures.line; status_is = c.tell_short.ensures.status })
+    inr record {
+      line_is = subst (λ err. PutsPrefix (g.E.Write.contents err) (g.E.Write.contents c.tell_short.new.err) (line no_memory))
+          (c.in_ok-file.ensures.quiet ∙ c.loop-path.invariant.quiet) c.tell_short.ensures.line;
+      status_is = c.tell_short.ensures.status;
+    }
 
 pub loop-path-preserved : goal.loop-path-preserved
 loop-path-preserved g c =
@@ -19,7 +38,7 @@ loop-path-preserved g c =
     let before = map string_bytes (take c.loop-path.path-index c.args.paths.now) in
     let items : c.push.new.self.items ≡ c.loop-path.files.items ++ c.in_ok-file.file ∷ [] = grind (arith, common_steps) in
     let paths : map string_bytes (take (c.loop-path.path-index + 1) c.args.paths.now) ≡ before ++ string_bytes c.path-item.result ∷ [] = grind (arith, common_steps) in
-    let named = subst (λ path. (c.in_ok-file.file.name ≡ scenario_of path) × finds path (Some c.in_ok-file.file.bytes)) c.as_str.ensures.value c.in_ok-file.ensures.file in
+    let named = subst (λ path. (c.in_ok-file.file.name ≡ scenario_of path) × finds path (Ok (Some c.in_ok-file.file.bytes))) c.as_str.ensures.value c.in_ok-file.ensures.file in
     let more : AreScenarios finds (before ++ string_bytes c.path-item.result ∷ []) (c.loop-path.files.items ++ c.in_ok-file.file ∷ []) =
     one_more finds before c.loop-path.files.items (string_bytes c.path-item.result) c.in_ok-file.file c.loop-path.invariant.files named.0 named.1 in
     record {
