@@ -21,10 +21,12 @@ mod bounded;
 mod due;
 mod laws;
 mod minutes;
-mod scan;
+mod query;
+mod round;
 mod search;
 mod steps;
 mod table;
+mod tables;
 mod window;
 
 pub use laws::{
