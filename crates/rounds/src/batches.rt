@@ -71,8 +71,8 @@ fn write_batch(
     let ride = tables.ride.as_slice();
     let ready = tables.ready.as_slice();
     for stop in 0..ready.len() {
-        let ridden = lanes_of(ride[stop], rides);
-        let boards = lanes_of(ready[stop], rides);
+        let ridden = lanes_of(&ride[stop], rides);
+        let boards = lanes_of(&ready[stop], rides);
         let times = since(lower_of(ridden, boards), departs);
         labels[stop * batches + batch] = times;
     }

@@ -41,7 +41,7 @@ pub fn lower_ready(
     ensures kept { Keeps rides ready.old ready.new }
     ensures before { (start : List ℕ) (l : ℕ) → l < 16 → IsStart start fallen.old (lane l before.old) (lane l (held rides ready.old)) → IsStart start fallen.new (lane l before.new) (lane l (held rides ready.new)) }
 {
-    let was = lanes_of(ready[stop], rides);
+    let was = lanes_of(&ready[stop], rides);
     let already = fallen[stop];
     lower_stop(ready, fallen, stop, times, rides);
     if fallen[stop] && !already {
@@ -103,7 +103,7 @@ pub fn walk_labels(
     for stop in 0..feet.stops() {
         let from = stop as usize;
         if ridden.marked[from] {
-            let times = lanes_of(ridden.ride[from], rides);
+            let times = lanes_of(&ridden.ride[from], rides);
             lower_ready(ready, fallen, before, from, times, rides);
             walk_noting(
                 feet.leaving(StopNo(stop)),
@@ -146,7 +146,7 @@ pub fn transfer_labels(
     for stop in 0..feet.stops() {
         let from = stop as usize;
         if ridden.marked[from] {
-            let times = lanes_of(ridden.ride[from], rides);
+            let times = lanes_of(&ridden.ride[from], rides);
             let changed = later(times, feet.change(StopNo(stop)));
             lower_ready(ready, fallen, before, from, changed, rides);
             walk_noting(

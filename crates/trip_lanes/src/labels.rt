@@ -30,11 +30,12 @@ pub const NOWHERE: Label = Label {
 };
 
 /// The labels that count after so many rides.
-pub fn lanes_of(label: Label, rides: usize) -> Lanes
+pub fn lanes_of(label: &Label, rides: usize) -> Lanes
     requires { rides < 9 }
-    ensures { (l : ℕ) → l < 16 → slice_index result l ≡ min (slice_index label.lanes l) (slice_index label.bound rides) }
+    ensures { (l : ℕ) → l < 16 → slice_index result l ≡ min (slice_index label.now.lanes l) (slice_index label.now.bound rides) }
 {
-    lower_of(label.lanes, [label.bound[rides]; 16])
+    let lanes = label.lanes;
+    lower_of(lanes, [label.bound[rides]; 16])
 }
 
 /// The labels of a stop as sixteen departures begin: what was kept for them bounds them, and nothing is reached yet.
@@ -99,12 +100,11 @@ pub fn lower_stop(
     ensures marks { MarksFallen (held rides labels.old) (held rides labels.new) marked.old marked.new }
     ensures kept { Keeps rides labels.old labels.new }
 {
-    let label = labels[stop];
-    let old = lanes_of(label, rides);
+    let old = lanes_of(&labels[stop], rides);
     let new = lower_of(old, times);
     if fell(new, old) {
-        let bound = label.bound;
-        let kept = label.next;
+        let bound = labels[stop].bound;
+        let kept = labels[stop].next;
         let next = lower_from(kept, rides, new[0]);
         labels[stop] = Label {
             lanes: new,

@@ -93,16 +93,17 @@ pub fn scan_line(
         }
         let boards = call.board && labels.fallen[stop];
         if boards {
-            let ready = labels.ready[stop];
+            let lanes = labels.ready[stop].lanes;
+            let bound = labels.ready[stop].bound[labels.rides];
             let sought = seek(
                 column,
                 labels.before[stop],
-                ready.lanes,
+                lanes,
                 lower_of(run, past[place]),
                 near,
             );
             near = sought.first;
-            let boarded = board_place(column, sought, ready.lanes, ready.bound[labels.rides], run);
+            let boarded = board_place(column, sought, lanes, bound, run);
             run = boarded;
         }
         if boards || ranks.first < ranks.end {
