@@ -6,3 +6,5 @@ pub mod Rank
 pub mod Scan
 pub mod State
 pub mod Batches
+pub mod Riding
+pub mod Query

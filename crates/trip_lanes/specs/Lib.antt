@@ -1,7 +1,8 @@
 pub mod Lane
 pub mod Scan
 pub mod Rows
-pub mod Riders
 pub mod Columns
 pub mod Walks
-pub mod Falls
+pub mod Ranks
+pub mod Labels
+pub mod RankScan
