@@ -1,11 +1,11 @@
 -- The first file that isn't read, among more paths.
-use Rattle.std.proofs.Common.{◌≡◌, ◌<◌, ◌⊎◌, ◌++◌, ◌∷◌, [], List, ℕ, Option, Some, None, ap, arith, drop, get_or, inl, inr, length, map, refl, subst, suc, take, zero}
+use Rattle.std.proofs.Common.{◌≡◌, ◌<◌, ◌++◌, ◌∷◌, [], List, ℕ, Option, Some, None, ap, arith, drop, get_or, inl, inr, length, map, refl, subst, suc, take, zero}
 use Rattle.command_line.specs.Lines.{line, no_memory, path_rest}
 use Rattle.command_line.specs.declared.files.ReadFault.{ReadFault}
 use Rattle.matrix_text.specs.Prefixes.{PutsPrefix}
 use Rattle.gtfs_tables.specs.Files.{FeedFiles}
 use Rattle.studies.specs.NamedFile.{NamedBytes}
-use Rattle.ttm.specs.Files.{Ask, AreScenarios, AreUnread, Finds, IsFeedIn, IsFirstUnread, IsOwn, IsRead, IsShort, IsUnread, TellsLine, Needed, feed_asks, own_asks, scenario_asks}
+use Rattle.ttm.specs.Files.{Ask, AreScenarios, AreUnread, Finds, IsFeedIn, IsFirstUnread, IsOwn, IsRead, TellsLine, Needed, feed_asks, own_asks, scenario_asks}
 
 -- the files of all these paths are read
 abbrev pub AreRead : Finds → List Ask → Type 0

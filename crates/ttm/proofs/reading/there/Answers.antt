@@ -1,4 +1,4 @@
-use Rattle.std.proofs.Common.{◌≡◌, ◌∷◌, [], List, None, Ok, Option, inl, inr, option_map, refl, subst, ℕ}
+use Rattle.std.proofs.Common.{◌∷◌, [], None, Ok, inl, inr, refl, subst}
 use Rattle.std.specs.Process.{exit_status}
 use Rattle.command_line.specs.declared.files.ReadFault.TheVariants as fault
 use Rattle.ttm.specs.Files.{IsUnread, Needed}
