@@ -10,10 +10,10 @@ Each folder holds an unpacked feed, and may have `footpaths.csv` and `origins.cs
 origins). All compute the same: departures each minute from 07:00, on one service day, one thread. `bench/raptor.rs` is
 compiled by rustc for the processor that Rattle compiles for; `ttm`'s part is `measure durations`, so `rt run` in
 crates/measure comes first. With --peers a folder of Rust peers is measured, too: its textbook RAPTOR `a` and its range
-RAPTOR `b`, over feeds of `feedgen.py`; with --beside the `measure` that another commit built; with --alone no RAPTOR of
-bench/, as for feeds with change times, which they don't know. Each origin's time is the least of the runs, and a feed's
-is the mean over its origins, in milliseconds. Where the sums of all durations differ, the script fails. Standard
-library only.
+RAPTOR `b`, over feeds of `feedgen.py`, and all programs take the feed without its `transfers.txt`, since those two know
+no change times; with --beside the `measure` that another commit built; with --alone no RAPTOR of bench/. Each origin's
+time is the least of the runs, and a feed's is the mean over its origins, in milliseconds. Where the sums of all
+durations differ, the script fails. Standard library only.
 """
 import os
 import re
@@ -118,13 +118,16 @@ def least(runs: Sequence[Millis]) -> dict[str, float]:
     return {name: sum(times) / len(times) for name, times in best.items()}
 
 
-def linked(folder: str, origins: Sequence[str], place: str) -> str:
-    """A folder with the feed's files and these origins, for peers that read all from one folder."""
+def linked(folder: str, origins: Sequence[str], place: str, for_peers: bool) -> str:
+    """A folder with the feed's files and these origins; for peers, which read all from one folder, no transfers."""
     feed = tempfile.mkdtemp(dir=place)
-    for path in there(folder, *(name for name in os.listdir(folder) if name != "origins.csv")):
+    own = ["origins.csv", "transfers.txt"] if for_peers else ["origins.csv"]
+    for path in there(folder, *(name for name in os.listdir(folder) if name not in own)):
         os.symlink(os.path.abspath(path), os.path.join(feed, os.path.basename(path)))
     write_origins(os.path.join(feed, "origins.csv"), origins)
-    if not there(feed, "footpaths.csv"):
+    if for_peers:
+        write_lines(feed, "transfers.txt", "from_stop_id,to_stop_id,transfer_type,min_transfer_time", [])
+    if for_peers and not there(feed, "footpaths.csv"):
         write_lines(feed, "footpaths.csv", "from_stop_id,to_stop_id,seconds", [])
     return feed
 
@@ -132,7 +135,7 @@ def linked(folder: str, origins: Sequence[str], place: str) -> str:
 def row_of(folder: str, asked: Asked, programs: Sequence[Program], place: str) -> list[str]:
     """The cells of a feed."""
     origins = asked.origins_of(folder)
-    feed = linked(folder, origins, place)
+    feed = linked(folder, origins, place, bool(asked.peers))
     window = [asked.date, "07:00:00", str(asked.minutes), str(asked.trips), str(asked.walk)]
     words = [feed, *window, *(there(folder, "footpaths.csv") or ["-"]), os.path.join(feed, "origins.csv")]
     names = [name for program in programs for name in program.names.values()]
