@@ -33,21 +33,14 @@ def damaged(draw: random.Random, whole: bytes) -> bytes:
     return whole
 
 
-@pytest.mark.parametrize("seed", range(8))
-def test_whatever_is_damaged_is_told_in_a_line(town: Town, seed: int) -> None:
-    draw = random.Random(seed)
-    town.matrix(town_matrix(True, shares=(25, 50), limits=(900, 1800)))
-    points = [["s", 1, 0.0, 9.0], ["s", 2, 0.0, 9.01], ["t", 1, 0.0, 9.01], ["t", 2, 0.0, 9.0]]
-    town.write("shapes.txt", "shape_id,shape_pt_sequence,shape_pt_lat,shape_pt_lon", points)
-    some = town.write("some.csv", "stop_id", [["A"], ["D"]])
-    cut = town.write("cut.csv", "action,id,seconds", [["remove_route", "R", ""]])
-    table = town.write("walks.csv", "from_stop_id,to_stop_id,seconds", [["A", "B", 7.5], ["B", "A", 8]])
+def runs_of(town: Town, some: str, cut: str, table: str) -> list[list[str]]:
+    """Each command, on files of the town."""
     feed = ["--feed", town.feed]
 
     def out(name: str) -> list[str]:
         return ["--out", town.path(name)]
 
-    runs = [
+    return [
         ["walks", *out("w"), town.feed],
         ["walks", "--table", table, *out("w"), town.feed],
         ["split", *feed, "--parts", "2", *out("parts")],
@@ -61,6 +54,18 @@ def test_whatever_is_damaged_is_told_in_a_line(town: Town, seed: int) -> None:
         ["gis", *feed, "--origin", "A", *out("g.json"), town.file],
         ["map", "difference", "--share", "25", "--within", "900", "--edits", cut, *feed, *out("m.png"), town.file],
     ]
+
+
+@pytest.mark.parametrize("seed", range(8))
+def test_whatever_is_damaged_is_told_in_a_line(town: Town, seed: int) -> None:
+    draw = random.Random(seed)
+    town.matrix(town_matrix(True, shares=(25, 50), limits=(900, 1800)))
+    points = [["s", 1, 0.0, 9.0], ["s", 2, 0.0, 9.01], ["t", 1, 0.0, 9.01], ["t", 2, 0.0, 9.0]]
+    town.write("shapes.txt", "shape_id,shape_pt_sequence,shape_pt_lat,shape_pt_lon", points)
+    some = town.write("some.csv", "stop_id", [["A"], ["D"]])
+    cut = town.write("cut.csv", "action,id,seconds", [["remove_route", "R", ""]])
+    table = town.write("walks.csv", "from_stop_id,to_stop_id,seconds", [["A", "B", 7.5], ["B", "A", 8]])
+    runs = runs_of(town, some, cut, table)
     inputs = [
         "matrix.csv",
         "stops.txt",

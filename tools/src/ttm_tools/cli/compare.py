@@ -20,7 +20,7 @@ percent (of access_before), and to how many destinations it is cut_off, slower, 
 first, then its winners, each by the size of the change; then who has as much as before.
 
 Where one scenario lacks origins that the other has, as in a matrix that was cut short, a line tells which, and the
-status is 1 unless --partial is given. A line on standard error sums it all up. Memory: by origin some 300 MB, by pair
+status is 1 unless --partial is given. A line on standard error sums it all up. Memory: by origin some 100 MB, by pair
 60 bytes more for each pair that differs."""
 
 

@@ -20,7 +20,7 @@ where the matrix names it) and access.
 With --names r5py the columns are called as that library calls them: from_id, to_id, and for each share a column such as
 travel_time_p50, in minutes to the nearest hundredth. A name of --out that ends in .parquet writes Parquet (with pyarrow
 or fastparquet, where one is installed), each other a CSV. Rows are turned some at a time, so a matrix may be larger
-than the memory. Memory: some 200 MB."""
+than the memory. Memory: some 100 MB."""
 
 
 def describe(parser: argparse.ArgumentParser) -> None:

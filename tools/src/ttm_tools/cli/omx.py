@@ -10,7 +10,7 @@ Writes a matrix as an Open Matrix file (OMX, an HDF5 file), which AequilibraE, V
 for each scenario and share, such as base_50, in seconds, NaN where a stop isn't reached; lookups with the identifiers
 of origins and destinations and with numbers from 1 on; the sums of access beside. All scenarios and shares have the
 same origins. Every command of ttm-tools takes such a file in place of the matrix, so that a large one is read once.
-Needs h5py. Memory: some 200 MB."""
+Needs h5py. Memory: some 100 MB."""
 
 
 def describe(parser: argparse.ArgumentParser) -> None:
