@@ -110,8 +110,8 @@ fn within(lanes: Lanes, bound: u32) -> Label {
 #[test]
 fn a_label_counts_below_its_bound(rt: HostRuntime) -> Result<(), Fail> {
     let label = within(two(100, 300), 200);
-    assert!(rt; lanes_of(label, 0) == two(100, 300));
-    let bounded = lanes_of(label, 1);
+    assert!(rt; lanes_of(&label, 0) == two(100, 300));
+    let bounded = lanes_of(&label, 1);
     assert!(rt; bounded[0] == 100 && bounded[1] == 200 && bounded[2] == 200);
     Ok(())
 }
