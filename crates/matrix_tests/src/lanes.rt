@@ -1,11 +1,11 @@
-//! Worked examples of lanes: sixteen departures side by side, over two stops, and their bounds.
+//! Worked examples of lanes: sixteen departures side by side, over two stops.
 ghost use Rattle.std.specs.Prelude.{◌≡◌, ℕ, ◌<◌, ◌⊎◌, slice_index};
 
 use std::alloc::{AllocError, Global};
 use std::test::Fail;
-use timetable::{Event, Events, Feet, NEVER, StopNo, Trip};
+use timetable::{Call, Event, Events, Feet, NEVER, StopNo, Times, Trip};
 use trip_lanes::{
-    Label, Lanes, NOWHERE, begin, carry_trip, clear, lanes_of, lower_stop, transfer, walk,
+    Labels, Lanes, LineView, UNFALLEN, carry_trip, falls_of, scan_line, transfer, walk,
 };
 
 /// No lane reaches the stop.
@@ -99,47 +99,57 @@ fn a_change_takes_its_time_and_a_walk_none(rt: HostRuntime) -> Result<(), Fail> 
     Ok(())
 }
 
-/// A stop with these labels, within bounds of which one counts from one ride on.
-fn within(lanes: Lanes, bound: u32) -> Label {
-    let mut label = NOWHERE;
-    label.lanes = lanes;
-    label.bound[1] = bound;
-    label
+/// A place of a line where all may board and alight.
+fn call(stop: u32) -> Call
+    ensures { result.stop.0 ≡ stop }
+{
+    Call {
+        stop: StopNo(stop),
+        board: true,
+        alight: true,
+    }
+}
+
+/// A trip that arrives and departs in the same second.
+fn stops_at(time: u32) -> Times {
+    Times {
+        arrive: time,
+        depart: time,
+    }
 }
 
 #[test]
-fn a_label_counts_below_its_bound(rt: HostRuntime) -> Result<(), Fail> {
-    let label = within(two(100, 300), 200);
-    assert!(rt; lanes_of(&label, 0) == two(100, 300));
-    let bounded = lanes_of(&label, 1);
-    assert!(rt; bounded[0] == 100 && bounded[1] == 200 && bounded[2] == 200);
-    Ok(())
-}
-
-#[test]
-fn a_lowered_stop_is_marked_and_kept_for_the_departures_before(
-    rt: HostRuntime,
-) -> Result<(), Fail> {
-    let mut labels = [within(two(100, 300), 200), NOWHERE];
-    let mut marked = [false, false];
-    lower_stop(&mut labels, &mut marked, 0, two(250, 290), 1);
-    assert!(rt; !marked[0]);
-    lower_stop(&mut labels, &mut marked, 1, two(250, 290), 1);
-    assert!(rt; !marked[0] && marked[1]);
-    assert!(rt; labels[1].lanes == two(250, 290));
-    assert!(rt; labels[1].next[0] == NEVER && labels[1].next[1] == 250 && labels[1].next[8] == 250);
-    Ok(())
-}
-
-#[test]
-fn what_was_kept_bounds_the_departures_before(rt: HostRuntime) -> Result<(), Fail> {
-    let mut labels = [NOWHERE, NOWHERE];
-    let mut marked = [false, false];
-    lower_stop(&mut labels, &mut marked, 1, two(250, 290), 1);
-    begin(&mut labels);
-    assert!(rt; labels[1].lanes == UNREACHED && labels[1].bound[0] == NEVER);
-    assert!(rt; labels[1].bound[1] == 250 && labels[1].bound[8] == 250);
-    clear(&mut labels);
-    assert!(rt; labels[1].bound[1] == NEVER && labels[1].next[1] == NEVER);
+fn each_lane_takes_the_first_trip_of_a_line(rt: HostRuntime) -> Result<(), Fail> {
+    let calls = [call(0), call(1), call(2)];
+    let times = [
+        stops_at(100),
+        stops_at(110),
+        stops_at(120),
+        stops_at(200),
+        stops_at(210),
+        stops_at(220),
+        stops_at(300),
+        stops_at(310),
+        stops_at(320),
+    ];
+    let line = LineView {
+        calls: &calls,
+        times: &times,
+    };
+    let before = [UNREACHED, UNREACHED, UNREACHED];
+    let ready = [two(100, 201), UNREACHED, two(NEVER, 215)];
+    let mut falls = [UNFALLEN; 3];
+    falls_of(&before, &ready, &[true, false, true], &mut falls);
+    let labels = Labels {
+        falls: &falls,
+        before: &before,
+        ready: &ready,
+    };
+    let mut aboard = [UNREACHED; 3];
+    let mut ride = [UNREACHED; 3];
+    let mut marked = [false; 3];
+    scan_line(line, 3, 0, labels, &mut aboard, &mut ride, &mut marked);
+    assert!(rt; ride[0] == UNREACHED && ride[1] == two(110, 310) && ride[2] == two(120, 320));
+    assert!(rt; !marked[0] && marked[1] && marked[2]);
     Ok(())
 }

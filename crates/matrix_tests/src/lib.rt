@@ -3,7 +3,7 @@
 //!
 //! - `networks`, `durations`, `changes`, `cells`: networks, the least durations over them, also with change times, and their
 //!   shares (over `small_networks`).
-//! - `lanes`: trips, walks, changes and bounds, sixteen departures at a time.
+//! - `lanes`: trips, lines, walks and changes, sixteen departures at a time.
 //! - `windows`: the durations of a window beside those of each of its minutes, and one search for several networks.
 //! - `book_steps`, `collected`: who computes which row, and the first row of each place.
 //! - `rows`, `text`: studies of rows, and the matrix as CSV.

@@ -19,7 +19,7 @@ use Rattle.rounds.proofs.Reaching.{at_start, ready_first, reached_first, ready_m
 use Rattle.rounds.proofs.LaneState.{never_lowers, fits_after, never_of, fits_of}
 use Rattle.rounds.proofs.Later.{met_both, ready_bound, ridden_bound}
 use Rattle.rounds.proofs.BoundedTables.{table_settles, bounded_ride, bounded_walk, bounded_transfer}
-use Rattle.rounds.proofs.Fresh.{carried_settles}
+use Rattle.rounds.proofs.Fresh.{settled_by_both, carried_settles}
 use Rattle.timetable.specs.declared.limits.TheConstants.{END_OF_AXIS}
 
 never_met : {R : ℕ → ℕ → Type 0} (labels : List ℕ) → AllNever labels → AreMet R labels
@@ -48,6 +48,11 @@ module _ (n : Net) (ok : IsNet n) where
       carried_from_nowhere t (replicate n.stops NEVER) ride
       (λ j e h. let a = event_axis n ok trip j e (t, runs, h) in omega arith)
       (λ j e h. let stop = event_stop n ok trip j e (t, runs, h) in get_or-replicate n.stops e.stop.0 NEVER 0 stop)
+
+  -- who is settled on own labels and on the bounds is settled on the lower of both
+  pub settled_below : (trip : ℕ) (t : Trip) → slice_get n.trips trip ≡ Some t → (ready bound_ready low ride bound_ride lowered : List ℕ) → length ready ≡ n.stops → length bound_ride ≡ length ride → Lowers (Bounds bound_ready) ready low → Lowers (Bounds bound_ride) ride lowered → NothingLower (Carries ready t) ride → NothingLower (Carries bound_ready t) bound_ride → NothingLower (Carries low t) lowered
+  settled_below trip t runs ready bound_ready low ride bound_ride lowered ready_len same h k by_a by_b =
+      settled_by_both t ready bound_ready low ride bound_ride lowered (λ j e at. let stop = event_stop n ok trip j e (t, runs, at) in omega (arith, stop, ready_len)) same h k by_a by_b
 
   never_changed : (ride start ready : List ℕ) → length ride ≡ n.stops → length start ≡ n.stops → AllNever ride → AllNever start → Lowers (ChangedOrWalked n.feet ride) start ready → AllNever ready
   never_changed ride start ready ride_len start_len rides starts walked =

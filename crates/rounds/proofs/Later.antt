@@ -22,6 +22,9 @@ table_of {R} labels met none =
       least = none;
     }
 
+pub table_met : {R : ℕ → ℕ → Type 0} (labels : List ℕ) → IsTable R labels → AreMet R labels
+table_met labels h = record { met = λ p l reached. (slice_index labels p, h.found p l reached, omega arith) }
+
 -- the lower of two labels that are met
 pub met_both : {R : ℕ → ℕ → Type 0} (a b low : List ℕ) → length b ≡ length a → AreMet R a → AreMet R b → Lowers (λ p x. x ≡ slice_index b p) a low → AreMet R low
 met_both {R} a b low same by_a by_b h =

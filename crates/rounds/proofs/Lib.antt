@@ -7,6 +7,7 @@ pub mod Unique
 pub mod Ranked
 pub mod LineScan
 pub mod Clearing
+pub mod Choosing
 pub mod Lined
 pub mod LaneState
 pub mod Later
@@ -16,10 +17,6 @@ pub mod BoundedState
 pub mod Settled
 pub mod Never
 pub mod Batch
+pub mod Bounding
 pub mod Arriving
 pub mod Leaving
-pub mod Riding
-pub mod Knowing
-pub mod Folding
-pub mod Batching
-pub mod Starting

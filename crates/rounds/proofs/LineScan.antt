@@ -17,6 +17,9 @@ pub record CarriesBelow (ready : List ℕ) (trips : List Trip) (lines : List (Li
   pub below : i < x
   pub carries : CarriesLine ready trips line p end
 
+pub no_lines : (ready : List ℕ) (trips : List Trip) (lines : List (List ℕ)) (old : List ℕ) → Lowers (CarriesBelow ready trips lines 0) old old
+no_lines ready trips lines old = lowers_none old (λ p x c. absurd (omega (arith, c.below)))
+
 pub one_line : (ready : List ℕ) (trips : List Trip) (lines : List (List ℕ)) (x : ℕ) (line : List ℕ) {old mid new : List ℕ} → slice_get lines x ≡ Some line → Lowers (CarriesBelow ready trips lines x) old mid → Lowers (CarriesLine ready trips line) mid new → Lowers (CarriesBelow ready trips lines (x + 1)) old new
 one_line ready trips lines x line at_x h k =
     lowers_alike
@@ -52,3 +55,10 @@ all_lines ready trips stops lists x are all h =
       carries = record { r = w.1.1; t = c.t; rank = record { trip = c.trip; here = w.1.3; runs = c.runs }; carries = c.carries };
     })
     h
+
+-- what all trips had nothing lower to offer to, a line has not
+pub line_settled : (before : List ℕ) (trips : List Trip) (line old now : List ℕ) → length now ≡ length old → ((p : ℕ) → slice_index now p ≤ slice_index old p) → NothingLower (CarriesAny before trips) old → NothingLower (CarriesLine before trips line) now
+line_settled before trips line old now same falls settled p x l c =
+    let low = settled p x (omega (arith, same)) (any_of_line c) in
+    let f = falls p in
+    omega arith

@@ -14,8 +14,8 @@ use Rattle.timetable.proofs.Known.{all_at}
 use Rattle.timetable.proofs.Lowering.{lowers_alike}
 use Rattle.timetable.proofs.Viewing.{events_at, row_of}
 use Rattle.trip_lanes.specs.Scan.{NothingLower, FallsTo}
-use Rattle.trip_lanes.specs.Rows.{IsAt, IsViewOf, NoneOvertakes, CarriesRow, IsCaught, IsPast}
-use Rattle.trip_lanes.proofs.Lining.{at_place}
+use Rattle.trip_lanes.specs.Rows.{IsAt, IsViewOf, NoneOvertakes, CarriesRow, IsCaught, IsPast, NoneCaughtBefore}
+use Rattle.trip_lanes.proofs.Lining.{at_place, carries_row, line_lowers}
 use Rattle.rounds.specs.Rank.{IsOfRank}
 use Rattle.rounds.specs.Scan.{CarriesLine}
 use Rattle.rounds.proofs.Ranked.{ahead}
@@ -74,7 +74,7 @@ module _ (trips : List Trip) (line : Line) (is : IsLine trips line) where
   pub none_overtakes : NoneOvertakes (rows_of_line trips line)
   none_overtakes = record { arrive = λ r s j e f le a b. (both r s j e f le a b).0; depart = λ r s j e f le a b. (both r s j e f le a b).1 }
 
-  pub line_of_row : (ready : List ℕ) (p end : ℕ) → CarriesRow ready (rows_of_line trips line) p end → CarriesLine ready trips line p end
+  line_of_row : (ready : List ℕ) (p end : ℕ) → CarriesRow ready (rows_of_line trips line) p end → CarriesLine ready trips line p end
   line_of_row ready p end c =
       let t = row_trip c.r c.from.row c.from.trip in
       let same : c.to.row ≡ c.from.row = same_Some c.to.row c.from.row (sym c.to.trip ∙ c.from.trip) in
@@ -82,6 +82,12 @@ module _ (trips : List Trip) (line : Line) (is : IsLine trips line) where
       let off_at : slice_get t.0.events c.i ≡ Some c.off = ap (λ (v : List Event). slice_get v c.i) (t.2 ∙ sym same) ∙ c.to.event in
       let ride : IsRide t.0 c.j c.i c.on c.off = record { from = on_at; to = off_at; later = c.later; may_board = c.may_board; may_alight = c.may_alight } in
       record { r = c.r; t = t.0; rank = t.1; carries = record { j = c.j; i = c.i; on = c.on; off = c.off; ride = ride; in_time = c.in_time; stop = c.stop; time = c.time } }
+
+  -- the scan of a line, from where somebody newly catches a trip, carries travellers as all its trips do
+  pub line_scanned : (from : ℕ) (before ready old new : List ℕ) → NoneCaughtBefore before ready (rows_of_line trips line) from → NothingLower (CarriesLine before trips line) old → FallsTo (CarriesRow ready (rows_of_line trips line)) old new → ((r j : ℕ) → from ≤ j → IsCaught before ready (rows_of_line trips line) r j → IsPast (rows_of_line trips line) new r j) → Lowers (CarriesLine ready trips line) old new
+  line_scanned from before ready old new none settled falls past =
+      lowers_alike (λ p y. λ c. line_of_row ready p y c) (λ p y. λ c. carries_row ready (rows_of_line trips line) c.r p y c.t (trip_row c.r c.t c.rank) c.carries)
+      (line_lowers before ready (rows_of_line trips line) from (λ p x l c. settled p x l (line_of_row before p x c)) none falls past)
 
   -- the places of a line are at stops that there are
   pub call_stops : (stops : ℕ) → All (λ (t : Trip). All (λ (e : Event). e.stop.0 < stops) t.events) trips → (calls : List Call) (times : List Times) → IsViewOf (rows_of_line trips line) calls times → All (λ (c : Call). c.stop.0 < stops) calls

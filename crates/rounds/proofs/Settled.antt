@@ -75,6 +75,16 @@ state_changes n ok o which k ride ready s p y l offer =
           ]
     ]
 
+-- where a stop isn't noted, its labels stayed
+pub unnoted_same : {C : ℕ → ℕ → Type 0} (old new : List (List ℕ)) (was is : List Bool) (l p : ℕ) → MarksFallen old new was is → length was ≡ length old → Lowers C (lane l old) (lane l new) → l < 16 → (slice_get is p ≡ Some true → ⊥) → slice_index (lane l old) p ≡ slice_index (lane l new) p
+unnoted_same old new was is l p marks same low h none =
+    elim (cases_lt p (length was)) [
+      | inl lt ↦ sym (unmarked_still old new was is p l marks lt none h (lane_falls (lane l old) (lane l new) low p))
+      | inr ge ↦
+          let long = length-map old (λ w. slice_index w l) in
+          get_or_past (lane l old) p 0 (omega (arith, same)) ∙ sym (get_or_past (lane l new) p 0 (omega (arith, same, low.same_length)))
+    ]
+
 -- before the first walk, stops other than the origin have nothing lower to offer
 pub others_settle : (feet : FootLists) (ride : List ℕ) (ready : List ℕ) (x : ℕ) → slice_index ride x ≡ NEVER → ((p : ℕ) → slice_index ready p ≤ NEVER) → NothingLower (OfferedFrom feet ride x) ready
 others_settle feet ride ready x never fits p y l o =

@@ -6,5 +6,3 @@ pub mod Rank
 pub mod Scan
 pub mod State
 pub mod Batches
-pub mod Riding
-pub mod Query

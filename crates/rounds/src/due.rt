@@ -1,10 +1,12 @@
 //! Which lines a round scans, and from where: those that one may board at a stop where a label fell, each from the first of
 //! such places on.
-ghost use Rattle.std.specs.Prelude.{◌≡◌, ℕ, ◌<◌, ◌≤◌, length, slice_get, slice_index, Some, true};
+ghost use Rattle.std.specs.Prelude.{◌≡◌, ℕ, ◌<◌, ◌≤◌, length, slice_get, slice_index, Some};
 ghost use Rattle.timetable.specs.FlatLists.{IsIn};
 ghost use Rattle.timetable.specs.declared.limits.TheConstants.{MOST_STOPS};
+ghost use Rattle.trip_lanes.specs.declared.falls.Fall.{Fall as FallValue};
 
 use timetable::{Lines, StopNo};
+use trip_lanes::Fall;
 
 /// Notes the lines of a list, each from its place on, unless it is noted from an earlier one on.
 fn note_all(row: &[(u32, u32)], due: &mut [u32])
@@ -28,15 +30,15 @@ fn note(due: &mut [u32], line: usize, place: u32)
     }
 }
 
-/// Notes the lines that one may board at a stop where a label fell, each from the first of such places on.
-pub(crate) fn note_fallen(lines: &Lines, fallen: &[bool], due: &mut [u32])
-    requires stops { length fallen.now ≡ length lines.now.boarded }
-    requires few { length fallen.now ≤ MOST_STOPS }
+/// Notes the lines that one may board at a stop where labels fell, each from the first of such places on.
+pub(crate) fn note_lines(lines: &Lines, falls: &[Fall], due: &mut [u32])
+    requires stops { length falls.now ≡ length lines.now.boarded }
+    requires few { length falls.now ≤ MOST_STOPS }
     requires in_range { (p line place : ℕ) → IsIn lines.now.boarded p (line, place) → line < length due.old }
-    ensures { (p line place : ℕ) → IsIn lines.now.boarded p (line, place) → slice_get fallen.now p ≡ Some true → slice_index due.new line ≤ place }
+    ensures { (p line place : ℕ) (f : FallValue) → IsIn lines.now.boarded p (line, place) → slice_get falls.now p ≡ Some f → f.low < f.top → slice_index due.new line ≤ place }
 {
-    for stop in 0..fallen.len() {
-        if fallen[stop] {
+    for stop in 0..falls.len() {
+        if falls[stop].low < falls[stop].top {
             note_all(lines.boarded_at(StopNo(stop as u32)), due);
         }
     }

@@ -4,10 +4,10 @@
 //!
 //! - `minutes`: [`one_minute`], which alternates rides with changes and walks.
 //! - `window`: [`Window`], and [`durations`] for each of its minutes.
-//! - `search`: [`Search`], which serves one origin after another. `query`: what it is asked, `tables`: what it works with.
+//! - `search`: [`Search`], the tables of a search, which serve one origin after another.
 //! - `batches`: the minutes of a window, sixteen at a time, from the last to the first.
 //! - `bounded`: the rounds of sixteen departures, within the labels of a later one.
-//! - `round`, `due`: a round of rides, line by line: the lines that serve a stop where a label fell, from there on.
+//! - `scan`, `due`: a round of rides, line by line: the lines that serve a stop where a label fell, from there on.
 //! - `table`: [`Durations`], as a window gives them.
 //! - `steps`: what trips, changes and walks do to the labels of stops.
 //! - `laws`: [`durations_are_unique`], that a window has one table of durations, and why a round may leave trips out.
@@ -21,12 +21,10 @@ mod bounded;
 mod due;
 mod laws;
 mod minutes;
-mod query;
-mod round;
+mod scan;
 mod search;
 mod steps;
 mod table;
-mod tables;
 mod window;
 
 pub use laws::{

@@ -18,6 +18,16 @@ pub record LaneAt (ready : List ℕ) (t : Trip) (x : ℕ) (old now : List ℕ) (
   pub aboard : bar ≡ 0 → BoardsBelow ready t x
   pub waiting : bar ≡ NEVER → BoardsBelow ready t x → ⊥
 
+-- no lane is at any event before the first
+pub lane_start : (ready : List ℕ) (t : Trip) (old : List ℕ) → LaneAt ready t 0 old old NEVER
+lane_start ready t old =
+    record {
+      lowered = lowers_none old (λ p y c. omega (arith, c.1));
+      either = inr refl;
+      aboard = λ z. absurd (omega (arith, z));
+      waiting = λ n b. omega (arith, b.below);
+    }
+
 module _ (ready : List ℕ) (t : Trip) (x : ℕ) (here : Event) (at_x : slice_get t.events x ≡ Some here) where
   -- who is aboard gets off
   pub lane_alight : {old mid new : List ℕ} {bar : ℕ} → IsTrue here.alight → LaneAt ready t x old mid bar → Lowers (λ p y. (bar ≡ 0) × (p ≡ here.stop.0) × (y ≡ here.arrive)) mid new → Lowers (CarriesBelow ready t (x + 1)) old new
@@ -94,3 +104,6 @@ marks_then a b c was mid is ab bc h k =
             ],
           );
     }
+
+pub marks_none : (a : List (List ℕ)) (was : List Bool) → MarksFallen a a was was
+marks_none a was = record { same_length = refl; marks = λ p l. (λ s. inl s, λ o. elim o [ inl s ↦ s | inr f ↦ absurd (omega (arith, f.2)) ]) }

@@ -21,6 +21,19 @@ falls_then {C} {D} {a} {b} {c} h k into =
           ];
     }
 
+pub falls_both : {C : ℕ → ℕ → Type 0} {a b c : List ℕ} → FallsTo C a b → FallsTo C b c → FallsTo C a c
+falls_both {C} {a} {b} {c} h k =
+    record {
+      same_length = k.same_length ∙ h.same_length;
+      falls = λ p. let f = h.falls p in let g = k.falls p in omega arith;
+      offered = λ p l.
+          let m : p < length b = omega (arith, h.same_length) in
+          elim (k.offered p m) [
+            | inl s ↦ elim (h.offered p l) [ inl e ↦ inl (s ∙ e) | inr o ↦ inr (subst (C p) (sym s) o) ]
+            | inr d ↦ inr d
+          ];
+    }
+
 pub falls_alike : {C D : ℕ → ℕ → Type 0} {a b : List ℕ} → ((p x : ℕ) → C p x → D p x) → FallsTo C a b → FallsTo D a b
 falls_alike into h =
     record { same_length = h.same_length; falls = h.falls; offered = λ p l. elim (h.offered p l) [ inl e ↦ inl e | inr o ↦ inr (into p _ o) ] }

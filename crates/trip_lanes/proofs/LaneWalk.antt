@@ -17,6 +17,9 @@ use Rattle.trip_lanes.proofs.Walking.{ChangedAt}
 abbrev pub LaterBelow : List (StopNo × ℕ) → ℕ → ℕ → ℕ → ℕ → Type 0
 LaterBelow row time x p end = (o : LeavesLater row time p end) × (o.0 < x)
 
+pub later_none : (row : List (StopNo × ℕ)) (time : ℕ) (labels : List ℕ) → Lowers (LaterBelow row time 0) labels labels
+later_none row time labels = lowers_none labels (λ p x o. omega (arith, o.1))
+
 pub later_one : (row : List (StopNo × ℕ)) (time x stop seconds late : ℕ) {old mid new : List ℕ} → slice_get row x ≡ Some (record { 0 = stop }, seconds) → late ≡ min (time + seconds) NEVER → Lowers (LaterBelow row time x) old mid → Lowers (λ p y. (p ≡ stop) × (y ≡ late)) mid new → Lowers (LaterBelow row time (x + 1)) old new
 later_one row time x stop seconds late at_x is_late h k =
     lowers_alike

@@ -7,6 +7,6 @@ pub mod Again
 pub mod LaneWalk
 pub mod Marked
 pub mod Falling
+pub mod Choosing
+pub mod Riding
 pub mod Lining
-pub mod Holding
-pub mod Ranking

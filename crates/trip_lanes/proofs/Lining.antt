@@ -9,10 +9,17 @@ use Rattle.timetable.specs.Steps.{Lowers, Carries}
 use Rattle.timetable.specs.declared.views.Call.{Call}
 use Rattle.timetable.specs.declared.views.Times.{Times}
 use Rattle.trip_lanes.specs.Scan.{NothingLower, FallsTo}
-use Rattle.trip_lanes.specs.Rows.{IsAt, NoneOvertakes, IsViewOf, CarriesRow, IsCaught, IsPast}
+use Rattle.trip_lanes.specs.Rows.{IsAt, NoneOvertakes, IsViewOf, CarriesRow, IsCaught, IsPast, NoneCaughtBefore}
 use Rattle.trip_lanes.proofs.Again.{nothing_changes}
 use Rattle.trip_lanes.proofs.Carry.{lane_falls}
 use Rattle.trip_lanes.proofs.Falling.{falls_none, falls_then, lowers_of}
+
+-- a trip makes one event at a place
+pub one_event : (rows : List (List Event)) (r i j : ℕ) (e f : Event) → i ≡ j → IsAt rows r i e → IsAt rows r j f → e ≡ f
+one_event rows r i j e f same a b =
+    let row = same_Some _ _ (sym a.trip ∙ b.trip) in
+    let event = rw (row, same) at a.event in
+    same_Some _ _ (sym event ∙ b.event)
 
 -- there is such a trip
 pub slice_get_row : (rows : List (List Event)) (r j : ℕ) (e : Event) → IsAt rows r j e → r < length rows
@@ -56,3 +63,141 @@ module _ (before ready : List ℕ) (rows : List (List Event)) (from : ℕ) where
         past = λ r j low below c. absurd (omega arith);
         rides = λ r j low below c. absurd (omega arith);
       }
+
+  -- who is aboard gets off
+  pub line_alight : {On : ℕ → Type 0} (x stop best : ℕ) {old mid new : List ℕ} → NoneOvertakes rows → ((r : ℕ) (e : Event) → IsAt rows r x e → e.stop.0 ≡ stop) → ((r : ℕ) (e : Event) → IsAt rows r x e → IsTrue e.alight) → stop < length mid → ((r : ℕ) → On r → (e : Event) × IsAt rows r x e × (best ≤ e.arrive)) → (best ≡ NEVER) ⊎ ((r : ℕ) × On r × ((e : Event) → IsAt rows r x e → best ≡ e.arrive)) → ((p : ℕ) → slice_index mid p ≤ NEVER) → LineAt before ready rows from x x old mid On → Lowers (λ p t. (p ≡ stop) × (t ≡ best)) mid new → LineAt before ready rows from x (x + 1) old new On
+  line_alight {On} x stop best {old} {mid} {new} order stops alights within there some fits s k =
+      let fall : (p : ℕ) → slice_index new p ≤ slice_index mid p = lane_falls mid new k in
+      record {
+        falls = elim some [
+          | inl never ↦
+              let none : NothingLower (λ p t. (p ≡ stop) × (t ≡ best)) mid = λ p t l o. let f = fits p in omega (arith, o.1, never) in
+              rw (nothing_changes mid new none k) s.falls
+          | inr who ↦ falls_then s.falls k (λ p t o.
+              let b = s.aboard who.0 who.1 in
+              let e = there who.0 who.1 in
+              record {
+                r = who.0;
+                j = b.j;
+                i = x;
+                on = b.on;
+                off = e.0;
+                from = b.from;
+                to = e.1;
+                later = b.below;
+                may_board = b.may_board;
+                may_alight = alights who.0 e.0 e.1;
+                in_time = b.in_time;
+                stop = stops who.0 e.0 e.1 ∙ sym o.0;
+                time = sym (o.1 ∙ who.2 e.0 e.1);
+              })
+        ];
+        aboard = s.aboard;
+        past = λ r j low below c. record {
+          label = λ i e after under at may. elim (cases_lt i x) [
+            | inl lt ↦ let l = (s.past r j low below c).label i e after lt at may in let f = fall e.stop.0 in omega arith
+            | inr ge ↦
+                let same : i ≡ x = omega arith in
+                let here : IsAt rows r x e = rw same at at in
+                let q = s.rides r j low below c in
+                let f = there q.0 q.2 in
+                let sooner = order.arrive q.0 r x f.0 e q.1 f.1 here in
+                let l : slice_index new stop ≤ best = (k.label stop within).least best (inr (refl, refl)) in
+                rw (stops r e here) (omega (arith, l, f.2, sooner))
+          ];
+        };
+        rides = s.rides;
+      }
+
+  -- nobody gets off
+  pub line_pass : {On : ℕ → Type 0} (x : ℕ) {old mid : List ℕ} → ((q r : ℕ) (e : Event) → On q → IsAt rows r x e → IsTrue e.alight → ⊥) → LineAt before ready rows from x x old mid On → LineAt before ready rows from x (x + 1) old mid On
+  line_pass {On} x nobody s =
+      record {
+        falls = s.falls;
+        aboard = s.aboard;
+        past = λ r j low below c. record {
+          label = λ i e after under at may. elim (cases_lt i x) [
+            | inl lt ↦ (s.past r j low below c).label i e after lt at may
+            | inr ge ↦
+                let same : i ≡ x = omega arith in
+                let here : IsAt rows r x e = rw same at at in
+                let q = s.rides r j low below c in
+                absurd (nobody q.0 r e q.2 here may)
+          ];
+        };
+        rides = s.rides;
+      }
+
+  -- who newly catches a trip gets on
+  pub line_board : {On New : ℕ → Type 0} (x : ℕ) {old now : List ℕ} → ((r : ℕ) → New r → On r ⊎ BoardsRow ready rows r (x + 1)) → ((r : ℕ) → On r → (q : ℕ) × (q ≤ r) × New q) → ((r : ℕ) → IsCaught before ready rows r x → (q : ℕ) × (q ≤ r) × New q) → LineAt before ready rows from x (x + 1) old now On → LineAt before ready rows from (x + 1) (x + 1) old now New
+  line_board {On} {New} x sound kept caught s =
+      record {
+        falls = s.falls;
+        aboard = λ r on. elim (sound r on) [
+          | inl o ↦ let b = s.aboard r o in record { j = b.j; on = b.on; below = omega (arith, b.below); from = b.from; may_board = b.may_board; in_time = b.in_time }
+          | inr b ↦ b
+        ];
+        past = λ r j low below c. elim (cases_lt j x) [
+          | inl lt ↦ s.past r j low lt c
+          | inr ge ↦ record { label = λ i e after under at may. absurd (omega arith) }
+        ];
+        rides = λ r j low below c. elim (cases_lt j x) [
+          | inl lt ↦
+              let q = s.rides r j low lt c in
+              let n = kept q.0 q.2 in
+              (n.0, omega (arith, n.1, q.1), n.2)
+          | inr ge ↦ let same : j ≡ x = omega arith in caught r (rw same at c)
+        ];
+      }
+
+  -- nobody gets on
+  pub line_stay : {On : ℕ → Type 0} (x : ℕ) {old now : List ℕ} → ((r : ℕ) → IsCaught before ready rows r x → ⊥) → LineAt before ready rows from x (x + 1) old now On → LineAt before ready rows from (x + 1) (x + 1) old now On
+  line_stay x none s = line_board x (λ r on. inl on) (λ r on. (r, omega arith, on)) (λ r c. absurd (none r c)) s
+
+  -- all places
+  pub line_past : {On : ℕ → Type 0} (x places : ℕ) {old now : List ℕ} → ((r : ℕ) (row : List Event) → slice_get rows r ≡ Some row → length row ≡ places) → places ≤ x → LineAt before ready rows from x x old now On → (r j : ℕ) → from ≤ j → IsCaught before ready rows r j → IsPast rows now r j
+  line_past x places long all s r j low c =
+      let inside : (i : ℕ) (e : Event) → IsAt rows r i e → i < x = λ i e at. let l = long r at.row at.trip in let w = slice_get_within at.row i e at.event in omega arith in
+      let p = s.past r j low (inside j c.on c.from) c in
+      record { label = λ i e after at may. p.label i e after (inside i e at) at may }
+
+  -- labels that were settled for who was ready before are settled for who is ready now
+  pub line_lowers : {old new : List ℕ} → NothingLower (CarriesRow before rows) old → NoneCaughtBefore before ready rows from → FallsTo (CarriesRow ready rows) old new → ((r j : ℕ) → from ≤ j → IsCaught before ready rows r j → IsPast rows new r j) → Lowers (CarriesRow ready rows) old new
+  line_lowers {old} {new} settled none falls past =
+      lowers_of falls (λ p t l c. elim (cases_lt c.on.depart (slice_index before c.on.stop.0)) [
+        | inl fresh ↦
+            let caught : IsCaught before ready rows c.r c.j = record { on = c.on; from = c.from; may_board = c.may_board; in_time = c.in_time; fresh = fresh } in
+            let low = (past c.r c.j (none c.r c.j caught) caught).label c.i c.off c.later c.to c.may_alight in
+            let low' = rw c.stop at low in
+            omega (arith, c.time)
+        | inr soon ↦
+            let low = settled p t (omega (arith, falls.same_length)) (record { r = c.r; j = c.j; i = c.i; on = c.on; off = c.off; from = c.from; to = c.to; later = c.later; may_board = c.may_board; may_alight = c.may_alight; in_time = soon; stop = c.stop; time = c.time }) in
+            let f = falls.falls p in
+            omega arith
+      ])
+
+-- a ride on one of the trips is a ride on that trip
+pub row_carries : (ready : List ℕ) (rows : List (List Event)) (p end : ℕ) (c : CarriesRow ready rows p end) (t : Trip) → slice_get rows c.r ≡ Some t.events → Carries ready t p end
+row_carries ready rows p end c t at =
+    let from : slice_get t.events c.j ≡ Some c.on = rw (same_Some _ _ (sym c.from.trip ∙ at)) at c.from.event in
+    let to : slice_get t.events c.i ≡ Some c.off = rw (same_Some _ _ (sym c.to.trip ∙ at)) at c.to.event in
+    record { j = c.j; i = c.i; on = c.on; off = c.off; ride = record { from = from; to = to; later = c.later; may_board = c.may_board; may_alight = c.may_alight }; in_time = c.in_time; stop = c.stop; time = c.time }
+
+-- and the other way round
+pub carries_row : (ready : List ℕ) (rows : List (List Event)) (r p end : ℕ) (t : Trip) → slice_get rows r ≡ Some t.events → Carries ready t p end → CarriesRow ready rows p end
+carries_row ready rows r p end t at c =
+    record {
+      r = r;
+      j = c.j;
+      i = c.i;
+      on = c.on;
+      off = c.off;
+      from = record { row = t.events; trip = at; event = c.ride.from };
+      to = record { row = t.events; trip = at; event = c.ride.to };
+      later = c.ride.later;
+      may_board = c.ride.may_board;
+      may_alight = c.ride.may_alight;
+      in_time = c.in_time;
+      stop = c.stop;
+      time = c.time;
+    }

@@ -98,6 +98,14 @@ marks_same xs v i was within none =
       );
     }
 
+-- a flag that was written, and another
+pub set_get_apart : (was : List Bool) (i p : ℕ) (b : Bool) → (p ≡ i → ⊥) → slice_get (set was i b) p ≡ slice_get was p
+set_get_apart [] i p b ne = refl
+set_get_apart (c ∷ was) zero zero b ne = absurd (ne refl)
+set_get_apart (c ∷ was) zero (suc p) b ne = refl
+set_get_apart (c ∷ was) (suc i) zero b ne = refl
+set_get_apart (c ∷ was) (suc i) (suc p) b ne = set_get_apart was i p b (λ e. ne (ap suc e))
+
 pub set_get_to : (was : List Bool) (i : ℕ) (b : Bool) → i < length was → slice_get (set was i b) i ≡ Some b
 set_get_to [] i b l = absurd (omega arith)
 set_get_to (c ∷ was) zero b l = refl

@@ -35,6 +35,16 @@ offer_skip feet ride x old mid h none =
     ])
     (lowers_both h (nothing_lowers mid still))
 
+-- what a stop offers is offered by the same label elsewhere
+pub offer_as : (feet : FootLists) (ridden ride : List ℕ) (x p y : ℕ) → slice_index ridden x ≡ slice_index ride x → OfferedFrom feet ridden x p y → WalkedOrStayed feet ride p y
+offer_as feet ridden ride x p y same o =
+    elim o [
+      | inl stay ↦ inl (stay.1 ∙ (ap (slice_index ridden) stay.0 ∙ (same ∙ sym (ap (slice_index ride) stay.0))))
+      | inr w ↦
+          let e : slice_index ridden w.0.from ≡ slice_index ride w.0.from = ap (slice_index ridden) w.1 ∙ (same ∙ sym (ap (slice_index ride) w.1)) in
+          inr (record { from = w.0.from; seconds = w.0.seconds; foot = w.0.foot; reached = λ z. w.0.reached (e ∙ z); time = ap (λ (t : ℕ). t + w.0.seconds) (sym e) ∙ w.0.time })
+    ]
+
 -- where a stop is not marked, no lane fell
 pub unmarked_still : (old new : List (List ℕ)) (was is : List Bool) (x l : ℕ) → MarksFallen old new was is → x < length was → (slice_get is x ≡ Some true → ⊥) → l < 16 → slice_index (lane l new) x ≤ slice_index (lane l old) x → slice_index (lane l new) x ≡ slice_index (lane l old) x
 unmarked_still old new was is x l marks within none h falls =

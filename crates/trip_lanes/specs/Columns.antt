@@ -1,5 +1,5 @@
 -- When the trips of a line arrive at one of its places, and depart there.
-use Rattle.std.specs.Prelude.{◌≡◌, ℕ, ◌+◌, ◌*◌, ◌<◌, ◌≤◌, length, slice_index}
+use Rattle.std.specs.Prelude.{◌≡◌, ℕ, ◌+◌, ◌*◌, ◌<◌, length, slice_index}
 use Rattle.timetable.specs.LineViews.{arrivals_in, departures_in}
 use Rattle.trip_lanes.specs.declared.columns.Column.{Column}
 
@@ -14,7 +14,3 @@ arrives c r = slice_index (arrivals_in c.times.now) (r * c.places + c.place)
 
 abbrev pub departs : Column → ℕ → ℕ
 departs c r = slice_index (departures_in c.times.now) (r * c.places + c.place)
-
--- of so many trips the later ones depart no earlier
-abbrev pub Ascend : (ℕ → ℕ) → ℕ → Type 0
-Ascend departs trips = (r s : ℕ) → r ≤ s → s < trips → departs r ≤ departs s

@@ -1,8 +1,7 @@
 pub mod Lane
 pub mod Scan
 pub mod Rows
+pub mod Riders
 pub mod Columns
 pub mod Walks
-pub mod Ranks
-pub mod Labels
-pub mod RankScan
+pub mod Falls

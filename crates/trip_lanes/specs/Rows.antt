@@ -54,3 +54,7 @@ pub record IsCaught (before ready : List ℕ) (rows : List (List Event)) (r j : 
 -- trip r arrives no earlier than the label at each place after j where travellers may alight
 pub record IsPast (rows : List (List Event)) (ride : List ℕ) (r j : ℕ) : Type 0 where
   pub label : (i : ℕ) (e : Event) → j < i → IsAt rows r i e → IsTrue e.alight → slice_index ride e.stop.0 ≤ e.arrive
+
+-- nobody newly catches a trip of the line before this place
+abbrev pub NoneCaughtBefore : List ℕ → List ℕ → List (List Event) → ℕ → Type 0
+NoneCaughtBefore before ready rows from = (r j : ℕ) → IsCaught before ready rows r j → from ≤ j

@@ -1,15 +1,34 @@
-//! The lanes whose labels fell, and the least and the greatest of some labels.
-ghost use Rattle.std.specs.Prelude.{◌≡◌, ℕ, ◌<◌, ◌≤◌, slice_index};
+//! How far the labels of stops fell.
+ghost use Rattle.std.specs.Prelude.{◌≡◌, ℕ, ◌<◌, ◌≤◌, length, slice_index, slice_get, Some, true};
+ghost use Rattle.trip_lanes.specs.Lane.{lane};
+ghost use Rattle.trip_lanes.specs.Falls.{HasFallen, AreFalls};
 
 use crate::kernels::Lanes;
 use std::simd::prelude::*;
 use std::simd::u32x16;
 use timetable::NEVER;
 
+/// How far the labels of a stop fell, over the lanes of which they fell.
+#[derive(Clone, Copy, Debug, PartialEq, Eq)]
+pub struct Fall {
+    /// The least label that they fell to.
+    pub low: u32,
+    /// The greatest label that they fell to.
+    pub high: u32,
+    /// The greatest label that they fell from.
+    pub top: u32,
+}
+
+/// Where no label fell.
+pub const UNFALLEN: Fall = Fall {
+    low: NEVER,
+    high: 0,
+    top: 0,
+};
+
 /// The labels of the lanes that fell, and another number in the others.
-pub(crate) fn of_fallen(before: Lanes, ready: Lanes, labels: Lanes, other: u32) -> Lanes
-    ensures fallen { (l : ℕ) → l < 16 → slice_index ready l < slice_index before l → slice_index result l ≡ slice_index labels l }
-    ensures others { (l : ℕ) → l < 16 → slice_index before l ≤ slice_index ready l → slice_index result l ≡ other }
+fn of_fallen(before: Lanes, ready: Lanes, labels: Lanes, other: u32) -> Lanes
+    ensures { (l : ℕ) → l < 16 → slice_index ready l < slice_index before l → slice_index result l ≡ slice_index labels l }
 {
     u32x16::from_array(ready)
         .simd_lt(u32x16::from_array(before))
@@ -18,7 +37,7 @@ pub(crate) fn of_fallen(before: Lanes, ready: Lanes, labels: Lanes, other: u32) 
 }
 
 /// The least of some labels.
-pub(crate) fn least(labels: Lanes) -> u32
+fn least(labels: Lanes) -> u32
     ensures { (l : ℕ) → l < 16 → result ≤ slice_index labels l }
 {
     let mut low = NEVER;
@@ -31,7 +50,7 @@ pub(crate) fn least(labels: Lanes) -> u32
 }
 
 /// The greatest of some labels.
-pub(crate) fn greatest(labels: Lanes) -> u32
+fn greatest(labels: Lanes) -> u32
     ensures { (l : ℕ) → l < 16 → slice_index labels l ≤ result }
 {
     let mut high = 0;
@@ -41,4 +60,33 @@ pub(crate) fn greatest(labels: Lanes) -> u32
         }
     }
     high
+}
+
+/// How far the labels of one stop fell.
+fn fall_of(before: Lanes, ready: Lanes) -> Fall
+    ensures { (l : ℕ) → l < 16 → HasFallen (slice_index before l) (slice_index ready l) result }
+{
+    Fall {
+        low: least(of_fallen(before, ready, ready, NEVER)),
+        high: greatest(of_fallen(before, ready, ready, 0)),
+        top: greatest(of_fallen(before, ready, before, 0)),
+    }
+}
+
+/// How far the labels of each stop fell that is noted in `fallen`; at the others none did.
+pub fn falls_of(before: &[Lanes], ready: &[Lanes], fallen: &[bool], falls: &mut [Fall])
+    requires before { length before.now ≡ length ready.now }
+    requires fallen { length fallen.now ≡ length ready.now }
+    requires falls { length falls.old ≡ length ready.now }
+    requires same { (l p : ℕ) → l < 16 → (slice_get fallen.now p ≡ Some true → ⊥) → slice_index (lane l before.now) p ≡ slice_index (lane l ready.now) p }
+    ensures same { length falls.new ≡ length falls.old }
+    ensures falls { (l : ℕ) → l < 16 → AreFalls (lane l before.now) (lane l ready.now) falls.new }
+{
+    for stop in 0..ready.len() {
+        if fallen[stop] {
+            falls[stop] = fall_of(before[stop], ready[stop]);
+        } else {
+            falls[stop] = UNFALLEN;
+        }
+    }
 }

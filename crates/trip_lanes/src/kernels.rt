@@ -28,7 +28,7 @@ fn board(ready: Lanes, bar: Lanes, depart: u32) -> Lanes
 }
 
 /// Whether some lane is lower.
-pub(crate) fn fell(new: Lanes, old: Lanes) -> bool
+pub fn fell(new: Lanes, old: Lanes) -> bool
     ensures { IsTrue result ↔ SomeFell new old }
 {
     u32x16::from_array(new)
@@ -43,6 +43,21 @@ pub fn lower_of(old: Lanes, new: Lanes) -> Lanes
     u32x16::from_array(old)
         .simd_min(u32x16::from_array(new))
         .to_array()
+}
+
+/// Lowers the lanes of a stop to these times, and marks the stop where one fell.
+pub fn lower_marked(labels: &mut [Lanes], marked: &mut [bool], stop: usize, times: Lanes)
+    requires stop { stop < length labels.old }
+    requires same { length marked.old ≡ length labels.old }
+    ensures lanes { (l : ℕ) → l < 16 → Lowers (λ p x. (p ≡ stop) × (x ≡ slice_index times l)) (lane l labels.old) (lane l labels.new) }
+    ensures marks { MarksFallen labels.old labels.new marked.old marked.new }
+{
+    let old = labels[stop];
+    let new = lower_of(old, times);
+    if fell(new, old) {
+        labels[stop] = new;
+        marked[stop] = true;
+    }
 }
 
 /// Lowers the lanes of a stop that are aboard to an arrival, and marks the stop where one fell.

@@ -3,23 +3,15 @@ use Rattle.std.proofs.lemmas.Bool.{cases_lt}
 use Rattle.std.proofs.lemmas.List.{length-set}
 use Rattle.timetable.specs.declared.least.TheConstants.{NEVER}
 use Rattle.trip_lanes.specs.Lane.{lane}
-use Rattle.trip_lanes.specs.declared.labels.Label.{Label}
-use Rattle.trip_lanes.specs.Labels.{held}
-use Rattle.trip_lanes.proofs.Holding.{no_label, read_held}
+use Rattle.trip_lanes.proofs.Lower.{lane_old}
 use Rattle.rounds.specs.Minutes.{IsSince}
 use Rattle.rounds.specs.State.{arrival}
 use Rattle.rounds.proofs.Filling.{place_before, placed, apart}
 use Rattle.rounds.proofs.batches.write_batch.Goals as goal
 
 -- the lower label of a stop, in a lane
-lower_read : (k : ℕ) (ride ready : List Label) (low ridden boards : List ℕ) (s l : ℕ) → l < 16 → s < length ride → s < length ready
-    → slice_index ridden l ≡ min (slice_index (get_or ride s no_label).lanes l) (slice_index (get_or ride s no_label).bound k)
-    → slice_index boards l ≡ min (slice_index (get_or ready s no_label).lanes l) (slice_index (get_or ready s no_label).bound k)
-    → slice_index low l ≡ min (slice_index ridden l) (slice_index boards l) → slice_index low l ≡ arrival (lane l (held k ride)) (lane l (held k ready)) s
-lower_read k ride ready low ridden boards s l h in_ride in_ready is_ridden is_ready e =
-    let a : slice_index ridden l ≡ slice_index (lane l (held k ride)) s = is_ridden ∙ sym (read_held k l s ride h in_ride) in
-    let b : slice_index boards l ≡ slice_index (lane l (held k ready)) s = is_ready ∙ sym (read_held k l s ready h in_ready) in
-    e ∙ (λ i. min (a i) (b i))
+lower_read : (ride ready : List (List ℕ)) (low : List ℕ) (s l : ℕ) → s < length ride → s < length ready → slice_index low l ≡ min (slice_index (get_or ride s []) l) (slice_index (get_or ready s []) l) → slice_index low l ≡ arrival (lane l ride) (lane l ready) s
+lower_read ride ready low s l in_ride in_ready e = e ∙ (λ i. min (sym (lane_old ride s l in_ride) i) (sym (lane_old ready s l in_ready) i))
 
 pub loop-stop-preserved : goal.loop-stop-preserved
 loop-stop-preserved c =
@@ -29,22 +21,20 @@ loop-stop-preserved c =
     let old = c.loop-stop.invariant in
     let labels = c.loop-stop.labels in
     let times = c.since-times.result in
-    let within : s < length c.args.tables.now.ready.items = rw (c.as_slice-ready.ensures.value) at c.loop-stop-test.true in
-    let place = place_before w s (length c.args.tables.now.ready.items) b within c.requires.batch in
+    let place = place_before w s (length c.args.ready.now) b c.loop-stop-test.true c.requires.batch in
     let room : s * w + b < length labels = omega (arith, place, old.same, c.requires.room) in
     record {
       same = length-set labels (s * w + b) times ∙ old.same;
       written = λ l p h below. elim (cases_lt p s) [
         | inl less ↦
             let kept = apart labels times w s b p b c.requires.batch c.requires.batch (λ e. let same = e.0 in omega arith) in
-            subst (λ (row : List ℕ). IsSince (slice_index c.args.departs l) (arrival (lane l (held c.args.rides c.args.tables.now.ride.items)) (lane l (held c.args.rides c.args.tables.now.ready.items)) p) (slice_index row l)) (sym kept) (old.written l p h less)
+            subst (λ (row : List ℕ). IsSince (slice_index c.args.departs l) (arrival (lane l c.args.ride.now) (lane l c.args.ready.now) p) (slice_index row l)) (sym kept) (old.written l p h less)
         | inr ge ↦
             let e : p ≡ s = omega arith in
             let here = placed labels times w s b room in
-            let read = lower_read c.args.rides c.args.tables.now.ride.items c.args.tables.now.ready.items c.lower_of.result c.lanes_of-ridden.result c.lanes_of-boards.result s l h (omega (arith, c.requires.same)) within
-            (rw (c.as_slice-ride.ensures.value) at (c.lanes_of-ridden.ensures l h)) (rw (c.as_slice-ready.ensures.value) at (c.lanes_of-boards.ensures l h)) (c.lower_of.ensures l h) in
-            let late = subst (λ (x : ℕ). x ≢ NEVER → slice_index c.args.departs l ≤ x) (sym read) (c.requires.since l s h within) in
-            rw e (subst (λ (row : List ℕ). IsSince (slice_index c.args.departs l) (arrival (lane l (held c.args.rides c.args.tables.now.ride.items)) (lane l (held c.args.rides c.args.tables.now.ready.items)) s) (slice_index row l)) (sym here)
+            let read = lower_read c.args.ride.now c.args.ready.now c.lower_of-arrived.result s l (omega (arith, c.requires.same)) c.loop-stop-test.true (c.lower_of-arrived.ensures l h) in
+            let late = subst (λ (x : ℕ). x ≢ NEVER → slice_index c.args.departs l ≤ x) (sym read) (c.requires.since l s h c.loop-stop-test.true) in
+            rw e (subst (λ (row : List ℕ). IsSince (slice_index c.args.departs l) (arrival (lane l c.args.ride.now) (lane l c.args.ready.now) s) (slice_index row l)) (sym here)
             (subst (λ (x : ℕ). IsSince (slice_index c.args.departs l) x (slice_index times l)) read
             (c.since-times.ensures l h (let f = c.requires.fits l s h in omega (arith, read)) late)))
       ];

@@ -1,8 +1,0 @@
-use Rattle.std.proofs.Common.{◌≡◌, ℕ, ◌<◌, List, length, slice_get, Some}
-use Rattle.timetable.specs.FlatLists.{lists_of}
-use Rattle.timetable.specs.declared.views.Call.{Call}
-use Rattle.rounds.proofs.tables.has_places.Given as goal
-
-abbrev pub invariant-loop-line : goal.invariant-loop-line
-invariant-loop-line v =
-    (i : ℕ) (calls : List Call) (marks : List (List ℕ)) → i < v.line → slice_get v.lines.calls i ≡ Some calls → slice_get (lists_of v.table) i ≡ Some marks → length marks ≡ length calls

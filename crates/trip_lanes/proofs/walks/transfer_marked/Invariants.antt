@@ -1,0 +1,14 @@
+use Rattle.std.proofs.Common.{◌≡◌, ℕ, ◌<◌, length}
+use Rattle.timetable.specs.Steps.{Lowers}
+use Rattle.trip_lanes.proofs.Walking.{TransferredBelow}
+use Rattle.trip_lanes.specs.Lane.{lane, MarksFallen}
+use Rattle.trip_lanes.proofs.walks.transfer_marked.Given as goal
+
+abbrev pub invariant-loop-stop : goal.invariant-loop-stop
+invariant-loop-stop l =
+    record {
+      same : length l.ready ≡ length l.ride;
+      lanes : (k : ℕ) → k < 16 → Lowers (TransferredBelow l.feet (lane k l.ride) l.stop) (lane k l.initial.ready) (lane k l.ready);
+      falls : length l.fallen ≡ length l.ride;
+      marks : MarksFallen l.initial.ready l.ready l.initial.fallen l.fallen;
+    }
