@@ -1,12 +1,12 @@
 -- What is so of a run at a gate is so whatever the gate decides and is told.
-use Rattle.std.proofs.Common.{◌⊎◌, inl, inr, ℕ, List, All}
+use Rattle.std.proofs.Common.{inl, inr, ℕ}
 use Rattle.std.specs.Prelude.{⊤}
 use Rattle.work_book.specs.Board.{seen_by}
 use Rattle.work_book.specs.declared.lease.Lease.{Lease}
 use Rattle.work_book.specs.declared.rule.View.{View}
 use Rattle.work_book.specs.declared.shared.Board.{Board}
 use Rattle.workers.specs.Study.{StudyData}
-use Rattle.workers.specs.Held.{Decides, WasTold, AreTold, HasEnded, IsDone, WorkedFor}
+use Rattle.workers.specs.Held.{Decides, WasTold, HasEnded, IsDone, WorkedFor}
 use Rattle.workers.specs.Outcomes.{IsFaultOf, IsFaultOfNew}
 use Rattle.workers.specs.declared.faults.RunFault.{RunFault}
 use Rattle.workers.specs.declared.worker.Ending.{Ending}

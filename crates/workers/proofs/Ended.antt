@@ -6,7 +6,7 @@ use Rattle.std.specs.List.{All}
 use Rattle.std.proofs.lemmas.List.Elements.{All-append, All-head, All-tail}
 use Rattle.work_book.specs.Board.{seen_by}
 use Rattle.work_book.specs.Moves.{IsOnce}
-use Rattle.work_book.specs.Views.{merged}
+use Rattle.work_book.specs.Views.{merged, stepped}
 use Rattle.work_book.specs.declared.lease.Lease.{Lease}
 use Rattle.work_book.specs.declared.lease.Settled.TheVariants.{Kept}
 use Rattle.work_book.specs.declared.rule.View.{View}
@@ -53,7 +53,7 @@ pub kept_told : (was_told : WasTold) (v : View) (worked : List Worked) → AreTo
     → AreTold was_told (joined v worked).kept
 kept_told was_told v [] mine theirs = mine
 kept_told was_told v (w ∷ worked) mine theirs =
-    kept_told was_told (merged v (seen_by w.seat)) worked
+    kept_told was_told (stepped (merged v (seen_by w.seat))) worked
     (All-append (λ job. (lease : Lease) × (lease.job ≡ job) × was_told lease Kept) v.kept (seen_by w.seat).kept mine (All-head (λ w. AreTold was_told (seen_by w.seat).kept) w worked theirs))
     (All-tail (λ w. AreTold was_told (seen_by w.seat).kept) w worked theirs)
 

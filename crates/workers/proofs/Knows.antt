@@ -1,11 +1,11 @@
 -- What a seat knows to be settled, and so which leases are done with, only grows.
-use Rattle.std.proofs.Common.{◌≡◌, ◌≢◌, ◌==◌, ◌||◌, ℕ, List, [], ◌∷◌, ◌++◌, ◌⊎◌, inl, inr, true, false, refl, ap, ◌∙◌, subst, sym}
+use Rattle.std.proofs.Common.{◌≡◌, ◌≢◌, ◌==◌, ◌||◌, ℕ, List, [], ◌∷◌, ◌++◌, inl, inr, false, refl, ap, ◌∙◌, subst}
 use Rattle.std.specs.List.{list_any, All}
 use Rattle.std.proofs.lemmas.List.Elements.{All-push, All-same}
 use Rattle.std.proofs.lemmas.List.Folds.{list_any-append}
 use Rattle.work_book.specs.Board.{Drawn, SettledAs, HasDrawn}
 use Rattle.work_book.specs.Steps.{lease_among}
-use Rattle.work_book.specs.Views.{knows, told_nothing}
+use Rattle.work_book.specs.Views.{told_nothing}
 use Rattle.work_book.specs.declared.lease.Lease.{Lease}
 use Rattle.work_book.specs.declared.lease.Settled.{Settled}
 use Rattle.work_book.specs.declared.lease.Settled.TheVariants.{Kept, Double}
@@ -27,9 +27,9 @@ knows_more v w x e job h =
     ∙ list_any-append (λ known. known == job) v.known (x ∷ [])
     ∙ ap (λ b. b || list_any (λ known. known == job) (x ∷ [])) h
 
-pub knows_settled : (v w : View) (job : ℕ) (s : Settled) → SettledAs v job s w → KnowsAsMuch v w
-knows_settled v w job Kept e = knows_more v w job (ap (λ (z : View). z.known) e.0)
-knows_settled v w job Double e = knows_more v w job (ap (λ (z : View). z.known) e)
+pub knows_settled : (v w : View) (lease : Lease) (s : Settled) → SettledAs v lease s w → KnowsAsMuch v w
+knows_settled v w lease Kept e = knows_more v w lease.job (ap (λ (z : View). z.known) e.0)
+knows_settled v w lease Double e = knows_more v w lease.job (ap (λ (z : View). z.known) e)
 
 pub knows_both : (u v w : View) → KnowsAsMuch u v → KnowsAsMuch v w → KnowsAsMuch u w
 knows_both u v w h k job known = k job (h job known)
@@ -58,7 +58,7 @@ pub drawn_same : (v w : View) (lease : Lease) → w.drawn ≡ v.drawn → HasDra
 drawn_same v w lease e h = ap (list_any (λ drawn. drawn == lease.number)) e ∙ h
 
 -- the gate was told of what a settle keeps
-pub told_more : (was_told : WasTold) (v w : View) (lease : Lease) (s : Settled) → SettledAs v lease.job s w → was_told lease s
+pub told_more : (was_told : WasTold) (v w : View) (lease : Lease) (s : Settled) → SettledAs v lease s w → was_told lease s
     → AreTold was_told v.kept → AreTold was_told w.kept
 told_more was_told v w lease Kept e told h =
     All-same (λ job. (l : Lease) × (l.job ≡ job) × was_told l Kept) w.kept (v.kept ++ lease.job ∷ []) (ap (λ (z : View). z.kept) e.0)

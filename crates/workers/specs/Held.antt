@@ -57,7 +57,7 @@ AreTold was_told jobs = All (λ job. (lease : Lease) × (lease.job ≡ job) × w
 
 -- a lease's job was settled, and the gate was told what came of it
 abbrev pub IsHeard : WasTold → Lease → View → View → Type 0
-IsHeard was_told lease v w = (settled : Settled) × SettledAs v lease.job settled w × was_told lease settled
+IsHeard was_told lease v w = (settled : Settled) × SettledAs v lease settled w × was_told lease settled
 
 -- what a seat knows to be settled it knows afterwards too
 abbrev pub KnowsAsMuch : View → View → Type 0

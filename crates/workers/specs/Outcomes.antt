@@ -3,7 +3,7 @@ use Rattle.std.specs.Prelude.{◌≡◌, ◌⊎◌, ◌+◌, ◌-◌, ◌*◌, �
 use Rattle.std.specs.List.{list_any}
 use Rattle.work_book.specs.Board.{seen_by}
 use Rattle.work_book.specs.Laws.{kept_in}
-use Rattle.work_book.specs.Views.{first_view, merged, seat_of}
+use Rattle.work_book.specs.Views.{first_view, merged, seat_of, stepped}
 use Rattle.work_book.specs.declared.rule.View.{View}
 use Rattle.work_book.specs.declared.shared.Board.{Board}
 use Rattle.workers.specs.Study.{StudyData}
@@ -27,14 +27,14 @@ pub record IsFirstUnkept (s : StudyData) (v : View) (scenario origin : ℕ) : Ty
   pub unkept : kept_in (scenario * length s.origins + origin) (seat_of v) ≡ 0
   pub before : (job : ℕ) → job < scenario * length s.origins + origin → kept_in job (seat_of v) ≡ 1
 
--- the seat, when so many were split off
+-- the seat, when so many were split off, by a step each
 abbrev pub without : ℕ → View → View
-without n v = record v { share = v.share - n }
+without n v = record v { share = v.share - n; steps = v.steps + n }
 
--- the seat that took in these workers' seats, one after the other
+-- the seat that took in these workers' seats, one after the other, by two steps each
 abbrev pub joined : View → List Worked → View
 joined v [] = v
-joined v (w ∷ worked) = joined (merged v (seen_by w.seat)) worked
+joined v (w ∷ worked) = joined (stepped (merged v (seen_by w.seat))) worked
 
 -- the worker found no memory
 abbrev pub is_short : Ending → Bool

@@ -40,14 +40,13 @@ returns-in-Kept-clause-told g c = λ told.
 pub returns-in-Kept-clause-known : goal.returns-in-Kept-clause-known
 returns-in-Kept-clause-known g c =
     let w = seen_by c.settle-first.new.seat in
-    let job = c.args.lease.job in
     knows_both (seen_by c.args.seat.now) w (seen_by c.settle-second.new.seat)
-    (knows_settled (seen_by c.args.seat.now) w job c.settle-first.result c.settle-first.ensures.settled)
-    (knows_settled w (seen_by c.settle-second.new.seat) job c.settle-second.result c.settle-second.ensures.settled)
+    (knows_settled (seen_by c.args.seat.now) w c.args.lease c.settle-first.result c.settle-first.ensures.settled)
+    (knows_settled w (seen_by c.settle-second.new.seat) c.args.lease c.settle-second.result c.settle-second.ensures.settled)
 
 pub returns-in-Kept-clause-settled : goal.returns-in-Kept-clause-settled
 returns-in-Kept-clause-settled g c =
-    known_after (seen_by c.settle-first.new.seat) (seen_by c.settle-second.new.seat) c.args.lease.job c.settle-second.result c.settle-second.ensures.settled
+    known_after (seen_by c.settle-first.new.seat) (seen_by c.settle-second.new.seat) c.args.lease c.settle-second.result c.settle-second.ensures.settled
 
 pub returns-in-Double-clause-told : goal.returns-in-Double-clause-told
 returns-in-Double-clause-told g c = λ told.
@@ -59,14 +58,13 @@ returns-in-Double-clause-told g c = λ told.
 pub returns-in-Double-clause-known : goal.returns-in-Double-clause-known
 returns-in-Double-clause-known g c =
     let w = seen_by c.settle-first.new.seat in
-    let job = c.args.lease.job in
     knows_both (seen_by c.args.seat.now) w (seen_by c.settle-second.new.seat)
-    (knows_settled (seen_by c.args.seat.now) w job c.settle-first.result c.settle-first.ensures.settled)
-    (knows_settled w (seen_by c.settle-second.new.seat) job c.settle-second.result c.settle-second.ensures.settled)
+    (knows_settled (seen_by c.args.seat.now) w c.args.lease c.settle-first.result c.settle-first.ensures.settled)
+    (knows_settled w (seen_by c.settle-second.new.seat) c.args.lease c.settle-second.result c.settle-second.ensures.settled)
 
 pub returns-in-Double-clause-settled : goal.returns-in-Double-clause-settled
 returns-in-Double-clause-settled g c =
-    known_after (seen_by c.settle-first.new.seat) (seen_by c.settle-second.new.seat) c.args.lease.job c.settle-second.result c.settle-second.ensures.settled
+    known_after (seen_by c.settle-first.new.seat) (seen_by c.settle-second.new.seat) c.args.lease c.settle-second.result c.settle-second.ensures.settled
 
 pub returns-in-Kept-clause-heard : goal.returns-in-Kept-clause-heard
 returns-in-Kept-clause-heard g c = (
