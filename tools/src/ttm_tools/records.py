@@ -8,6 +8,8 @@ in a text as Python's surrogate escapes and written back as they were. What peop
 import csv
 import io
 import math
+import os
+import re
 from dataclasses import dataclass
 from pathlib import Path
 from typing import Any, BinaryIO, Callable, Iterable, Iterator, Sequence
@@ -42,7 +44,7 @@ def places_of(header: Sequence[str], path: str | Path, needed: Sequence[str]) ->
     """Where each column of a header stands; the needed ones are there."""
     places: dict[str, int] = {}
     for place, name in enumerate(header):
-        places.setdefault(name.strip(), place)
+        places.setdefault(name.strip(" "), place)
     for name in needed:
         if name not in places:
             raise BadInput(path, f"no column {name}", record=1)
@@ -58,6 +60,7 @@ def rows(path: str | Path, needed: Sequence[str], wanted: Sequence[str] = ()) ->
     places = places_of(header, path, needed)
     chosen = [places.get(name, len(header)) for name in (*needed, *wanted)]
     for number, fields in lines:
+        del fields[len(header) :]
         fields += [""] * (len(header) + 1 - len(fields))
         yield number, [fields[place] for place in chosen]
 
@@ -129,6 +132,31 @@ def columns_by_records(path: str | Path, needed: Sequence[str]) -> dict[str, Col
         for place, field in enumerate(fields):
             codes[place].append(found[place].setdefault(field, len(found[place])))
     return {name: Column(list(found[place]), np.array(codes[place], np.int32)) for place, name in enumerate(needed)}
+
+
+BLANKS = re.compile(rb"(?:^|[\r\n])[ \t]+[\r\n]")
+SMALL = 1 << 24  # bytes of a file that is read record by record
+
+
+def all_columns(path: str | Path) -> dict[str, Column]:
+    """All columns of a file by their names, each name once, without the spaces around it. A long file is read by
+    pandas, unless it has lines that pandas counts in another way than `ttm`.
+    """
+    _, header = next(records(path), (1, list[str]()))
+    names = list(dict.fromkeys(name.strip(" ") for name in header))
+    small = os.path.getsize(path) < SMALL or has_odd_lines(path)
+    return (columns_by_records if small else columns)(path, names)
+
+
+def has_odd_lines(path: str | Path) -> bool:
+    """Whether a file has lines of blanks alone, which are records, or bytes 0."""
+    last = b"\n"
+    with open(path, "rb") as file:
+        while block := file.read(1 << 24):
+            if b"\0" in block or BLANKS.search(last + block):
+                return True
+            last = block[-1000:]
+    return False
 
 
 def shown(text: str) -> str:

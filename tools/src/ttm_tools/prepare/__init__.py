@@ -1,0 +1,1 @@
+"""Published feeds made ready for `ttm`: what is wrong in them, rules that mend it, clipping, and merging."""

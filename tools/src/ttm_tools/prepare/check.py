@@ -1,0 +1,313 @@
+"""All faults for which `ttm` would refuse a feed, in its order: by file, by record, by check. Of a field that fails
+several checks the first is a fault. What refers to a file that isn't there, or that lacks a column, isn't looked at.
+"""
+
+from dataclasses import dataclass
+from typing import Iterable, Iterator, Sequence
+
+import numpy as np
+
+from ..records import Column
+from . import fields
+from .fields import FILES, WEEKDAYS, Whole, date, number, time, values_of
+from .tables import Codes, Feed, Mask, Table
+from .trips import Calls, calls_of
+
+ID = "it may not be empty"
+ONCE = "a record before has the same"
+STOP = "stops.txt has to name it, as a stop (location_type 0 or empty)"
+NUMBER = "a number is digits alone, 0 to 4294967295"
+OPEN_NUMBER = "it is empty or a number: digits alone, 0 to 4294967295"
+TIME = "a time is H:MM:SS, 0:00:00 to 167:59:59"
+BACK = "no departure before the arrival, and no arrival before the departure before it"
+TOO_MANY, TOO_LONG = "too many", "too long"
+
+
+@dataclass(frozen=True)
+class Fault:
+    """What one check of a file finds: the records that fail it, in the order in which `ttm` would tell them."""
+
+    table: Table
+    what: str  # in the words of `ttm`
+    column: str  # "" where it is none in particular
+    allowed: str
+    rows: Whole  # places of records in the table
+    ranks: Whole  # where each stands among all of the file, a lesser one being told first
+    missing: bool = False  # the file isn't there
+
+    def __len__(self) -> int:
+        return max(len(self.rows), 1)
+
+    @property
+    def records(self) -> Whole:
+        """The numbers of the records; the header where it is the file's."""
+        return self.table.records[self.rows] if len(self.rows) else np.ones(1, np.int64)
+
+    @property
+    def is_limit(self) -> bool:
+        return self.what in (TOO_MANY, TOO_LONG)
+
+    def line(self) -> str:
+        """The line that `ttm` would print of the first record."""
+        place = (
+            self.table.name if self.missing or self.what == TOO_LONG else f"{self.table.name}: record {self.records[0]}"
+        )
+        return f"ttm: {place}: {self.what}"
+
+    def value(self, place: int = 0) -> str | None:
+        """What stands in the field."""
+        return self.table.text(self.column, int(self.rows[place])) if self.column and len(self.rows) else None
+
+
+class Checks:
+    """The checks of a file's records, in their order."""
+
+    def __init__(self, table: Table) -> None:
+        self.table, self.found = table, list[Fault]()
+        self.failed: dict[str, Mask] = {}
+
+    def add(self, column: str, what: str, allowed: str, fails: Mask) -> None:
+        """Notes the records that fail a check, unless they fail one of the same field before."""
+        before = self.failed.get(column)
+        rows = np.flatnonzero(fails if before is None or not column else fails & ~before)
+        self.failed[column] = fails if before is None else fails | before
+        if len(rows):
+            ranks = rows * 64 + len(self.failed) + len(self.found)
+            self.found.append(Fault(self.table, what, column, allowed, rows, ranks))
+
+    def filled(self, column: str) -> None:
+        self.add(column, "empty id", ID, empty(self.table[column]))
+
+    def once(self, column: str) -> None:
+        self.add(column, "duplicate id", ONCE, repeated(self.table[column].codes))
+
+    def named(self, column: str, what: str, names: Iterable[str] | None, allowed: str, but: Mask | None = None) -> None:
+        """The field is one of some names, where these are known."""
+        if names is not None:
+            lost = unknown(self.table[column], names)
+            self.add(column, what, allowed, lost if but is None else lost & ~but)
+
+    def few(self, most: int) -> None:
+        allowed = f"at most {most:,} records"
+        self.add("", TOO_MANY, allowed, np.arange(len(self.table)) >= most)
+
+
+def empty(column: Column) -> Mask:
+    return unlike(column, [""])
+
+
+def unlike(column: Column, texts: Iterable[str], among: bool = True) -> Mask:
+    """Which records have one of some texts in a column; or which haven't."""
+    known = set(texts)
+    made = np.array([(text in known) == among for text in column.values] or [False], dtype=np.bool_)
+    return np.asarray(made[column.codes], dtype=np.bool_)
+
+
+def unknown(column: Column, names: Iterable[str]) -> Mask:
+    return unlike(column, names, among=False)
+
+
+def repeated(codes: Codes) -> Mask:
+    """Which records have what one before them has."""
+    first = np.zeros(len(codes), dtype=np.bool_)
+    first[np.unique(codes, return_index=True)[1]] = True
+    return ~first
+
+
+def names_in(feed: Feed, file: str, column: str) -> list[str] | None:
+    """The identifiers of a file in its order, each once; none where the file can't be read."""
+    if not feed.has_columns(file):
+        return None
+    codes = feed.tables[file][column].codes
+    values = feed.tables[file][column].values
+    first = np.sort(np.unique(codes, return_index=True)[1])
+    return [values[code] for code in codes[first]]
+
+
+def stops_of(feed: Feed) -> list[str] | None:
+    """The stops of a feed: records of type 0 or empty."""
+    if not feed.has_columns("stops.txt"):
+        return None
+    table = feed.tables["stops.txt"]
+    kinds = values_of(table["location_type"], number)
+    codes = table["stop_id"].codes[(kinds == 0) | (kinds == fields.EMPTY)]
+    return [table["stop_id"].values[code] for code in dict.fromkeys(codes.tolist())]
+
+
+def check(feed: Feed) -> list[Fault]:
+    """All faults of a feed: one for each check that fails, the first in the order of `ttm` first."""
+    return [fault for name in FILES for fault in in_order(faults_in(feed, name))]
+
+
+def in_order(faults: Sequence[Fault]) -> list[Fault]:
+    return sorted(faults, key=lambda fault: int(fault.ranks[0]) if len(fault.ranks) else -1)
+
+
+def faults_in(feed: Feed, name: str) -> list[Fault]:
+    """The faults of a file."""
+    table, none = feed.get(name), np.zeros(0, np.int64)
+    if name not in feed.tables:
+        optional = ("calendar_dates.txt", "frequencies.txt", "transfers.txt")
+        if name in optional or (name == "calendar.txt" and "calendar_dates.txt" in feed.tables):
+            return []
+        told = "the file has to be there" + (", or calendar_dates.txt" if name == "calendar.txt" else "")
+        return [Fault(table, "missing file", "", told, none, none, missing=True)]
+    if table.source is not None and table.source.stat().st_size > fields.MOST_BYTES:
+        return [Fault(table, TOO_LONG, "", "a file has at most 1,073,741,824 bytes", none, none)]
+    lacking = [column for column in FILES[name].needed if column not in table.columns]
+    if lacking:
+        told = f"the header has to name {', '.join(lacking)}"
+        return [Fault(table, "missing column", "", told, none, none)]
+    checks = Checks(table)
+    CHECKS[name](feed, checks)
+    return [*checks.found, *(whole_trips(feed, table) if name == "stop_times.txt" else ())]
+
+
+def check_stops(_: Feed, checks: Checks) -> None:
+    checks.few(fields.MOST_STOPS)
+    checks.filled("stop_id")
+    checks.once("stop_id")
+    open_numbers(checks, "location_type")
+
+
+def open_numbers(checks: Checks, *columns: str) -> None:
+    for column in columns:
+        wrong = values_of(checks.table[column], number) == fields.NONE
+        checks.add(column, "bad number", OPEN_NUMBER, wrong)
+
+
+def check_routes(_: Feed, checks: Checks) -> None:
+    checks.filled("route_id")
+    checks.once("route_id")
+
+
+def check_calendar(_: Feed, checks: Checks) -> None:
+    checks.filled("service_id")
+    checks.once("service_id")
+    for day in WEEKDAYS:
+        flags = values_of(checks.table[day], number)
+        checks.add(day, "bad number", "a weekday is 0 or 1", ~np.isin(flags, (0, 1)))
+    dates(checks, "start_date", "end_date")
+
+
+def dates(checks: Checks, *columns: str) -> None:
+    for column in columns:
+        checks.add(column, "bad date", "a date is YYYYMMDD", values_of(checks.table[column], date) < 0)
+
+
+def check_calendar_dates(_: Feed, checks: Checks) -> None:
+    checks.filled("service_id")
+    dates(checks, "date")
+    kinds = values_of(checks.table["exception_type"], number)
+    told = "it is 1 (the date is added) or 2 (it is removed)"
+    checks.add("exception_type", "bad number", told, ~np.isin(kinds, (1, 2)))
+
+
+def check_trips(feed: Feed, checks: Checks) -> None:
+    checks.few(fields.MOST_TRIPS)
+    checks.filled("route_id")
+    checks.named("route_id", "unknown route", names_in(feed, "routes.txt", "route_id"), "routes.txt has to name it")
+    checks.filled("service_id")
+    checks.filled("trip_id")
+    checks.once("trip_id")
+
+
+def named_trips(feed: Feed, checks: Checks) -> None:
+    checks.filled("trip_id")
+    checks.named("trip_id", "unknown trip", names_in(feed, "trips.txt", "trip_id"), "trips.txt has to name it")
+
+
+def check_stop_times(feed: Feed, checks: Checks) -> None:
+    table = checks.table
+    checks.few(fields.MOST_STOP_TIMES)
+    named_trips(feed, checks)
+    checks.named("stop_id", "unknown stop", stops_of(feed), STOP, but=empty(table["stop_id"]))
+    sequence = values_of(table["stop_sequence"], number)
+    checks.add("stop_sequence", "bad number", NUMBER, sequence < 0)
+    twice = repeated_pairs(table["trip_id"].codes, sequence)
+    checks.add("stop_sequence", "duplicate id", "another record of the trip has the same", twice)
+    times(checks, fields.EMPTY, "arrival_time", "departure_time")
+    open_numbers(checks, "pickup_type", "drop_off_type")
+
+
+def repeated_pairs(a: Codes | Whole, b: Codes | Whole) -> Mask:
+    """Which records have a pair of values that one before them has."""
+    order = np.lexsort((b, a))
+    same = (a[order][1:] == a[order][:-1]) & (b[order][1:] == b[order][:-1])
+    made = np.zeros(len(a), dtype=np.bool_)
+    made[order[1:]] = same
+    return made
+
+
+def times(checks: Checks, least: int, *columns: str) -> None:
+    """Times; empty ones too, where those are allowed."""
+    for column in columns:
+        value = values_of(checks.table[column], time)
+        checks.add(column, "bad time", TIME, (value < 0) if least == 0 else (value == fields.NONE))
+
+
+def check_frequencies(feed: Feed, checks: Checks) -> None:
+    named_trips(feed, checks)
+    times(checks, 0, "start_time", "end_time")
+    headways = values_of(checks.table["headway_secs"], number)
+    checks.add("headway_secs", "bad number", "a headway is whole seconds, 1 to 4294967295", headways < 1)
+
+
+def used_transfers(table: Table) -> Mask:
+    """The rows of transfers.txt that `ttm` looks at: those of a type up to 2, of two ends and a time, for every route
+    and trip.
+    """
+    kinds = values_of(table["transfer_type"], number)
+    used = (kinds == fields.EMPTY) | ((kinds >= 0) & (kinds <= 2))
+    for name in ("from_route_id", "to_route_id", "from_trip_id", "to_trip_id"):
+        used &= empty(table[name])
+    for name in ("from_stop_id", "to_stop_id"):
+        used &= ~empty(table[name])
+    return np.asarray(used & (values_of(table["min_transfer_time"], number) != fields.EMPTY), dtype=np.bool_)
+
+
+def check_transfers(feed: Feed, checks: Checks) -> None:
+    table = checks.table
+    open_numbers(checks, "transfer_type")
+    used = used_transfers(table)
+    for column in ("from_stop_id", "to_stop_id"):
+        names = names_in(feed, "stops.txt", "stop_id")
+        checks.named(column, "unknown stop", names, "stops.txt has to name it", but=~used)
+    wrong = values_of(table["min_transfer_time"], number) == fields.NONE
+    checks.add("min_transfer_time", "bad number", NUMBER, used & wrong)
+
+
+def whole_trips(feed: Feed, table: Table) -> Iterator[Fault]:
+    """The faults of whole trips, trip by trip in the order of trips.txt: ends without a time, and times that go back.
+    A field that is itself a fault isn't told again.
+    """
+    trips = names_in(feed, "trips.txt", "trip_id")
+    if trips is None:
+        return
+    calls = calls_of(table, trips)
+    wrong = calls.has_bad_time
+    ends = "the first and the last stop time of a trip have an arrival_time or a departure_time"
+    untimed = (calls.is_first | calls.is_last) & ~calls.timed & ~wrong
+    yield from whole(table, calls, untimed, "no time", ends)
+    yield from whole(table, calls, calls.goes_back, "times go back", BACK)
+
+
+def whole(table: Table, calls: Calls, fails: Mask, what: str, allowed: str) -> Iterator[Fault]:
+    places = np.flatnonzero(fails)
+    if len(places):
+        back = what == "times go back"
+        within = np.where(back, 2 + places, calls.is_last[places].astype(np.int64))
+        ranks = (1 << 40) + (calls.trip[places] << 32) + within
+        yield Fault(table, what, "arrival_time", allowed, calls.rows[places], ranks)
+
+
+CHECKS = {
+    "stops.txt": check_stops,
+    "routes.txt": check_routes,
+    "calendar.txt": check_calendar,
+    "calendar_dates.txt": check_calendar_dates,
+    "trips.txt": check_trips,
+    "stop_times.txt": check_stop_times,
+    "frequencies.txt": check_frequencies,
+    "transfers.txt": check_transfers,
+}

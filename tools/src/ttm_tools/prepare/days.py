@@ -1,0 +1,109 @@
+"""On which days services run, and how many runs a feed has."""
+
+import datetime
+from dataclasses import dataclass
+from typing import Sequence
+
+import numpy as np
+
+from .check import names_in
+from .fields import WEEKDAYS, Whole, date, number, time, values_of
+from .tables import Feed, Mask, Table
+from .trips import trip_places
+
+ORIGIN = datetime.date(1, 1, 1).toordinal()
+MOST_DAYS = 40_000  # of a calendar's rows; a longer one states no dates
+
+
+@dataclass(frozen=True)
+class Days:
+    """The days of each service: a row for each service, a column for each day from the first on."""
+
+    first: int  # ordinal of the first day
+    services: list[str]
+    runs: Mask
+
+    def day(self, place: int) -> datetime.date:
+        return datetime.date.fromordinal(self.first + place)
+
+    def on(self, days: Sequence[int]) -> Mask:
+        """Which services run on some of these days, given as ordinals."""
+        places = [day - self.first for day in days if 0 <= day - self.first < self.runs.shape[1]]
+        return np.asarray(self.runs[:, places].any(axis=1), dtype=np.bool_)
+
+
+def ordinals(dates: Whole) -> Whole:
+    """Days of dates that are numbers, -1 where they are none that the Python calendar has."""
+    found, places = np.unique(dates, return_inverse=True)
+    made = [ordinal(int(it)) for it in found]
+    return np.array(made or [-1], dtype=np.int64)[places]
+
+
+def ordinal(written: int) -> int:
+    """The ordinal of a date written YYYYMMDD, -1 for none."""
+    if written < 10000:
+        return -1
+    return datetime.date(written // 10000, written // 100 % 100, written % 100).toordinal()
+
+
+def days_of(feed: Feed) -> Days:
+    """The service days of a feed whose calendars have no fault."""
+    calendar, dates = feed.get("calendar.txt"), feed.get("calendar_dates.txt")
+    trips = feed.get("trips.txt")
+    services = list(dict.fromkeys(it for table in (calendar, dates, trips) for it in texts(table, "service_id")))
+    starts, ends = (ordinals(values_of(calendar[name], date)) for name in ("start_date", "end_date"))
+    marked = ordinals(values_of(dates["date"], date))
+    valid = (starts >= ORIGIN) & (ends >= starts) & (ends - starts < MOST_DAYS)
+    known = np.concatenate([starts[valid], ends[valid], marked[marked >= ORIGIN]])
+    if not len(known) or known.max() - known.min() > 10 * MOST_DAYS:
+        return Days(ORIGIN, services, np.zeros((len(services), 0), dtype=np.bool_))
+    first = int(known.min())
+    runs = np.zeros((len(services), int(known.max()) - first + 1), dtype=np.bool_)
+    places = {name: place for place, name in enumerate(services)}
+    flags = np.stack([values_of(calendar[day], number) == 1 for day in WEEKDAYS], axis=1)
+    weekday = (first + np.arange(runs.shape[1]) - 1) % 7
+    for row in np.flatnonzero(valid):
+        span = slice(starts[row] - first, ends[row] - first + 1)
+        runs[places[calendar.text("service_id", row)], span] |= flags[row][weekday[span]]
+    of = np.array([places[it] for it in texts(dates, "service_id")], dtype=np.int64)
+    kinds = values_of(dates["exception_type"], number)
+    for kind in (2, 1):  # a day that is both added and removed runs
+        rows = np.flatnonzero((kinds == kind) & (marked >= ORIGIN))
+        runs[of[rows], marked[rows] - first] = kind == 1
+    return Days(first, services, runs)
+
+
+def texts(table: Table, name: str) -> list[str]:
+    column = table[name]
+    return [column.values[code] for code in column.codes]
+
+
+def runs_of_trips(feed: Feed) -> Whole:
+    """How often each trip runs on a day of its service: once if it has calls, or as its headways say."""
+    names = names_in(feed, "trips.txt", "trip_id") or []
+    made = np.zeros(len(names) + 1, dtype=np.int64)
+    called = trip_places(feed.get("stop_times.txt"), names)
+    made[called[called >= 0]] = 1
+    table = feed.get("frequencies.txt")
+    places = trip_places(table, names)
+    start, end = (values_of(table[name], time) for name in ("start_time", "end_time"))
+    headway = np.maximum(values_of(table["headway_secs"], number), 1)
+    departures = np.where((start >= 0) & (end > start), (end - start + headway - 1) // headway, 0)
+    known = places >= 0
+    several = np.zeros(len(made), dtype=np.int64)
+    np.add.at(several, places[known], departures[known])
+    led = np.zeros(len(made), dtype=np.bool_)
+    led[places[known]] = True
+    return np.where(led & (made > 0), several, made)[:-1]
+
+
+def runs_by_day(feed: Feed, days: Days) -> Whole:
+    """The runs of a feed on each day."""
+    trips = feed.get("trips.txt")
+    places = {name: place for place, name in enumerate(days.services)}
+    names = names_in(feed, "trips.txt", "trip_id") or []
+    where = {name: place for place, name in enumerate(names)}
+    counts, total = runs_of_trips(feed), np.zeros(len(days.services), dtype=np.int64)
+    for service, trip in zip(texts(trips, "service_id"), texts(trips, "trip_id")):
+        total[places[service]] += counts[where[trip]]
+    return np.asarray(total @ days.runs, dtype=np.int64)

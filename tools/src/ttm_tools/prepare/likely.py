@@ -1,0 +1,123 @@
+"""What isn't a fault but likely not meant: days, columns, places, speeds, transfers. Each is a sentence of its own."""
+
+import difflib
+from typing import Iterator
+
+import numpy as np
+
+from ..feed import EARTH, place_of
+from ..records import shown
+from . import fields
+from .check import stops_of, unlike, used_transfers
+from .days import days_of, runs_by_day
+from .fields import FILES, number, values_of
+from .tables import Feed, Table
+from .trips import Calls, calls_of
+
+FASTEST = 300  # km/h
+WEEK = ("Mondays", "Tuesdays", "Wednesdays", "Thursdays", "Fridays", "Saturdays", "Sundays")
+PLACES = ("stop_lat", "stop_lon", "stop_name")
+
+
+def told(feed: Feed) -> Iterator[str]:
+    """What is told of a feed beside its faults."""
+    yield from misspelt(feed)
+    if feed.has_columns("stops.txt"):
+        yield from unplaced(feed.tables["stops.txt"])
+    if feed.has_columns("trips.txt"):
+        yield from of_days(feed)
+        if feed.has_columns("stop_times.txt"):
+            yield from of_trips(feed)
+    if "transfers.txt" in feed.tables:
+        table = feed.tables["transfers.txt"]
+        unused = int((~used_transfers(table)).sum())
+        if unused:
+            why = "of types above 2, of a route or trip, or without a time"
+            yield f"transfers.txt: {unused:,} of {len(table):,} rows aren't used ({why})"
+
+
+def misspelt(feed: Feed) -> Iterator[str]:
+    """Columns whose names are nearly those that are read, where the right ones aren't there."""
+    for name, table in feed.tables.items():
+        right = (*FILES[name].needed, *FILES[name].taken, *(PLACES if name == "stops.txt" else ()))
+        lacking = [it for it in right if it not in table.columns]
+        for column in table.columns:
+            near = difflib.get_close_matches(plain(column), map(plain, lacking), 1, 0.85) if column not in right else []
+            if near:
+                meant = next(it for it in lacking if plain(it) == near[0])
+                yield f"{name}: the column {column!r} isn't read; {meant} is meant?"
+
+
+def plain(name: str) -> str:
+    return "".join(letter for letter in name.lower() if letter.isalnum())
+
+
+def places_of(table: Table) -> tuple[fields.Floats, fields.Floats]:
+    """Latitudes and longitudes of all locations, NaN where one has no place."""
+    latitude, longitude = table["stop_lat"], table["stop_lon"]
+    pairs = [(latitude.values[a], longitude.values[b]) for a, b in zip(latitude.codes, longitude.codes)]
+    made = np.array([place_of(*pair) for pair in pairs], dtype=np.float64).reshape(-1, 2)
+    return made[:, 0], made[:, 1]
+
+
+def unplaced(table: Table) -> Iterator[str]:
+    kinds = values_of(table["location_type"], number)
+    lost = np.flatnonzero(np.isnan(places_of(table)[0]) & ((kinds == 0) | (kinds == fields.EMPTY)))
+    if len(lost):
+        first = shown(table.text("stop_id", int(lost[0])))
+        yield f"stops.txt: {len(lost):,} stops have no place, or 0 and 0, such as {first}"
+
+
+def of_days(feed: Feed) -> Iterator[str]:
+    """The days on which trips run, and how many on each weekday."""
+    days = days_of(feed)
+    runs = runs_by_day(feed, days)
+    busy = np.flatnonzero(runs)
+    if not len(busy):
+        yield "no trip runs on any day"
+        return
+    first, last, most = (days.day(int(place)) for place in (busy[0], busy[-1], runs.argmax()))
+    yield f"runs from {first} to {last}; the most, {runs.max():,}, on {most}"
+    covered = np.arange(busy[0], busy[-1] + 1)
+    weekday = (days.first + covered - 1) % 7
+    counts = [runs[covered][weekday == day] for day in range(7)]
+    yield "runs on " + ", ".join(
+        f"{name} {int(np.median(it)):,}" for name, it in zip(WEEK, counts) if len(it)
+    ) + " (medians)"
+
+
+def of_trips(feed: Feed) -> Iterator[str]:
+    table, names = feed.tables["stop_times.txt"], feed.tables["trips.txt"]["trip_id"].values
+    calls = calls_of(table, names)
+    single = int((calls.is_first & calls.is_last).sum())
+    if single:
+        yield f"stop_times.txt: {single:,} trips call at a single stop"
+    if feed.has_columns("stops.txt"):
+        stops = feed.tables["stops.txt"]
+        stations = unlike(stops["stop_id"], stops_of(feed) or [], among=False)
+        called = {stops.text("stop_id", int(row)) for row in np.flatnonzero(stations)}
+        count = int(unlike(table["stop_id"], called - {""}).sum())
+        if count:
+            yield f"stop_times.txt: {count:,} records call at a station or another place that is no stop"
+        yield from too_fast(table, stops, calls)
+
+
+def too_fast(table: Table, stops: Table, calls: Calls) -> Iterator[str]:
+    """Calls that a vehicle reaches at more than 300 km/h; a minute at least is taken for each way, as times are often
+    in whole minutes.
+    """
+    latitudes, longitudes = (np.radians(np.append(it, np.nan)) for it in places_of(stops))
+    where = {stops["stop_id"].values[code]: row for row, code in reversed(list(enumerate(stops["stop_id"].codes)))}
+    column = table["stop_id"]
+    place = np.array([where.get(text, -1) for text in column.values] or [-1], dtype=np.int64)[column.codes[calls.rows]]
+    follows = np.flatnonzero(calls.timed & (calls.before >= 0))
+    start, end = place[calls.before[follows]], place[follows]
+    east = (longitudes[end] - longitudes[start]) * np.cos((latitudes[end] + latitudes[start]) / 2)
+    metres = EARTH * np.hypot(east, latitudes[end] - latitudes[start])
+    seconds = np.maximum(calls.arrival[follows] - calls.departure[calls.before[follows]], 60)
+    fast = np.flatnonzero(metres / seconds * 3.6 > FASTEST)
+    if len(fast):
+        most = fast[np.argmax(metres[fast] / seconds[fast])]
+        record, speed = table.records[calls.rows[follows[most]]], metres[most] / seconds[most] * 3.6
+        which = f"the fastest, record {record}, at {speed:,.0f}"
+        yield f"stop_times.txt: {len(fast):,} calls are reached at over {FASTEST} km/h; {which}"

@@ -1,0 +1,63 @@
+"""What a check found, as lines and as a table; and what was mended."""
+
+from dataclasses import dataclass
+from typing import Iterator, Sequence
+
+import numpy as np
+
+from ..faults import one_line
+from ..records import shown
+from .check import Fault
+
+FEW = 8
+
+
+@dataclass(frozen=True)
+class Change:
+    """A rule applied to a record."""
+
+    file: str
+    record: int
+    column: str
+    value: str
+    rule: str
+    done: str
+
+    def row(self) -> list[object]:
+        return [self.file, self.record, self.column, self.value, self.rule, self.done]
+
+
+CHANGE_COLUMNS = ["file", "record", "column", "value", "rule", "done"]
+FAULT_COLUMNS = ["file", "record", "column", "value", "fault", "allowed"]
+
+
+def fault_lines(faults: Sequence[Fault]) -> Iterator[str]:
+    """Two lines for each check that failed: what `ttm` would print, and what stands there, what is allowed, how
+    often.
+    """
+    for fault in faults:
+        yield fault.line()
+        value = fault.value()
+        found = f'column {fault.column} is "{one_line(shown(value))}"; ' if value is not None else ""
+        often = f"; {len(fault):,} times: records {records_told(fault)}" if len(fault) > 1 else ""
+        yield f"  {found}{fault.allowed}{often}"
+
+
+def records_told(fault: Fault) -> str:
+    """The first of the records, in the order in which they would be told."""
+    told = ", ".join(map(str, fault.records[:FEW].tolist()))
+    return told + (", .." if len(fault) > FEW else "")
+
+
+def fault_rows(faults: Sequence[Fault]) -> Iterator[list[object]]:
+    """Every single fault, file by file in the order in which `ttm` would tell them."""
+    files = list(dict.fromkeys(fault.table.name for fault in faults))
+    for name in files:
+        some = [fault for fault in faults if fault.table.name == name]
+        which = np.concatenate([np.full(len(it), place) for place, it in enumerate(some)])
+        within = np.concatenate([np.arange(len(it)) for it in some])
+        ranks = np.concatenate([it.ranks if len(it.ranks) else np.full(1, -1) for it in some])
+        for place in np.argsort(ranks, kind="stable"):
+            fault, row = some[which[place]], int(within[place])
+            record = "" if fault.missing else int(fault.records[row])
+            yield [name, record, fault.column, fault.value(row) or "", fault.what, fault.allowed]

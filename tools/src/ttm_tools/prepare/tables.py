@@ -1,0 +1,176 @@
+"""A published feed as tables in columns: from a zip file or a folder, with a folder inside where there is one; and back
+to files.
+
+A table that nothing changed is copied byte for byte. A column of a long file takes four bytes for each record beside
+its texts, each of which is kept once.
+"""
+
+import os
+import shutil
+import zipfile
+from dataclasses import dataclass, field
+from pathlib import Path, PurePosixPath
+from typing import BinaryIO, Iterator, Mapping, Sequence
+
+import numpy as np
+import numpy.typing as npt
+
+from ..faults import BadInput
+from ..records import Column, all_columns, field as quoted
+from .fields import FILES, Whole
+
+Mask = npt.NDArray[np.bool_]
+Codes = npt.NDArray[np.int32]
+ROWS_AT_ONCE = 1 << 18
+
+
+@dataclass
+class Table:
+    """A file of a feed."""
+
+    name: str
+    columns: dict[str, Column]
+    records: Whole  # the number of each record in the file as it was published; the header is record 1
+    source: Path | None = None  # the file, as long as nothing was changed
+
+    def __len__(self) -> int:
+        return len(self.records)
+
+    def __getitem__(self, name: str) -> Column:
+        """A column; one that the file hasn't is empty throughout."""
+        return self.columns.get(name) or Column([""], np.zeros(len(self), np.int32))
+
+    def text(self, name: str, row: int) -> str:
+        column = self[name]
+        return column.values[int(column.codes[row])]
+
+    def keep(self, kept: Mask) -> None:
+        """Leaves out all records but some."""
+        if kept.all():
+            return
+        self.columns = {name: Column(it.values, it.codes[kept]) for name, it in self.columns.items()}
+        self.records, self.source = self.records[kept], None
+
+    def put(self, name: str, rows: npt.NDArray[np.intp], texts: Sequence[str]) -> None:
+        """Writes texts into the fields of some records."""
+        if not len(rows):
+            return
+        column = self[name]
+        places = {text: place for place, text in enumerate(column.values)}
+        codes = column.codes.copy()
+        codes[rows] = [places.setdefault(text, len(places)) for text in texts]
+        self.columns[name], self.source = Column(list(places), codes), None
+
+
+@dataclass
+class Feed:
+    """The files of a feed that `ttm` reads, and the paths of all others."""
+
+    name: str  # for people, and for prefixes
+    tables: dict[str, Table]
+    others: dict[str, Path] = field(default_factory=dict)
+
+    def get(self, name: str) -> Table:
+        """A table, without columns and records where the file isn't there."""
+        found = self.tables.get(name)
+        return Table(name, {}, np.zeros(0, np.int64)) if found is None else found
+
+    def has_columns(self, name: str) -> bool:
+        """Whether a file is there with the columns that it needs."""
+        return name in self.tables and all(it in self.tables[name].columns for it in FILES[name].needed)
+
+
+def read_table(name: str, path: Path) -> Table:
+    columns = all_columns(path)
+    count = len(next(iter(columns.values())).codes) if columns else 0
+    return Table(name, columns, np.arange(2, count + 2, dtype=np.int64), path)
+
+
+def read_feed(path: str | Path, room: Path) -> Feed:
+    """A feed from a zip file, which is unpacked in the room, or from a folder."""
+    given = Path(path)
+    if given.is_dir():
+        files = {str(it.relative_to(given)): it for it in files_in(given)}
+        chosen = files_of(given, list(files))
+        return feed_of(given, {name: files[member] for name, member in chosen.items()})
+    if not given.exists():
+        raise BadInput(given, "no such file or folder")
+    try:
+        with zipfile.ZipFile(given) as packed:
+            members = [it.filename for it in packed.infolist() if not it.is_dir()]
+            chosen = files_of(given, members)
+            return feed_of(given, {name: unpacked(packed, it, room / name) for name, it in chosen.items()})
+    except (zipfile.BadZipFile, zipfile.LargeZipFile, RuntimeError, NotImplementedError) as fault:
+        raise BadInput(given, f"can't be unzipped: {fault}") from None
+
+
+def files_in(folder: Path) -> Iterator[Path]:
+    """The files of a folder and of those inside it, two deep."""
+    for pattern in ("*", "*/*", "*/*/*"):
+        yield from (it for it in sorted(folder.glob(pattern)) if not it.is_dir())
+
+
+def unpacked(packed: zipfile.ZipFile, member: str, path: Path) -> Path:
+    path.parent.mkdir(exist_ok=True)
+    with packed.open(member) as source, open(path, "wb") as file:
+        shutil.copyfileobj(source, file, 1 << 20)
+    return path
+
+
+def files_of(path: Path, members: Sequence[str]) -> dict[str, str]:
+    """The files of the feed among those of a zip file or folder, by name: those of the folder that has the most."""
+    folders: dict[str, dict[str, str]] = {}
+    for member in members:
+        folder, name = os.path.split(member)
+        if not any(part.startswith((".", "__MACOSX")) for part in PurePosixPath(member).parts):
+            folders.setdefault(folder, {})[name] = member
+    counts = {folder: len(FILES.keys() & names.keys()) for folder, names in folders.items()}
+    best = [folder for folder, count in counts.items() if count and count == max(counts.values())]
+    if not best:
+        zipped = [member for member in members if member.endswith(".zip")]
+        told = f", but {zipped[0]}: unzip it first" if zipped else ""
+        raise BadInput(path, f"no GTFS in it{told}")
+    if len(best) > 1:
+        raise BadInput(path, f"several feeds in it, {best[0] or '.'} and {best[1]}: give them one by one")
+    return {name: it for name, it in folders[best[0]].items() if name in FILES or name.endswith((".txt", ".geojson"))}
+
+
+def feed_of(path: Path, files: Mapping[str, Path]) -> Feed:
+    tables = {name: read_table(name, files[name]) for name in FILES if name in files}
+    return Feed(path.stem if path.suffix == ".zip" else path.resolve().name, tables, dict(others_of(files)))
+
+
+def others_of(files: Mapping[str, Path]) -> Iterator[tuple[str, Path]]:
+    yield from ((name, path) for name, path in files.items() if name not in FILES)
+
+
+def write_feed(feed: Feed, folder: Path) -> None:
+    """Writes the files of a feed: those without a change byte for byte."""
+    for name, path in feed.others.items():
+        shutil.copyfile(path, folder / name)
+    for name, table in feed.tables.items():
+        if table.source is not None:
+            shutil.copyfile(table.source, folder / name)
+            continue
+        with open(folder / name, "wb") as file:
+            write_table(table, file)
+
+
+def write_table(table: Table, file: BinaryIO) -> None:
+    """Writes a table, some records at a time."""
+    file.write(b",".join(map(quoted, table.columns)) + b"\n")
+    texts = {}
+    for place, (name, column) in enumerate(table.columns.items()):
+        made = np.empty(len(column.values), dtype=object)
+        made[:] = [(b"," if place else b"") + quoted(value) for value in column.values]
+        texts[name] = made
+    alone = len(table.columns) == 1
+    for first in range(0, len(table), ROWS_AT_ONCE):
+        rows = slice(first, first + ROWS_AT_ONCE)
+        lines = np.empty((len(table.records[rows]), len(texts) + 1), dtype=object)
+        for place, (name, made) in enumerate(texts.items()):
+            lines[:, place] = made[table.columns[name].codes[rows]]
+        if alone:
+            lines[lines[:, 0] == b"", 0] = b'""'  # an empty line is no record
+        lines[:, -1] = b"\n"
+        file.write(b"".join(lines.ravel()))

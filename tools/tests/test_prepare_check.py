@@ -1,0 +1,167 @@
+"""All faults of a feed: the first is the line that `ttm` prints; and what is likely not meant."""
+
+import subprocess
+from pathlib import Path
+
+import pytest
+
+from damages import LASTING, WORDS, Damaged
+from helpers import CALENDAR, METRE, STOP_TIMES, Room
+from ttm_tools.prepare import report
+from ttm_tools.prepare.check import check
+from ttm_tools.prepare.likely import told
+from ttm_tools.prepare.tables import read_feed
+
+MARK = b"\xef\xbb\xbf"
+
+
+@pytest.fixture
+def feed(room: Room) -> Room:
+    """A right feed of three stops and a station, two trips, and a headway."""
+    place = [50, 8]
+    stops = [["A", *place, 0, ""], ["B", 50 + 500 * METRE, 8, "", "S"], ["C", 50, 8.01, "", "S"], ["S", *place, 1, ""]]
+    room.write("stops.txt", "stop_id,stop_lat,stop_lon,location_type,parent_station", stops)
+    room.write("routes.txt", "route_id", [["R"]])
+    room.write("calendar.txt", *CALENDAR)
+    room.write("trips.txt", "route_id,service_id,trip_id", [["R", "M", "T"], ["R", "M", "U"]])
+    calls = [["T", "08:00:00", "08:00:00", "A", 1], ["T", "08:10:00", "08:10:00", "B", 2]]
+    calls += [["U", "09:00:00", "09:00:00", "A", 1], ["U", "09:10:00", "09:10:00", "C", 2]]
+    room.write("stop_times.txt", STOP_TIMES, calls)
+    room.write("frequencies.txt", "trip_id,start_time,end_time,headway_secs", [["U", "09:00:00", "10:00:00", 600]])
+    return room
+
+
+def edit(room: Room, name: str, old: str, new: str) -> None:
+    path = room.folder / name
+    text = path.read_text()
+    assert old in text
+    path.write_text(text.replace(old, new))
+
+
+def checked(room: Room, *words: str) -> tuple[list[str], int]:
+    out, err, status = room.ran("prepare", "--check", *words, str(room.folder))
+    assert err == ""
+    return out.splitlines(), status
+
+
+DAYS = [
+    "runs from 2026-05-04 to 2026-05-31; the most, 7, on 2026-05-04",
+    "runs on Mondays 7, Tuesdays 7, Wednesdays 7, Thursdays 7, Fridays 7, Saturdays 7, Sundays 7 (medians)",
+]
+
+
+def test_a_right_feed_has_no_faults(feed: Room) -> None:
+    assert checked(feed) == (["no faults", *DAYS], 0)
+
+
+def test_all_faults_are_told_at_once_in_the_order_of_ttm(feed: Room) -> None:
+    edit(feed, "stops.txt", "S,50,8,1,", "S,50,8,1.0,\nA,50,8,0,\n,50,8,x,")
+    edit(feed, "trips.txt", "R,M,U", "R,M,U\nQ,,V")
+    edit(feed, "stop_times.txt", "T,08:10:00,08:10:00,B,2", "T,08:10:00,8:5:00,S,1\nV,,,A,1\nW,08:00:00,08:00:00,A,x")
+    edit(feed, "stop_times.txt", "U,09:10:00", "U,08:59:00")
+    edit(feed, "frequencies.txt", "600", "0")
+    lines, status = checked(feed, "--faults", feed.path("faults.csv"))
+    assert status == 1
+    assert [line for line in lines if line.startswith("ttm: ")] == [
+        "ttm: stops.txt: record 5: bad number",
+        "ttm: stops.txt: record 6: duplicate id",
+        "ttm: stops.txt: record 7: empty id",
+        "ttm: trips.txt: record 4: unknown route",
+        "ttm: trips.txt: record 4: empty id",
+        "ttm: stop_times.txt: record 3: unknown stop",
+        "ttm: stop_times.txt: record 3: duplicate id",
+        "ttm: stop_times.txt: record 3: bad time",
+        "ttm: stop_times.txt: record 5: unknown trip",
+        "ttm: stop_times.txt: record 5: bad number",
+        "ttm: stop_times.txt: record 7: times go back",
+        "ttm: stop_times.txt: record 4: no time",
+        "ttm: frequencies.txt: record 2: bad number",
+    ]
+    told = "it is empty or a number: digits alone, 0 to 4294967295; 2 times: records 5, 7"
+    assert lines[1] == f'  column location_type is "1.0"; {told}'
+    single = (feed.folder / "faults.csv").read_text().splitlines()
+    assert single[0] == "file,record,column,value,fault,allowed"
+    assert single[3:5] == [
+        "stops.txt,7,stop_id,,empty id,it may not be empty",
+        'stops.txt,7,location_type,x,bad number,"it is empty or a number: digits alone, 0 to 4294967295"',
+    ]
+
+
+def test_missing_files_and_columns_are_told_and_what_refers_to_them_is_not(feed: Room) -> None:
+    (feed.folder / "trips.txt").unlink()
+    edit(feed, "stops.txt", "stop_id", "Stop_ID")
+    lines, status = checked(feed)
+    assert (lines[0], lines[2], status) == (
+        "ttm: stops.txt: record 1: missing column",
+        "ttm: trips.txt: missing file",
+        1,
+    )
+    assert lines[4:] == ["stops.txt: the column 'Stop_ID' isn't read; stop_id is meant?"]
+
+
+def test_what_is_likely_not_meant(feed: Room) -> None:
+    edit(feed, "stops.txt", "A,50,8,", "A,0,0,")
+    edit(feed, "stops.txt", "8.01", "9.01")
+    edit(feed, "stop_times.txt", "U,09:00:00,09:00:00,A", "U,09:09:00,09:09:00,B")
+    edit(feed, "stop_times.txt", "T,08:10:00,08:10:00,B,2\n", "")
+    edit(feed, "calendar.txt", "20260531", "20260504")
+    feed.write("transfers.txt", "from_stop_id,to_stop_id,transfer_type,min_transfer_time", [["A", "B", 3, ""]])
+    assert checked(feed) == (
+        [
+            "no faults",
+            "stops.txt: 1 stops have no place, or 0 and 0, such as A",
+            "runs from 2026-05-04 to 2026-05-04; the most, 7, on 2026-05-04",
+            "runs on Mondays 7 (medians)",
+            "stop_times.txt: 1 trips call at a single stop",
+            "stop_times.txt: 1 calls are reached at over 300 km/h; the fastest, record 4, at 4,331",
+            "transfers.txt: 1 of 1 rows aren't used (of types above 2, of a route or trip, or without a time)",
+        ],
+        0,
+    )
+
+
+def test_calls_at_stations_are_counted(feed: Room) -> None:
+    edit(feed, "stop_times.txt", "09:10:00,C", "09:10:00,S")
+    lines, status = checked(feed)
+    assert status == 1
+    assert lines[-1] == "stop_times.txt: 1 records call at a station or another place that is no stop"
+
+
+def test_no_feed_is_told_in_a_line(room: Room) -> None:
+    room.refused(f"{room.folder}: no GTFS in it", "prepare", "--check", str(room.folder))
+    room.refused(f"{room.path('x.zip')}: no such file or folder", "prepare", "--check", room.path("x.zip"))
+    (room.folder / "x.zip").write_bytes(b"x")
+    told = f"{room.path('x.zip')}: can't be unzipped: File is not a zip file"
+    room.refused(told, "prepare", "--check", room.path("x.zip"))
+
+
+@pytest.mark.parametrize("first", range(0, 200, 50))
+def test_the_first_fault_is_what_the_program_tells(room: Room, program: str, first: int) -> None:
+    for seed in range(first, first + 50):
+        folder = room.folder / str(seed)
+        damaged = Damaged(seed)
+        if seed % 5 == 0:
+            damaged.random.choice(LASTING)(damaged)
+        damaged.put_into(folder)
+        if seed % 7 == 0 and (folder / "stops.txt").exists():
+            (folder / "stops.txt").write_bytes(MARK + (folder / "stops.txt").read_bytes())
+        feed = read_feed(folder, room.folder)
+        faults = check(feed)
+        assert all(list(told(feed))) and len(list(report.fault_rows(faults))) >= len(faults)
+        ran = subprocess.run([program, "--feed", str(folder), *WORDS.split()], capture_output=True)
+        lines = [line + "\n" for line in report.fault_lines(faults)][:1]
+        assert (seed, ran.stderr.decode()) == (seed, "".join(lines))
+
+
+def test_a_long_file_is_read_alike_by_pandas(feed: Room, monkeypatch: pytest.MonkeyPatch) -> None:
+    pytest.importorskip("pandas")
+    edit(feed, "stop_times.txt", "T,08:10:00,08:10:00,B,2", "T,08:10:00,08:10:00\n\nT,x,,B,3")
+    path = Path(feed.path("stop_times.txt"))
+    before = read_feed(feed.folder, feed.folder).tables["stop_times.txt"]
+    monkeypatch.setattr("ttm_tools.records.SMALL", 0)
+    for blank in ("", " \n"):
+        path.write_text(path.read_text() + blank)
+        table = read_feed(feed.folder, feed.folder).tables["stop_times.txt"]
+        assert len(table) == len(before) + bool(blank)
+        rows = [[table.text(name, row) for name in table.columns] for row in range(len(before))]
+        assert rows == [[before.text(name, row) for name in before.columns] for row in range(len(before))]
