@@ -1,11 +1,17 @@
 """Feeds that are drawn by a seed, small and right, and what publishers do to them."""
 
+import contextlib
 import csv
+import io
 import random
+import subprocess
 from pathlib import Path
 from typing import Callable, Sequence
 
 from random_feeds import Drawn
+from ttm_tools import cli
+from ttm_tools.prepare import likely, report, tables
+from ttm_tools.prepare.check import check
 from ttm_tools.prepare.fields import FILES
 
 Records = list[list[str]]
@@ -246,3 +252,54 @@ def no_bytes(feed: Damaged) -> bool:
 
 
 LASTING: list[Callable[[Damaged], bool]] = [no_file, no_column, no_bytes]  # which no rule mends
+
+
+def matrix_of(program: str, folder: Path, words: Sequence[str] = WORDS.split()) -> tuple[int, bytes, bytes]:
+    """What the program says of a feed: its status, its matrix, and what it tells."""
+    ran = subprocess.run([program, "--feed", str(folder), *words], capture_output=True)
+    return ran.returncode, ran.stdout, ran.stderr
+
+
+def prepared(folder: Path, *words: str) -> Path:
+    """The feed of a folder made ready in another one."""
+    out = folder.with_name(folder.name + "-out")
+    with contextlib.redirect_stderr(io.StringIO()) as told:
+        status = cli.main(["prepare", "--out", str(out), *words, str(folder)])
+    if status:
+        raise AssertionError(f"{folder}: {told.getvalue()}")
+    return out
+
+
+def right_feed_differs(program: str, seed: int, room: Path) -> str:
+    """What is wrong where a right feed is made ready: the matrix must be the same; nothing where it is."""
+    feed = Damaged(seed, 0)
+    feed.put_into(room / str(seed))
+    before = matrix_of(program, room / str(seed))
+    after = matrix_of(program, prepared(room / str(seed)))
+    return "" if before == after and before[0] == 0 else f"seed {seed}: {before} and {after}"
+
+
+def damage_stays(program: str, seed: int, room: Path) -> str:
+    """What is wrong where a damaged feed is mended: the program must take it; nothing where it does."""
+    feed = Damaged(seed)
+    feed.put_into(room / str(seed))
+    status, _, told = matrix_of(program, prepared(room / str(seed), "--repair"))
+    return "" if (status, told) == (0, b"") else f"seed {seed}: {', '.join(feed.done)}: {told.decode()}"
+
+
+def first_fault_differs(program: str, seed: int, room: Path) -> str:
+    """What is wrong where the faults of a damaged feed are told: the first must be the program's line; nothing where
+    it is.
+    """
+    feed, folder = Damaged(seed), room / str(seed)
+    if seed % 5 == 0:
+        feed.random.choice(LASTING)(feed)
+    feed.put_into(folder)
+    if seed % 7 == 0 and (folder / "stops.txt").exists():  # with a byte-order mark
+        (folder / "stops.txt").write_bytes(b"\xef\xbb\xbf" + (folder / "stops.txt").read_bytes())
+    read = tables.read_feed(folder, room)
+    faults = check(read)
+    assert all(likely.told(read)) and len(list(report.fault_rows(faults))) >= len(faults)
+    mine = "".join(line + "\n" for line in list(report.fault_lines(faults))[:1])
+    told = matrix_of(program, folder)[2].decode()
+    return "" if mine == told else f"seed {seed}: {', '.join(feed.done)}: {mine!r} and {told!r}"

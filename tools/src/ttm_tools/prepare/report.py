@@ -24,7 +24,12 @@ class Change:
     done: str
 
     def row(self) -> list[object]:
-        return [self.file, self.record, self.column, self.value, self.rule, self.done]
+        return [self.file, self.record, self.column, escaped(self.value), self.rule, escaped(self.done)]
+
+
+def escaped(text: str) -> str:
+    """A text in UTF-8, bytes that aren't being told by their numbers."""
+    return text.encode("utf-8", "backslashreplace").decode("utf-8")
 
 
 CHANGE_COLUMNS = ["file", "record", "column", "value", "rule", "done"]
@@ -60,4 +65,4 @@ def fault_rows(faults: Sequence[Fault]) -> Iterator[list[object]]:
         for place in np.argsort(ranks, kind="stable"):
             fault, row = some[which[place]], int(within[place])
             record = "" if fault.missing else int(fault.records[row])
-            yield [name, record, fault.column, fault.value(row) or "", fault.what, fault.allowed]
+            yield [name, record, fault.column, escaped(fault.value(row) or ""), fault.what, fault.allowed]

@@ -1,0 +1,86 @@
+"""A folder that `ttm` reads, made from published feeds."""
+
+from dataclasses import dataclass
+from pathlib import Path
+from typing import Sequence
+
+from ..faults import BadInput
+from ..files import many_written_aside
+from ..records import write_rows
+from .check import check
+from .fields import FILES
+from .report import CHANGE_COLUMNS, Change, fault_lines
+from .rules import repair
+from .tables import Feed, read_feed, write_feed
+
+PREPARED = "prepared.csv"
+ORDER = {name: place for place, name in enumerate(FILES)}
+HELP = "--check tells all, --repair mends what rules can"
+
+
+@dataclass(frozen=True)
+class Asked:
+    """What is asked of a feed that is made ready."""
+
+    paths: Sequence[str]  # zip files or folders
+    out: str  # the folder that is written
+    mends: bool  # by the rules
+
+
+def make(asked: Asked, room: Path) -> list[str]:
+    """Writes the folder, and says what was done, a sentence a line."""
+    is_free(Path(asked.out))
+    changes: list[Change] = []
+    feeds = []
+    for number, path in enumerate(asked.paths):
+        feed = read_feed(path, room / str(number))
+        if asked.mends:
+            done = repair(feed, f"{feed.name}/" if len(asked.paths) > 1 else "")
+            changes += sorted(done, key=lambda it: (ORDER[it.file.rpartition("/")[2]], it.record))
+        refuse_faults(path, feed)
+        feeds.append(feed)
+    feed = feeds[0]
+    refuse_limits(feed)
+    with many_written_aside(asked.out) as folder:
+        write_feed(feed, folder)
+        with open(folder / PREPARED, "wb") as file:
+            write_rows(file, CHANGE_COLUMNS, [change.row() for change in changes])
+    return [*mended_lines(changes), counted(asked.out, feed)]
+
+
+def is_free(out: Path) -> None:
+    """Tells of a folder that isn't empty, in which files of two feeds would lie side by side."""
+    if out.exists() and (not out.is_dir() or any(out.iterdir())):
+        raise BadInput(out, "is there already, and isn't empty")
+
+
+def refuse_faults(path: str, feed: Feed) -> None:
+    """Tells the first fault of a feed, limits aside, and how many there are."""
+    faults = [fault for fault in check(feed) if not fault.is_limit]
+    if faults:
+        first = next(fault_lines(faults)).removeprefix("ttm: ")
+        count = sum(map(len, faults))
+        raise BadInput(path, f"{count:,} faults, first {first} ({HELP})")
+
+
+def refuse_limits(feed: Feed) -> None:
+    """Tells a file that is longer than `ttm` takes."""
+    for fault in check(feed):
+        count = f"{len(feed.tables[fault.table.name]):,} records, of which ttm takes {fault.allowed}"
+        raise BadInput(fault.table.name, count)
+
+
+def mended_lines(changes: Sequence[Change]) -> list[str]:
+    """How often each rule was applied, and what it did."""
+    counts: dict[tuple[str, str, str], int] = {}
+    for change in changes:
+        done = "mended" if change.done.startswith(("now", "emptied")) else change.done
+        done = "trip left out" if done.startswith("trip ") else done
+        key = (change.rule, change.file, done)
+        counts[key] = counts.get(key, 0) + 1
+    return [f"{rule}: {file}: {count:,} times {done}" for (rule, file, done), count in counts.items()]
+
+
+def counted(out: str, feed: Feed) -> str:
+    names = {"stops.txt": "stops and stations", "trips.txt": "trips", "stop_times.txt": "stop times"}
+    return f"{out}: " + ", ".join(f"{len(feed.get(name)):,} {told}" for name, told in names.items())
