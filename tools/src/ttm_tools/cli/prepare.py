@@ -1,11 +1,12 @@
 """ttm-tools prepare."""
 
 import argparse
+import datetime
 import sys
 import tempfile
 from pathlib import Path
 
-from .options import add_text
+from .options import add_number, add_text
 
 TOLD = "a folder that ttm reads, from a published feed: checked, mended"
 HELP = """\
@@ -41,6 +42,12 @@ mended first, by the rules below; prepared.csv in the folder has a line for each
   back        other times that go back                                              the trip goes
   headway     a row of frequencies.txt that is empty, or begins before another ends it begins later, or goes
 
+With --box, --area, --routes, --agency and --date the feed is clipped. Stops outside the region are left out with all
+that is theirs; a trip keeps the calls that stay, and goes where these are fewer than two. Journeys by way of a place
+outside are lost, and all others are as they were. With --routes and --agency stops go at which no trip calls any more,
+with --date trips whose service doesn't run on the days. What ttm doesn't take, more than 65,535 stops and stations,
+1,000,000 trips or 8,000,000 stop times, is told in a line, with the options that leave out some.
+
 What is missing as a whole, a file or a column, no rule makes up. It needs four bytes for each field of the feed, and
 each text once."""
 
@@ -51,7 +58,36 @@ def describe(parser: argparse.ArgumentParser) -> None:
     add_text(parser, "--faults", "FILE", "with --check, a line for each single fault, as CSV", without="none")
     add_text(parser, "--out", "FOLDER", "the folder that is written; it is new or empty", without="--check is needed")
     parser.add_argument("--repair", action="store_true", help="mend faults (without it, they are refused)")
+    told = "west, south, east, north in degrees, -180 to 180 and -90 to 90: stops inside are kept (without it, all)"
+    parser.add_argument("--box", type=box, metavar="W,S,E,N", help=told)
+    add_text(parser, "--area", "FILE", "GeoJSON polygons: the stops inside are kept; needs shapely", without="all")
+    told = "a route that is kept; several by several times --routes (without it, all)"
+    parser.add_argument("--routes", action="append", default=[], metavar="ROUTE_ID", help=told)
+    told = "an agency whose routes are kept; several by several times --agency (without it, all)"
+    parser.add_argument("--agency", action="append", default=[], metavar="AGENCY_ID", help=told)
+    told = "YYYYMMDD: services that run from --back days before it to --ahead days after it are kept (without it, all)"
+    parser.add_argument("--date", type=day, metavar="DATE", help=told)
+    add_number(parser, "--back", "days before the date, as for ttm", "days", (0, 6), default=1)
+    add_number(parser, "--ahead", "days after the date, as for ttm", "days", (0, 6), default=1)
     parser.add_argument("feeds", metavar="FEED", nargs="+", help="a zip file or folder")
+
+
+def box(text: str) -> tuple[float, float, float, float]:
+    """Four numbers of degrees."""
+    try:
+        west, south, east, north = map(float, text.split(","))
+    except ValueError:
+        raise argparse.ArgumentTypeError(f"{text!r} is not W,S,E,N in degrees") from None
+    if not (-180 <= west <= 180 and -180 <= east <= 180 and -90 <= south <= north <= 90):
+        raise argparse.ArgumentTypeError(f"{text!r} is not W,S,E,N: -180 to 180, -90 to 90, south not above north")
+    return west, south, east, north
+
+
+def day(text: str) -> datetime.date:
+    try:
+        return datetime.datetime.strptime(text, "%Y%m%d").date()
+    except ValueError:
+        raise argparse.ArgumentTypeError(f"{text!r} is not a date YYYYMMDD") from None
 
 
 def run(words: argparse.Namespace) -> int:
@@ -64,10 +100,17 @@ def run(words: argparse.Namespace) -> int:
         raise WrongWords("--faults goes with --check")
     if words.check:
         return check_feeds(words)
+    from ..prepare.clip import Clip
     from ..prepare.make import Asked, make
 
+    span = range(-words.back, words.ahead + 1) if words.date else range(0)
+    try:
+        days = [words.date + datetime.timedelta(number) for number in span]
+    except OverflowError:
+        raise WrongWords("--date with --back and --ahead is no date") from None
+    clip = Clip(words.box, words.area, words.routes, words.agency, days)
     with tempfile.TemporaryDirectory(prefix="ttm-feed-") as room:
-        lines = make(Asked(words.feeds, words.out, words.repair), Path(room))
+        lines = make(Asked(words.feeds, words.out, words.repair, clip), Path(room))
     print("\n".join(lines), file=sys.stderr)
     return 0
 

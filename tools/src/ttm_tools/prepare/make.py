@@ -1,20 +1,32 @@
 """A folder that `ttm` reads, made from published feeds."""
 
+import datetime
 from dataclasses import dataclass
 from pathlib import Path
-from typing import Sequence
+from typing import Iterator, Sequence
+
+import numpy as np
 
 from ..faults import BadInput
 from ..files import many_written_aside
 from ..records import write_rows
-from .check import check
+from . import fields
+from .check import check, names_in
+from .clip import Clip, clip, on_days
+from .days import runs_of_trips
 from .fields import FILES
 from .report import CHANGE_COLUMNS, Change, fault_lines
 from .rules import repair
 from .tables import Feed, read_feed, write_feed
+from .trips import trip_places
 
+MOST_RUNS = 1_000_000
 PREPARED = "prepared.csv"
 ORDER = {name: place for place, name in enumerate(FILES)}
+LESS = {
+    name: "fewer by --box, --area, --routes, --agency" + (", --date" if name in ("trips.txt", "stop_times.txt") else "")
+    for name in FILES
+}
 HELP = "--check tells all, --repair mends what rules can"
 
 
@@ -25,6 +37,7 @@ class Asked:
     paths: Sequence[str]  # zip files or folders
     out: str  # the folder that is written
     mends: bool  # by the rules
+    clip: Clip = Clip()
 
 
 def make(asked: Asked, room: Path) -> list[str]:
@@ -40,12 +53,14 @@ def make(asked: Asked, room: Path) -> list[str]:
         refuse_faults(path, feed)
         feeds.append(feed)
     feed = feeds[0]
+    if asked.clip.is_any:
+        clip(feed, asked.clip)
     refuse_limits(feed)
     with many_written_aside(asked.out) as folder:
         write_feed(feed, folder)
         with open(folder / PREPARED, "wb") as file:
             write_rows(file, CHANGE_COLUMNS, [change.row() for change in changes])
-    return [*mended_lines(changes), counted(asked.out, feed)]
+    return [*mended_lines(changes), *run_lines(feed, asked.clip.days), counted(asked.out, feed)]
 
 
 def is_free(out: Path) -> None:
@@ -66,8 +81,8 @@ def refuse_faults(path: str, feed: Feed) -> None:
 def refuse_limits(feed: Feed) -> None:
     """Tells a file that is longer than `ttm` takes."""
     for fault in check(feed):
-        count = f"{len(feed.tables[fault.table.name]):,} records, of which ttm takes {fault.allowed}"
-        raise BadInput(fault.table.name, count)
+        name = fault.table.name
+        raise BadInput(name, f"{len(feed.tables[name]):,} records; ttm takes {fault.allowed}; {LESS[name]}")
 
 
 def mended_lines(changes: Sequence[Change]) -> list[str]:
@@ -79,6 +94,21 @@ def mended_lines(changes: Sequence[Change]) -> list[str]:
         key = (change.rule, change.file, done)
         counts[key] = counts.get(key, 0) + 1
     return [f"{rule}: {file}: {count:,} times {done}" for (rule, file, done), count in counts.items()]
+
+
+def run_lines(feed: Feed, days: Sequence[datetime.date]) -> Iterator[str]:
+    """The runs on the days that are asked for, beside what `ttm` takes."""
+    if not days:
+        return
+    table = feed.tables["stop_times.txt"]
+    runs, names = runs_of_trips(feed), names_in(feed, "trips.txt", "trip_id") or []
+    calls = np.bincount(trip_places(table, names) + 1, minlength=len(names) + 1)[1:]
+    on = np.sum([on_days(feed, [day]) for day in days], axis=0, dtype=np.int64)
+    total, events = int(on @ runs), int(on @ (runs * calls))
+    told = f"runs from {days[0]} to {days[-1]}: {total:,} with {events:,} stop times"
+    most = f"{MOST_RUNS:,} and {fields.MOST_STOP_TIMES:,}"
+    few = total <= MOST_RUNS and events <= fields.MOST_STOP_TIMES
+    yield told if few else f"{told}, of which ttm takes {most}; fewer by --back 0 --ahead 0, or by a region"
 
 
 def counted(out: str, feed: Feed) -> str:

@@ -1,0 +1,287 @@
+"""A feed cut down to a region, to some routes or agencies, or to some service days.
+
+Stops outside are left out, and trips keep the calls that stay, two at least. Journeys by way of places outside are
+lost; all others are as they were: open times are written as `ttm` fills them, and headways hold for the first call that
+stays.
+"""
+
+import datetime
+import json
+from dataclasses import dataclass
+from pathlib import Path
+from typing import Any, Iterable, Iterator, Sequence
+
+import numpy as np
+
+from ..faults import BadInput, needs
+from ..records import rows, shown
+from . import fields
+from .check import names_in, unlike
+from .days import texts
+from .fields import WEEKDAYS, clock, date, number, time, values_of
+from .likely import places_of
+from .tables import Feed, Mask
+from .trips import Calls, calls_of
+
+Box = tuple[float, float, float, float]  # west, south, east, north in degrees
+SHAPES = ("Polygon", "MultiPolygon")
+
+
+@dataclass(frozen=True)
+class Clip:
+    """What is kept of a feed; all of it where nothing is said."""
+
+    box: Box | None = None
+    area: str | None = None  # path of a GeoJSON file
+    routes: Sequence[str] = ()
+    agencies: Sequence[str] = ()
+    days: Sequence[datetime.date] = ()
+
+    @property
+    def is_region(self) -> bool:
+        return self.box is not None or self.area is not None
+
+    @property
+    def is_any(self) -> bool:
+        return self.is_region or bool(self.routes or self.agencies or self.days)
+
+
+def clip(feed: Feed, asked: Clip) -> None:
+    """Leaves out what isn't asked for. The feed has no faults but limits."""
+    trips = feed.tables["trips.txt"]
+    trips.keep(of_routes(feed, asked) & on_days(feed, asked.days))
+    if asked.is_region:
+        kept = of_region(feed, asked)
+        keep_calls(feed, kept)
+        feed.tables["stops.txt"].keep(kept)
+    keep_trips(feed)
+    if asked.routes or asked.agencies:
+        keep_called(feed)
+    if asked.is_region or asked.routes or asked.agencies:
+        named = names_in(feed, "trips.txt", "route_id") or []
+        feed.tables["routes.txt"].keep(unlike(feed.tables["routes.txt"]["route_id"], named))
+    keep_walks(feed)
+
+
+def of_routes(feed: Feed, asked: Clip) -> Mask:
+    """Which trips are of the routes and agencies."""
+    routes, trips = feed.tables["routes.txt"], feed.tables["trips.txt"]
+    agencies = agencies_of(feed) if asked.agencies else [""] * len(routes)
+    kept = texts(routes, "route_id")
+    for name, wanted, known in (("route", asked.routes, kept), ("agency", asked.agencies, agencies)):
+        lost = [it for it in wanted if it not in set(known)]
+        if lost:
+            raise BadInput("routes.txt", f"no {name} {shown(lost[0])}")
+    chosen = {
+        route
+        for route, agency in zip(kept, agencies)
+        if (not asked.routes or route in set(asked.routes)) and (not asked.agencies or agency in set(asked.agencies))
+    }
+    return unlike(trips["route_id"], chosen)
+
+
+def agencies_of(feed: Feed) -> list[str]:
+    """The agency of each route; where it names none, the only one of the feed."""
+    path = feed.others.get("agency.txt")
+    known = [agency for _, (agency,) in rows(path, [], ["agency_id"])] if path else []
+    only = known[0] if len(known) == 1 else ""
+    return [it or only for it in texts(feed.tables["routes.txt"], "agency_id")]
+
+
+def on_days(feed: Feed, days: Sequence[datetime.date]) -> Mask:
+    """Which trips are of a service that runs on some of the days; all where no days are named."""
+    trips = feed.tables["trips.txt"]
+    if not days:
+        return np.ones(len(trips), dtype=np.bool_)
+    return unlike(trips["service_id"], {it for day in days for it in services_on(feed, day)})
+
+
+def services_on(feed: Feed, day: datetime.date) -> set[str]:
+    """The services that run on a day: a day that is both added and removed is added."""
+    calendar, dates = feed.get("calendar.txt"), feed.get("calendar_dates.txt")
+    written = day.year * 10000 + day.month * 100 + day.day
+    start, end = (values_of(calendar[name], date) for name in ("start_date", "end_date"))
+    runs = (values_of(calendar[WEEKDAYS[day.weekday()]], number) == 1) & (start <= written) & (written <= end)
+    made = {calendar.text("service_id", int(row)) for row in np.flatnonzero(runs)}
+    kinds, marked = values_of(dates["exception_type"], number), values_of(dates["date"], date) == written
+    removed, added = (
+        {dates.text("service_id", int(row)) for row in np.flatnonzero(marked & (kinds == kind))} for kind in (2, 1)
+    )
+    return (made - removed) | added
+
+
+def of_region(feed: Feed, asked: Clip) -> Mask:
+    """Which locations stay: the stops inside, where a stop without a place is at its station; the stations of these;
+    and what belongs to a station or stop that stays.
+    """
+    stops = feed.tables["stops.txt"]
+    kinds = np.maximum(values_of(stops["location_type"], number), 0)
+    where = {name: row for row, name in enumerate(texts(stops, "stop_id"))}
+    parents = np.array([where.get(it.strip(" "), -1) for it in texts(stops, "parent_station")], dtype=np.int64)
+    latitudes, longitudes = places_of(stops)
+    lost = np.isnan(latitudes) & (parents >= 0)
+    latitudes, longitudes = (np.where(lost, it[parents], it) for it in (latitudes, longitudes))
+    inside = np.zeros(len(stops), dtype=np.bool_)
+    inside[within(latitudes, longitudes, asked)] = True
+    kept = inside & (kinds == 0)
+    if not kept.any():
+        raise BadInput(asked.area or "--box", "no stop of the feed lies in it")
+    stations = np.zeros(len(stops) + 1, dtype=np.bool_)
+    stations[parents[kept & (parents >= 0)]] = True
+    kept |= (kinds == 1) & (inside | stations[:-1])
+    for _ in range(2):  # an entrance of a station, a boarding area of a platform
+        kept |= (kinds > 1) & (parents >= 0) & kept[parents]
+    return np.asarray(kept, dtype=np.bool_)
+
+
+def within(latitudes: fields.Floats, longitudes: fields.Floats, asked: Clip) -> fields.Whole:
+    """Which places lie in the box and the area, their edges too."""
+    found = np.flatnonzero(~np.isnan(latitudes))
+    if asked.box is not None:
+        west, south, east, north = asked.box
+        x, y = longitudes[found], latitudes[found]
+        across = (x >= west) & (x <= east) if west <= east else (x >= west) | (x <= east)
+        found = found[across & (y >= south) & (y <= north)]
+    if asked.area is not None:
+        found = found[in_area(longitudes[found], latitudes[found], asked.area)]
+    return found
+
+
+def in_area(x: fields.Floats, y: fields.Floats, path: str) -> Mask:
+    """Which places lie in the polygons of a GeoJSON file."""
+    needs("shapely")
+    from shapely.geometry import Point, shape
+    from shapely.prepared import prep
+
+    made = np.zeros(len(x), dtype=np.bool_)
+    for geometry in polygons_of(path):
+        try:
+            polygon = shape(geometry)
+            west, south, east, north = polygon.bounds
+        except Exception as fault:  # whatever shapely says of a polygon that is none
+            raise BadInput(path, f"a polygon that is none: {fault}") from None
+        if not (-180 <= west and east <= 180 and -90 <= south and north <= 90):
+            raise BadInput(path, "coordinates that are no degrees", allowed="longitude and latitude, WGS 84")
+        near = np.flatnonzero((x >= west) & (x <= east) & (y >= south) & (y <= north))
+        ready = prep(polygon)
+        made[near] |= np.array([ready.intersects(Point(x[it], y[it])) for it in near], dtype=np.bool_)
+    return made
+
+
+def polygons_of(path: str) -> list[dict[str, Any]]:
+    try:
+        read = json.loads(Path(path).read_text(encoding="utf-8"))
+    except OSError as fault:
+        raise BadInput(path, fault.strerror) from None
+    except (UnicodeDecodeError, ValueError) as fault:
+        raise BadInput(path, f"no GeoJSON: {fault}") from None
+    made = list(geometries(read))
+    if not made:
+        raise BadInput(path, "no polygon in it", allowed="a GeoJSON Polygon or MultiPolygon, or features of these")
+    return made
+
+
+def geometries(read: Any) -> Iterator[dict[str, Any]]:
+    """The polygons of a GeoJSON object."""
+    if not isinstance(read, dict):
+        return
+    if read.get("type") in SHAPES:
+        yield read
+    parts: Iterable[Any] = [read.get("geometry"), *list_in(read, "features"), *list_in(read, "geometries")]
+    for part in parts:
+        yield from geometries(part)
+
+
+def list_in(read: dict[str, Any], name: str) -> list[Any]:
+    found = read.get(name)
+    return found if isinstance(found, list) else []
+
+
+def keep_calls(feed: Feed, kept: Mask) -> None:
+    """Leaves out the calls at stops that go, the trips of fewer than two calls, and those that are set aside."""
+    stops, table, trips = (feed.tables[name] for name in ("stops.txt", "stop_times.txt", "trips.txt"))
+    column = stops["stop_id"]
+    names = {column.values[code] for code in column.codes[kept]}
+    order = texts(trips, "trip_id")
+    calls = calls_of(table, order)
+    stays = unlike(table["stop_id"], names)[calls.rows]
+    counts = np.bincount(calls.trip[stays], minlength=len(order))
+    stays &= counts[calls.trip] >= 2
+    write_open_times(feed, calls, stays)
+    shift_headways(feed, calls, stays, order)
+    staying = np.zeros(len(table), dtype=np.bool_)
+    staying[calls.rows[stays]] = True
+    table.keep(staying)
+    trips.keep(counts >= 2)
+
+
+def write_open_times(feed: Feed, calls: Calls, stays: Mask) -> None:
+    """Writes the open times of trips that lose a call as they are with all their calls."""
+    losing = np.zeros(int(calls.trip.max(initial=-1)) + 1, dtype=np.bool_)
+    losing[calls.trip[~stays]] = True
+    open_ones = np.flatnonzero(stays & ~calls.timed & losing[calls.trip])
+    arrival, departure = calls.filled()
+    table = feed.tables["stop_times.txt"]
+    for name, values in (("arrival_time", arrival), ("departure_time", departure)):
+        table.put(name, calls.rows[open_ones], [clock(int(it)) for it in values[open_ones]])
+
+
+def shift_headways(feed: Feed, calls: Calls, stays: Mask, order: Sequence[str]) -> None:
+    """Moves the rows of frequencies.txt of a trip by what lies between its first call and the first that stays."""
+    table = feed.get("frequencies.txt")
+    if not len(table):
+        return
+    departure = calls.filled()[1]
+    moved: dict[str, int] = {}
+    first = np.flatnonzero(calls.is_first)
+    staying = np.flatnonzero(stays)
+    found = np.searchsorted(staying, first)
+    for start, place in zip(first, found):
+        if place < len(staying) and calls.trip[staying[place]] == calls.trip[start]:
+            moved[order[calls.trip[start]]] = int(departure[staying[place]] - departure[start])
+    by_row = np.array([moved.get(it, 0) for it in texts(table, "trip_id")], dtype=np.int64)
+    changed = np.flatnonzero(by_row)
+    for name in ("start_time", "end_time"):
+        made = values_of(table[name], time)[changed] + by_row[changed]
+        late = changed[made >= 168 * 3600]
+        if len(late):
+            raise BadInput(
+                "frequencies.txt", "is past 167:59:59 once calls go", record=int(table.records[late[0]]), column=name
+            )
+        table.put(name, changed, [clock(int(it)) for it in made])
+
+
+def keep_trips(feed: Feed) -> None:
+    """Leaves out what belongs to trips that aren't there any more: stop times, headways, and their services."""
+    trips = feed.tables["trips.txt"]
+    names = set(texts(trips, "trip_id"))
+    for name in ("stop_times.txt", "frequencies.txt"):
+        if name in feed.tables:
+            feed.tables[name].keep(unlike(feed.tables[name]["trip_id"], names))
+    services = set(texts(trips, "service_id"))
+    for name in ("calendar.txt", "calendar_dates.txt"):
+        if name in feed.tables:
+            feed.tables[name].keep(unlike(feed.tables[name]["service_id"], services))
+
+
+def keep_called(feed: Feed) -> None:
+    """Leaves out the stops at which no trip calls, and stations without such a stop."""
+    stops = feed.tables["stops.txt"]
+    called = unlike(stops["stop_id"], names_in(feed, "stop_times.txt", "stop_id") or [])
+    where = {name: row for row, name in enumerate(texts(stops, "stop_id"))}
+    parents = np.array([where.get(it.strip(" "), -1) for it in texts(stops, "parent_station")], dtype=np.int64)
+    needed = np.zeros(len(stops) + 1, dtype=np.bool_)
+    needed[parents[called]] = True
+    needed[-1] = False
+    kept = called | needed[:-1]
+    kinds = values_of(stops["location_type"], number)
+    for _ in range(2):
+        kept |= (kinds > 1) & (parents >= 0) & kept[parents]
+    stops.keep(kept)
+
+
+def keep_walks(feed: Feed) -> None:
+    """Leaves out the transfers from or to places that went."""
+    table = feed.get("transfers.txt")
+    names = {*(names_in(feed, "stops.txt", "stop_id") or []), ""}
+    table.keep(unlike(table["from_stop_id"], names) & unlike(table["to_stop_id"], names))
