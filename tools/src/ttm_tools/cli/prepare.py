@@ -8,9 +8,9 @@ from pathlib import Path
 
 from .options import add_number, add_text
 
-TOLD = "a folder that ttm reads, from a published feed: checked, mended"
+TOLD = "a folder that ttm reads, from published feeds: checked, mended, clipped, merged"
 HELP = """\
-Makes a folder that ttm reads from a published feed, a zip file or a folder, also with a folder inside.
+Makes a folder that ttm reads from published feeds, zip files or folders, also with a folder inside.
 
 With --check it tells all faults for which ttm would refuse the feed, in ttm's order, and writes no folder: for each
 check that fails, the line that ttm would print, and below it what stands there, what is allowed, and how often. Of a
@@ -41,6 +41,10 @@ mended first, by the rules below; prepared.csv in the folder has a line for each
   midnight    times that fall by more than half a day                               a day later from there on
   back        other times that go back                                              the trip goes
   headway     a row of frequencies.txt that is empty, or begins before another ends it begins later, or goes
+
+Several feeds are merged: each is checked and mended by itself, and where identifiers of one kind (stops, routes, trips,
+services, agencies, shapes) collide with those of a feed before, all those of the later feed begin with its name and a
+colon. Of the files that ttm doesn't read agency.txt and shapes.txt are merged, and all others are left out.
 
 With --box, --area, --routes, --agency and --date the feed is clipped. Stops outside the region are left out with all
 that is theirs; a trip keeps the calls that stay, and goes where these are fewer than two. Journeys by way of a place

@@ -15,6 +15,7 @@ from .check import check, names_in
 from .clip import Clip, clip, on_days
 from .days import runs_of_trips
 from .fields import FILES
+from .merge import merge
 from .report import CHANGE_COLUMNS, Change, fault_lines
 from .rules import repair
 from .tables import Feed, read_feed, write_feed
@@ -52,7 +53,7 @@ def make(asked: Asked, room: Path) -> list[str]:
             changes += sorted(done, key=lambda it: (ORDER[it.file.rpartition("/")[2]], it.record))
         refuse_faults(path, feed)
         feeds.append(feed)
-    feed = feeds[0]
+    feed, merged = merge(feeds) if len(feeds) > 1 else (feeds[0], [])
     if asked.clip.is_any:
         clip(feed, asked.clip)
     refuse_limits(feed)
@@ -60,7 +61,7 @@ def make(asked: Asked, room: Path) -> list[str]:
         write_feed(feed, folder)
         with open(folder / PREPARED, "wb") as file:
             write_rows(file, CHANGE_COLUMNS, [change.row() for change in changes])
-    return [*mended_lines(changes), *run_lines(feed, asked.clip.days), counted(asked.out, feed)]
+    return [*mended_lines(changes), *merged, *run_lines(feed, asked.clip.days), counted(asked.out, feed)]
 
 
 def is_free(out: Path) -> None:
