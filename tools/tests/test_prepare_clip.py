@@ -85,6 +85,29 @@ def test_a_stop_without_a_place_lies_at_its_station(feed: Room) -> None:
     assert firsts(feed, "stops.txt") == ["A", "B", "S", "E", "F"]
 
 
+def test_a_long_file_is_clipped_alike_and_faults_outside_are_not_looked_at(
+    feed: Room, monkeypatch: pytest.MonkeyPatch
+) -> None:
+    pytest.importorskip("pandas")
+    with open(feed.path("in/stop_times.txt"), "a") as file:
+        file.write("W,x,,D,1\n")
+    clipped(feed, "--box", SOUTH)
+    before = {path.name: path.read_bytes() for path in (feed.folder / "out").iterdir()}
+    monkeypatch.setattr("ttm_tools.records.SMALL", 0)
+    for count in (1, 2, 3, 7):
+        monkeypatch.setattr("ttm_tools.records.ROWS_AT_ONCE", count)
+        for path in (feed.folder / "out").iterdir():
+            path.unlink()
+        clipped(feed, "--box", SOUTH)
+        assert {path.name: path.read_bytes() for path in (feed.folder / "out").iterdir()} == before
+    whole = ["prepare", "--out", feed.path("whole"), feed.path("in")]
+    feed.refused(
+        f"{feed.path('in')}: 2 faults, first stop_times.txt: record 14: unknown trip "
+        "(--check tells all, --repair mends what rules can)",
+        *whole,
+    )
+
+
 def test_an_area_is_polygons_of_geojson(feed: Room) -> None:
     pytest.importorskip("shapely")
     ring = [[7, 49], [9, 49], [9, 50.15], [7, 50.15], [7, 49]]

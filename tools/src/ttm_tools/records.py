@@ -18,9 +18,11 @@ import numpy as np
 import numpy.typing as npt
 
 from .faults import BadInput, needs
+from .progress import told
 
 Texts = npt.NDArray[np.object_]
 ROWS_AT_ONCE = 1_000_000
+BYTES_AT_ONCE = 50 * ROWS_AT_ONCE  # of a file of so many records, about
 
 csv.field_size_limit(1 << 30)
 
@@ -95,31 +97,65 @@ def columns(path: str | Path, needed: Sequence[str]) -> dict[str, Column]:
     """The needed columns of a file of many records, as quick as pandas reads and with little memory; where it can't,
     record by record.
     """
+    return columns_of(path, needed, lambda piece: None)[0]
+
+
+Piece = dict[str, Column]
+Keep = Callable[[Piece], "npt.NDArray[np.bool_] | None"]
+
+
+def columns_of(path: str | Path, needed: Sequence[str], keep: Keep) -> tuple[Piece, npt.NDArray[np.int64]]:
+    """The needed columns of those records that `keep` chooses of a piece (all where it says None), and the numbers of
+    these records.
+    """
+    try:
+        return joined_pieces(pieces(path, needed), needed, keep)
+    except ODD:
+        return joined_pieces([columns_by_records(path, needed)], needed, keep)
+
+
+ODD = (ValueError, OverflowError)  # what pandas raises of records that it doesn't take, ParserError among it
+
+
+def pieces(path: str | Path, needed: Sequence[str]) -> Iterator[Piece]:
+    """The needed columns of a file of many records, a million records at a time, as pandas reads them."""
     needs("pandas")
     import pandas
 
-    found: dict[str, dict[str, int]] = {name: {} for name in needed}
-    codes: dict[str, list[npt.NDArray[np.int32]]] = {name: [] for name in needed}
     how = {"dtype": "category", "keep_default_na": False, "index_col": False, "chunksize": ROWS_AT_ONCE}
-    how |= {"encoding": "utf-8-sig", "encoding_errors": "surrogateescape"}
-    try:
-        _, header = next(records(path), (1, list[str]()))
-        places = places_of(header, path, needed)
-        heads = {str(number): name for name, number in places.items() if name in needed}
-        names = [str(number) for number in range(len(header))]
-        with pandas.read_csv(path, names=names, header=0, usecols=sorted(heads), **how) as pieces:
-            for piece in pieces:
-                for head, name in heads.items():
-                    codes[name].append(coded(piece[head].cat.categories, piece[head].cat.codes.to_numpy(), found[name]))
-    except (pandas.errors.ParserError, pandas.errors.EmptyDataError, ValueError):
-        return columns_by_records(path, needed)
-    empty = np.zeros(0, np.int32)
-    return {name: Column(list(found[name]), np.concatenate([empty, *codes[name]])) for name in needed}
+    how |= {"encoding": "utf-8-sig", "encoding_errors": "surrogateescape", "low_memory": False}
+    _, header = next(records(path), (1, list[str]()))
+    places = places_of(header, path, needed)
+    heads = {str(number): name for name, number in places.items() if name in needed}
+    names = [str(number) for number in range(len(header))]
+    with pandas.read_csv(path, names=names, header=0, usecols=sorted(heads), **how) as read:
+        for piece in told(read, os.path.getsize(path) // BYTES_AT_ONCE, os.path.basename(path), "M records"):
+            parts = {name: piece[head].cat for head, name in heads.items()}
+            yield {
+                name: Column(list(it.categories), it.codes.to_numpy().astype(np.int32)) for name, it in parts.items()
+            }
 
 
-def coded(texts: Iterable[str], codes: npt.NDArray[np.int64], known: dict[str, int]) -> npt.NDArray[np.int32]:
+def joined_pieces(some: Iterable[Piece], needed: Sequence[str], keep: Keep) -> tuple[Piece, npt.NDArray[np.int64]]:
+    """The columns of pieces that follow one another, and the numbers of the records that are kept."""
+    found: dict[str, dict[str, int]] = {name: {} for name in needed}
+    codes: dict[str, list[npt.NDArray[np.int32]]] = {name: [np.zeros(0, np.int32)] for name in needed}
+    numbers, first = [np.zeros(0, np.int64)], 2
+    for piece in some:
+        kept, count = keep(piece), len(next(iter(piece.values())).codes) if piece else 0
+        rows = np.arange(count) if kept is None else np.flatnonzero(kept)
+        numbers.append(first + rows)
+        first += count
+        for name, column in piece.items():
+            codes[name].append(coded(column.values, column.codes[rows], found[name]))
+    return {name: Column(list(found[name]), np.concatenate(codes[name])) for name in needed}, np.concatenate(numbers)
+
+
+def coded(values: Sequence[str], codes: npt.NDArray[np.int32], known: dict[str, int]) -> npt.NDArray[np.int32]:
     """The codes of a piece as those of the whole column, whose texts are numbered as they come."""
-    taken = np.array([known.setdefault(text, len(known)) for text in texts] or [0], dtype=np.int32)
+    taken = np.zeros(len(values), dtype=np.int32)
+    used = np.flatnonzero(np.bincount(codes, minlength=len(values)))
+    taken[used] = [known.setdefault(values[code], len(known)) for code in used]
     made: npt.NDArray[np.int32] = taken[codes]
     return made
 
@@ -135,17 +171,24 @@ def columns_by_records(path: str | Path, needed: Sequence[str]) -> dict[str, Col
 
 
 BLANKS = re.compile(rb"(?:^|[\r\n])[ \t]+[\r\n]")
+BEGINS = [end + blank for end in (b"\r", b"\n") for blank in (b" ", b"\t")]
 SMALL = 1 << 24  # bytes of a file that is read record by record
 
 
-def all_columns(path: str | Path) -> dict[str, Column]:
-    """All columns of a file by their names, each name once, without the spaces around it. A long file is read by
-    pandas, unless it has lines that pandas counts in another way than `ttm`.
-    """
+def names_of(path: str | Path) -> list[str]:
+    """The names of a file's columns, each once, without the spaces around it."""
     _, header = next(records(path), (1, list[str]()))
-    names = list(dict.fromkeys(name.strip(" ") for name in header))
-    small = os.path.getsize(path) < SMALL or has_odd_lines(path)
-    return (columns_by_records if small else columns)(path, names)
+    return list(dict.fromkeys(name.strip(" ") for name in header))
+
+
+def is_long(path: str | Path) -> bool:
+    """Whether a file is read by pandas: a long one without lines that pandas counts in another way than `ttm`."""
+    return os.path.getsize(path) >= SMALL and not has_odd_lines(path)
+
+
+def all_columns(path: str | Path) -> dict[str, Column]:
+    """All columns of a file by their names."""
+    return (columns if is_long(path) else columns_by_records)(path, names_of(path))
 
 
 def has_odd_lines(path: str | Path) -> bool:
@@ -153,7 +196,8 @@ def has_odd_lines(path: str | Path) -> bool:
     last = b"\n"
     with open(path, "rb") as file:
         while block := file.read(1 << 24):
-            if b"\0" in block or BLANKS.search(last + block):
+            whole = last + block
+            if b"\0" in block or (any(it in whole for it in BEGINS) and BLANKS.search(whole)):
                 return True
             last = block[-1000:]
     return False

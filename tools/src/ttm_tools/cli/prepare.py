@@ -47,10 +47,11 @@ services, agencies, shapes) collide with those of a feed before, all those of th
 colon. Of the files that ttm doesn't read agency.txt and shapes.txt are merged, and all others are left out.
 
 With --box, --area, --routes, --agency and --date the feed is clipped. Stops outside the region are left out with all
-that is theirs; a trip keeps the calls that stay, and goes where these are fewer than two. Journeys by way of a place
-outside are lost, and all others are as they were. With --routes and --agency stops go at which no trip calls any more,
-with --date trips whose service doesn't run on the days. What ttm doesn't take, more than 65,535 stops and stations,
-1,000,000 trips or 8,000,000 stop times, is told in a line, with the options that leave out some.
+that is theirs; a trip keeps the calls that stay, two at least. Journeys by way of a place outside are lost, and all
+others are as they were. Of stop_times.txt only the trips that call inside are looked at, and held in memory. With
+--routes and --agency stops go at which no trip calls any more, with --date trips whose service doesn't run on the days.
+What ttm doesn't take, more than 65,535 stops and stations, 1,000,000 trips or 8,000,000 stop times, is told in a line,
+with the options that leave out some.
 
 What is missing as a whole, a file or a column, no rule makes up. It needs four bytes for each field of the feed, and
 each text once."""

@@ -20,7 +20,7 @@ from .check import names_in, unlike
 from .days import texts
 from .fields import WEEKDAYS, clock, date, number, time, values_of
 from .likely import places_of
-from .tables import Feed, Mask
+from .tables import Feed, Mask, Table
 from .trips import Calls, calls_of
 
 Box = tuple[float, float, float, float]  # west, south, east, north in degrees
@@ -51,7 +51,9 @@ def clip(feed: Feed, asked: Clip) -> None:
     trips = feed.tables["trips.txt"]
     trips.keep(of_routes(feed, asked) & on_days(feed, asked.days))
     if asked.is_region:
-        kept = of_region(feed, asked)
+        kept = of_region(feed.tables["stops.txt"], asked)
+        if not kept.any():
+            raise BadInput(asked.area or "--box", "no stop of the feed lies in it")
         keep_calls(feed, kept)
         feed.tables["stops.txt"].keep(kept)
     keep_trips(feed)
@@ -110,11 +112,18 @@ def services_on(feed: Feed, day: datetime.date) -> set[str]:
     return (made - removed) | added
 
 
-def of_region(feed: Feed, asked: Clip) -> Mask:
+def near(stops: Table, asked: Clip) -> set[str] | None:
+    """The locations of a region, faults or not; none where no region is asked for, or nothing can be said of it."""
+    if not asked.is_region or "stop_id" not in stops.columns:
+        return None
+    kept = np.flatnonzero(of_region(stops, asked))
+    return {stops.text("stop_id", int(row)) for row in kept}
+
+
+def of_region(stops: Table, asked: Clip) -> Mask:
     """Which locations stay: the stops inside, where a stop without a place is at its station; the stations of these;
     and what belongs to a station or stop that stays.
     """
-    stops = feed.tables["stops.txt"]
     kinds = np.maximum(values_of(stops["location_type"], number), 0)
     where = {name: row for row, name in enumerate(texts(stops, "stop_id"))}
     parents = np.array([where.get(it.strip(" "), -1) for it in texts(stops, "parent_station")], dtype=np.int64)
@@ -124,8 +133,6 @@ def of_region(feed: Feed, asked: Clip) -> Mask:
     inside = np.zeros(len(stops), dtype=np.bool_)
     inside[within(latitudes, longitudes, asked)] = True
     kept = inside & (kinds == 0)
-    if not kept.any():
-        raise BadInput(asked.area or "--box", "no stop of the feed lies in it")
     stations = np.zeros(len(stops) + 1, dtype=np.bool_)
     stations[parents[kept & (parents >= 0)]] = True
     kept |= (kinds == 1) & (inside | stations[:-1])

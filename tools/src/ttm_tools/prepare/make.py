@@ -12,7 +12,7 @@ from ..files import many_written_aside
 from ..records import write_rows
 from . import fields
 from .check import check, names_in
-from .clip import Clip, clip, on_days
+from .clip import Clip, clip, near, on_days
 from .days import runs_of_trips
 from .fields import FILES
 from .merge import merge
@@ -47,7 +47,7 @@ def make(asked: Asked, room: Path) -> list[str]:
     changes: list[Change] = []
     feeds = []
     for number, path in enumerate(asked.paths):
-        feed = read_feed(path, room / str(number))
+        feed = read_feed(path, room / str(number), lambda stops: near(stops, asked.clip))
         if asked.mends:
             done = repair(feed, f"{feed.name}/" if len(asked.paths) > 1 else "")
             changes += sorted(done, key=lambda it: (ORDER[it.file.rpartition("/")[2]], it.record))

@@ -10,13 +10,13 @@ import shutil
 import zipfile
 from dataclasses import dataclass, field
 from pathlib import Path, PurePosixPath
-from typing import BinaryIO, Iterator, Mapping, Sequence
+from typing import BinaryIO, Callable, Iterator, Mapping, Sequence
 
 import numpy as np
 import numpy.typing as npt
 
 from ..faults import BadInput
-from ..records import Column, all_columns, field as quoted
+from ..records import Column, Piece, all_columns, columns_of, field as quoted, is_long, names_of
 from .fields import FILES, Whole
 
 Mask = npt.NDArray[np.bool_]
@@ -80,28 +80,61 @@ class Feed:
         return name in self.tables and all(it in self.tables[name].columns for it in FILES[name].needed)
 
 
+Near = Callable[[Table], "set[str] | None"]  # the stops of stops.txt that matter; none where all do
+
+
+def calls_near(path: Path, stops: set[str]) -> Table:
+    """The calls of stop_times.txt that are of trips with a call at some of the stops. Of a long file only these are
+    held: it is read twice, a million records at a time.
+    """
+    known = stops | {it.strip() for it in stops}
+    trips = set[str]()
+
+    def note(piece: Piece) -> Mask:
+        called = np.array([it in known or it.strip() in known for it in piece["stop_id"].values] or [False])
+        some = np.unique(piece["trip_id"].codes[called[piece["stop_id"].codes]])
+        trips.update(piece["trip_id"].values[code] for code in some)
+        return np.zeros(len(piece["trip_id"].codes), dtype=np.bool_)
+
+    def keep(piece: Piece) -> Mask:
+        mine = np.array([it in trips for it in piece["trip_id"].values] or [False], dtype=np.bool_)
+        return np.asarray(mine[piece["trip_id"].codes], dtype=np.bool_)
+
+    if not is_long(path):
+        table = read_table("stop_times.txt", path)
+        note(table.columns)
+        table.keep(keep(table.columns))
+        return table
+    columns_of(path, ("trip_id", "stop_id"), note)
+    columns, records = columns_of(path, names_of(path), keep)
+    return Table("stop_times.txt", columns, records)
+
+
 def read_table(name: str, path: Path) -> Table:
     columns = all_columns(path)
     count = len(next(iter(columns.values())).codes) if columns else 0
     return Table(name, columns, np.arange(2, count + 2, dtype=np.int64), path)
 
 
-def read_feed(path: str | Path, room: Path) -> Feed:
-    """A feed from a zip file, which is unpacked in the room, or from a folder."""
+def read_feed(path: str | Path, room: Path, near: Near = lambda _: None) -> Feed:
+    """A feed from a zip file, which is unpacked in the room, or from a folder; where stops are near, with the calls
+    alone of trips that call at these.
+    """
     given = Path(path)
     if given.is_dir():
         files = {str(it.relative_to(given)): it for it in files_in(given)}
         chosen = files_of(given, list(files))
-        return feed_of(given, {name: files[member] for name, member in chosen.items()})
+        return feed_of(given, {name: files[member] for name, member in chosen.items()}, near)
     if not given.exists():
         raise BadInput(given, "no such file or folder")
     try:
         with zipfile.ZipFile(given) as packed:
             members = [it.filename for it in packed.infolist() if not it.is_dir()]
             chosen = files_of(given, members)
-            return feed_of(given, {name: unpacked(packed, it, room / name) for name, it in chosen.items()})
+            paths = {name: unpacked(packed, it, room / name) for name, it in chosen.items()}
     except (zipfile.BadZipFile, zipfile.LargeZipFile, RuntimeError, NotImplementedError) as fault:
         raise BadInput(given, f"can't be unzipped: {fault}") from None
+    return feed_of(given, paths, near)
 
 
 def files_in(folder: Path) -> Iterator[Path]:
@@ -135,8 +168,16 @@ def files_of(path: Path, members: Sequence[str]) -> dict[str, str]:
     return {name: it for name, it in folders[best[0]].items() if name in FILES or name.endswith((".txt", ".geojson"))}
 
 
-def feed_of(path: Path, files: Mapping[str, Path]) -> Feed:
-    tables = {name: read_table(name, files[name]) for name in FILES if name in files}
+def feed_of(path: Path, files: Mapping[str, Path], near: Near) -> Feed:
+    tables = {name: read_table(name, files[name]) for name in FILES if name in files and name != "stop_times.txt"}
+    if "stop_times.txt" in files:
+        times = files["stop_times.txt"]
+        stops = near(tables["stops.txt"]) if "stops.txt" in tables else None
+        whole = stops is None or not {"trip_id", "stop_id"}.issubset(names_of(times))
+        tables["stop_times.txt"] = (
+            read_table("stop_times.txt", times) if whole or stops is None else calls_near(times, stops)
+        )
+        tables = {name: tables[name] for name in FILES if name in tables}
     return Feed(path.stem if path.suffix == ".zip" else path.resolve().name, tables, dict(others_of(files)))
 
 

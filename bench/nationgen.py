@@ -1,0 +1,99 @@
+#!/usr/bin/env python3
+"""Makes the feed of a made-up nation, with whose size `ttm-tools prepare` is measured.
+
+    nationgen.py FOLDER [--stops N] [--trips N]
+
+Stops lie on a square of latitudes 47 to 55 and longitudes 6 to 15; lines of forty stops run along its rows, each with
+its share of the trips. As published: 500,000 stops and 1,000,000 trips have 40,000,000 stop times in a file of 2 GB.
+Nothing is drawn: the same numbers make the same bytes. It wants numpy.
+"""
+
+import argparse
+import math
+import os
+from pathlib import Path
+from typing import Any
+
+import numpy as np
+import numpy.typing as npt
+
+CALLS = 40  # of each trip
+WEEK = "monday,tuesday,wednesday,thursday,friday,saturday,sunday"
+
+
+def texts(form: str, count: int) -> npt.NDArray[np.bytes_]:
+    return np.array([(form % number).encode() for number in range(count)])
+
+
+def clocks() -> npt.NDArray[np.bytes_]:
+    """Each second of two days as a time."""
+    return np.array([b"%02d:%02d:%02d" % (n // 3600, n // 60 % 60, n % 60) for n in range(0, 48 * 3600)])
+
+
+def write_stops(folder: Path, stops: int) -> None:
+    side = math.isqrt(stops - 1) + 1
+    with open(folder / "stops.txt", "w", encoding="utf-8") as file:
+        file.write("stop_id,stop_name,stop_lat,stop_lon\n")
+        for stop in range(stops):
+            latitude, longitude = 47 + 8 * (stop // side) / side, 6 + 9 * (stop % side) / side
+            file.write(f"de:{stop:07},Stop {stop},{latitude:.6f},{longitude:.6f}\n")
+
+
+def write_trips(folder: Path, lines: int, trips: int) -> None:
+    with open(folder / "routes.txt", "w", encoding="utf-8") as file:
+        file.write("route_id,route_type\n")
+        file.writelines(f"L{line:06},3\n" for line in range(lines))
+    with open(folder / "calendar.txt", "w", encoding="utf-8") as file:
+        file.write(f"service_id,{WEEK},start_date,end_date\nWD,1,1,1,1,1,0,0,20260101,20261231\n")
+        file.write("WE,0,0,0,0,0,1,1,20260101,20261231\n")
+    with open(folder / "trips.txt", "w", encoding="utf-8") as file:
+        file.write("route_id,service_id,trip_id\n")
+        file.writelines(f"L{trip % lines:06},{'WE' if trip % 4 == 0 else 'WD'},t{trip:07}\n" for trip in range(trips))
+
+
+def block(pieces: list[Any], count: int) -> bytes:
+    """Lines of fields of a fixed width."""
+    parts = [np.broadcast_to(np.asarray(piece, dtype=np.bytes_), (count,)) for piece in pieces]
+    kinds = [(str(place), part.dtype) for place, part in enumerate(parts)]
+    made = np.empty(count, dtype=kinds)
+    for place, part in enumerate(parts):
+        made[str(place)] = part
+    return made.tobytes()
+
+
+def write_calls(folder: Path, stops: int, lines: int, trips: int) -> None:
+    """Trip after trip: trip n runs on line n mod the number of lines, from stop to stop in a minute and a half."""
+    stop_texts, times, numbers = texts("de:%07d", stops), clocks(), texts("%02d", CALLS)
+    with open(folder / "stop_times.txt", "wb") as file:
+        file.write(
+            b"trip_id,arrival_time,departure_time,stop_id,stop_sequence,pickup_type,drop_off_type,timepoint,dist\n"
+        )
+        for first in range(0, trips, 20_000):
+            chosen = np.arange(first, min(first + 20_000, trips))
+            trip = np.repeat(chosen, CALLS)
+            call = np.tile(np.arange(CALLS), len(chosen))
+            start = 4 * 3600 + (trip // lines) * 700 % (18 * 3600) + trip % 60
+            stop = (trip % lines * CALLS + call) % stops
+            time = times[start + 90 * call]
+            name = np.repeat(np.array([b"t%07d" % number for number in chosen]), CALLS)
+            pieces = [name, b",", time, b",", time, b",", stop_texts[stop], b",", numbers[call], b",0,0,1,0.0\n"]
+            file.write(block(pieces, len(trip)))
+
+
+def main() -> None:
+    parser = argparse.ArgumentParser(description=__doc__, formatter_class=argparse.RawDescriptionHelpFormatter)
+    parser.add_argument("folder", type=Path)
+    parser.add_argument("--stops", type=int, default=500_000)
+    parser.add_argument("--trips", type=int, default=1_000_000)
+    asked = parser.parse_args()
+    asked.folder.mkdir(parents=True, exist_ok=True)
+    lines = max(asked.stops // CALLS, 1)
+    write_stops(asked.folder, asked.stops)
+    write_trips(asked.folder, lines, asked.trips)
+    write_calls(asked.folder, asked.stops, lines, asked.trips)
+    size = os.path.getsize(asked.folder / "stop_times.txt")
+    print(f"{asked.stops} stops, {asked.trips} trips, {asked.trips * CALLS} stop times in {size} bytes")
+
+
+if __name__ == "__main__":
+    main()
