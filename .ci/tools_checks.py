@@ -32,6 +32,7 @@ PACKAGES = {
     "pytest": "python3-pytest",
     "tqdm": "python3-tqdm",
     "tables": "python3-tables",
+    "shapely": "python3-shapely",
 }
 SECONDS_TO_INSTALL = 300
 

@@ -2,6 +2,8 @@
 
 import csv
 import os
+import re
+import resource
 import signal
 import subprocess
 import sys
@@ -272,6 +274,19 @@ def test_an_interruption_leaves_nothing(feed: Room) -> None:
     ran.send_signal(signal.SIGTERM)
     assert ran.communicate()[1] == b"ttm-tools prepare: ended by SIGTERM\n"
     assert (ran.returncode, feed.names()) == (143, before)
+
+
+def test_a_disk_that_is_full_is_told_and_leaves_nothing(feed: Room) -> None:
+    words = [sys.executable, LAUNCHER, "prepare", "--repair", "--out", feed.path("out"), feed.path("in")]
+    feed.write("in/routes.txt", "route_id", [["R"]] * 2)
+    before = feed.names()
+
+    def few_bytes() -> None:
+        resource.setrlimit(resource.RLIMIT_FSIZE, (60, 60))
+
+    ran = subprocess.run(words, capture_output=True, preexec_fn=few_bytes)
+    assert (ran.returncode, ran.stdout, feed.names()) == (1, b"", before)
+    assert re.fullmatch(rb"ttm-tools prepare: .*: File too large\n", ran.stderr), ran.stderr
 
 
 @pytest.mark.parametrize("first", range(0, 60, 20))
