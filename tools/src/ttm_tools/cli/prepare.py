@@ -53,8 +53,8 @@ others are as they were. Of stop_times.txt only the trips that call inside are l
 What ttm doesn't take, more than 65,535 stops and stations, 1,000,000 trips or 8,000,000 stop times, is told in a line,
 with the options that leave out some.
 
-What is missing as a whole, a file or a column, no rule makes up. It needs four bytes for each field of the feed, and
-each text once."""
+What is missing as a whole, a file or a column, no rule makes up. It needs some 250 bytes for
+each record of stop_times.txt that it holds."""
 
 
 def describe(parser: argparse.ArgumentParser) -> None:
