@@ -97,7 +97,13 @@ def columns(path: str | Path, needed: Sequence[str]) -> dict[str, Column]:
 
     found: dict[str, dict[str, int]] = {name: {} for name in needed}
     codes: dict[str, list[npt.NDArray[np.int32]]] = {name: [] for name in needed}
-    how = {"dtype": "category", "keep_default_na": False, "index_col": False, "chunksize": ROWS_AT_ONCE}
+    how = {
+        "dtype": "category",
+        "keep_default_na": False,
+        "index_col": False,
+        "chunksize": ROWS_AT_ONCE,
+        "low_memory": False,
+    }
     how |= {"encoding": "utf-8-sig", "encoding_errors": "surrogateescape"}
     try:
         _, header = next(records(path), (1, list[str]()))

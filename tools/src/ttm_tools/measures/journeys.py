@@ -2,7 +2,8 @@
 
 Round by round of rides each stop gets the least time at which a ride ends there: all events of all runs are looked at
 in each round, by arrays. Who sets out later is nowhere earlier; so once the last departure that gets there is known,
-only what runs until its arrival counts for those before it. None of this is proved.
+only what runs until its arrival counts for those before it, and between two departures that arrive at the same time all
+do. None of this is proved.
 """
 
 from dataclasses import dataclass
@@ -198,22 +199,30 @@ def way_to(search: Search, times: Whole, stop: int, departure: int) -> tuple[int
 
 def durations(network: Network, origin: int, stop: int, departures: list[int], rides: int) -> list[int | None]:
     """The least duration for each departure, ascending; None where nobody gets there."""
-    low, high, arrival = 0, len(departures), None  # departures before `low` get there, those from `high` on don't
-    middle = high - 1
+    arrivals: dict[int, int | None] = {}
+
+    def arrival(place: int) -> int | None:
+        if place not in arrivals:
+            arrivals[place] = Search(network, origin, departures[place], rides).arrival(stop)
+        return arrivals[place]
+
+    low, high, place = 0, len(departures), len(departures) - 1  # those before `low` get there, from `high` on nobody
     while low < high:
-        found = Search(network, origin, departures[middle], rides).arrival(stop)
-        if found is None:
-            high = middle
+        low, high = (low, place) if arrival(place) is None else (place + 1, high)
+        place = (low + high) // 2
+    last = arrival(low - 1) if low else None
+    if last is None:
+        return [None] * len(departures)
+    network = network.within(departures[0], last)
+    spans = [(0, low - 1)]
+    while spans:
+        begin, end = spans.pop()
+        if arrival(begin) == arrival(end):
+            arrivals.update(dict.fromkeys(range(begin, end), arrival(end)))
         else:
-            low, arrival = middle + 1, found
-        middle = (low + high) // 2
-    made: list[int | None] = [None] * len(departures)
-    if arrival is not None:
-        small = network.within(departures[0], arrival)
-        for place in range(low):
-            found = Search(small, origin, departures[place], rides).arrival(stop)
-            made[place] = None if found is None else found - departures[place]
-    return made
+            spans += [(begin, (begin + end) // 2), ((begin + end) // 2 + 1, end)]
+    found = [arrivals.get(place) if place < low else None for place in range(len(departures))]
+    return [None if end is None else end - departure for end, departure in zip(found, departures)]
 
 
 def cell(durations: list[int | None], share: int) -> int | None:
