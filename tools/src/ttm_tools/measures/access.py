@@ -78,22 +78,26 @@ def nearest(matrix: Matrix, scenario: str, share: Share, numbers: Floats, counts
     numbers, and count. A stop with three of them counts as three.
     """
 
+    used = np.flatnonzero(numbers.any(axis=1))
+    chosen = numbers[used]
+
     def times(seconds: Seconds) -> Floats:
-        return np.stack([times_to(seconds, column, counts) for column in numbers.T], axis=1)
+        return times_to(seconds[:, used], chosen, counts)
 
     return by_blocks(matrix, scenario, share, (numbers.shape[1], len(counts)), times)
 
 
 def times_to(seconds: Seconds, numbers: Floats, counts: Sequence[float]) -> Floats:
-    """The same for one column of numbers: by origin and count."""
-    used = np.flatnonzero(numbers)
-    there = seconds[:, used]
-    order = np.argsort(there, axis=1)  # those without a time stand last
-    ordered = np.take_along_axis(there, order, axis=1).astype(np.float64)
-    sums = np.cumsum(numbers[used][order], axis=1)
-    ordered = np.concatenate([ordered, np.full((len(seconds), 1), np.nan)], axis=1)
-    places: list[npt.NDArray[np.intp]] = [(sums < count * NEARLY).sum(axis=1) for count in counts]
-    return np.take_along_axis(ordered, np.stack(places, axis=1), axis=1)
+    """The same of some rows: each is sorted once, and its numbers summed up in that order."""
+    order = np.argsort(seconds, axis=1)  # those without a time stand last
+    none = np.full((len(seconds), 1), np.nan)
+    ordered = np.concatenate([np.take_along_axis(seconds, order, axis=1).astype(np.float64), none], axis=1)
+    made = []
+    for column in numbers.T:
+        sums = np.cumsum(column[order], axis=1)
+        places: list[npt.NDArray[np.intp]] = [(sums < count * NEARLY).sum(axis=1) for count in counts]
+        made.append(np.take_along_axis(ordered, np.stack(places, axis=1), axis=1))
+    return np.stack(made, axis=1)
 
 
 def by_blocks(
