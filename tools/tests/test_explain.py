@@ -11,6 +11,7 @@ from typing import Any
 import pytest
 
 from helpers import CALENDAR, STOP_TIMES, Room
+from test_damages import damaged
 from ttm_tools.feed import read_stops
 from ttm_tools.measures.journeys import Leg, Search, cell, durations, journey, network_of
 from ttm_tools.timetable import read_edits, read_timetable, read_walks, runs_of
@@ -49,6 +50,7 @@ def test_the_small_feed_by_hand(small: Room, program: str) -> None:
     lines = explained(small, program, str(small.folder), small.path("late.csv"), *WORDS)
     assert lines == [
         "From Alpha (A) to C: the travel time that 50 % of 4 departures attain",
+        "2026-05-04, days before 1 and after 0; departures 07:58 to 08:01, at most 2 rides, walks up to 120 seconds",
         "By a second search, in Python, which isn't proved.",
         "",
         "base: 1860 seconds               late: 2160 seconds",
@@ -74,14 +76,14 @@ def test_the_small_feed_by_hand(small: Room, program: str) -> None:
 def test_a_walk_at_the_end_and_what_is_not_reached(small: Room, program: str) -> None:
     words = [*WORDS[:3], "D", *WORDS[4:], "--footpaths", small.path("walks.csv")]
     lines = explained(small, program, str(small.folder), small.path("cut.csv"), *words)
-    assert [line.split("   ")[0].rstrip() for line in lines[12:17]] == [
+    assert [line.split("   ")[0].rstrip() for line in lines[13:18]] == [
         "  ride 15:00",
         "08:30:00 C",
         "  walk 1:30",
         "08:31:30 D",
         "",
     ]
-    assert lines[3].split() == ["base:", "1950", "seconds", "cut:", "not", "reached"]
+    assert lines[4].split() == ["base:", "1950", "seconds", "cut:", "not", "reached"]
     assert lines[-1].split() == ["08:01", "-", "-"]
 
 
@@ -93,6 +95,16 @@ def test_the_numbers_of_both_are_told_where_they_differ(small: Room) -> None:
     words = ["explain", str(small.folder), *WORDS, "--program", str(program)]
     told = "the travel times differ: from A to C, base: ttm has 1800 seconds, and this search, which isn't proved, "
     small.refused(told + "1860 seconds", *words)
+
+
+def test_a_cell_of_a_matrix_is_taken_in_place_of_a_run(small: Room) -> None:
+    matrix = small.write(
+        "matrix.csv", "scenario,origin,share,access_1800,A,B,C,D", [["base", "A", 50, 2, 0, 600, 1860, ""]]
+    )
+    words = ["explain", str(small.folder), *WORDS, "--within", "1800", "--workers", "4", "--matrix", matrix]
+    out, told, status = small.ran(*words)
+    assert (told, status) == ("", 0) and out.splitlines()[4] == "base: 1860 seconds"
+    small.refused(f"{matrix}: no scenario late; it has base", *words[:2], small.path("late.csv"), *words[2:])
 
 
 def test_wrong_words_are_told(small: Room) -> None:
@@ -232,8 +244,9 @@ def draw_town(room: Room, draw: random.Random) -> list[str]:
     return ["--feed", str(room.folder), *window, *own, "--footpaths", path, cut]
 
 
-def test_drawn_towns_have_the_durations_of_the_other_program(room: Room) -> None:
+def test_drawn_towns_have_the_durations_of_the_other_program(room: Room, monkeypatch: pytest.MonkeyPatch) -> None:
     plain, _ = others()
+    monkeypatch.setattr("ttm_tools.measures.journeys.AT_ONCE", 3)
     changed = sum(compare(room, plain, draw_town(room, random.Random(seed))) for seed in range(12))
     assert changed > 100
 
@@ -241,6 +254,22 @@ def test_drawn_towns_have_the_durations_of_the_other_program(room: Room) -> None
 def test_a_cell_is_the_least_duration_that_enough_departures_attain() -> None:
     times: list[int | None] = [720, 660, 600, None]
     assert [cell(times, share) for share in (25, 50, 75, 100)] == [600, 660, 720, None]
+
+
+@pytest.mark.parametrize("seed", range(4))
+def test_whatever_is_damaged_is_told_in_a_line(small: Room, program: str, seed: int) -> None:
+    draw = random.Random(seed)
+    small.write("frequencies.txt", "trip_id,start_time,end_time,headway_secs", [["T1", "08:00:00", "08:01:00", 30]])
+    names = [path.name for path in small.folder.iterdir() if path.suffix in (".txt", ".csv")]
+    words = ["explain", str(small.folder), small.path("cut.csv"), small.path("late.csv"), *WORDS]
+    words += ["--footpaths", small.path("walks.csv"), "--program", program]
+    for _ in range(15):
+        path = small.folder / draw.choice(names)
+        whole = path.read_bytes()
+        path.write_bytes(damaged(draw, whole))
+        _, told, status = small.ran(*words)
+        assert (status, len(told.splitlines())) in ((0, 0), (1, 1)), (path, path.read_bytes(), told)
+        path.write_bytes(whole)
 
 
 def test_drawn_feeds_are_explained_as_ttm_counts(room: Room, program: str) -> None:
@@ -254,4 +283,4 @@ def test_drawn_feeds_are_explained_as_ttm_counts(room: Room, program: str) -> No
         ends = ["--origin", drawn.stops[0], "--destination", drawn.stops[-1]]
         files = [str(room.folder), room.path("cut.csv"), room.path("late.csv")]
         lines = explained(room, program, *files, *ends, *some, "--footpaths", room.path("footpaths.csv"))
-        assert lines[1] == "By a second search, in Python, which isn't proved."
+        assert lines[2] == "By a second search, in Python, which isn't proved."

@@ -11,6 +11,7 @@ if TYPE_CHECKING:
 
     from ..engine import Run
 
+UNUSED = ("within", "workers", "tries", "origins", "opportunities")
 TOLD = "the journey behind a cell, leg by leg, and all departures"
 HELP = """\
 Tells the journey behind a cell of the matrix: of the first departure whose duration the cell is, leg by leg, with
@@ -18,9 +19,10 @@ stops, route, trip, times, waits, changes and walks, for the feed as it is and f
 durations of all departures (minutes and seconds; a star at the departure of the journey, - where nobody gets there).
 
 It is found by a second search, in Python, by the definitions of docs/DEFINITIONS.md. This search isn't proved; `ttm`
-runs as well, and where its travel time is another an error tells both numbers. A time of 24:00:00 or more is of the day
-after the date. The words are those of `ttm`; scenario files stand directly behind the feed, or at the end where the
-feed stands there too. Memory: some 200 MB, and 200 bytes for each stop time of the days that count."""
+runs as well (or a cell of --matrix is taken), and where its travel time is another an error tells both numbers. A time
+of 24:00:00 or more is of the day after the date. The words are those of `ttm`; scenario files stand directly behind the
+feed, or at the end where the feed stands there too. Memory:
+some 200 MB, and 200 bytes for each stop time of the days that count."""
 
 
 def clock(text: str) -> str:
@@ -55,9 +57,14 @@ def describe(parser: argparse.ArgumentParser) -> None:
     add_number(parser, "--back", "service days before the date that count", "days", (0, 6), default=1)
     add_number(parser, "--ahead", "service days after the date that count", "days", (0, 6), default=1)
     add_text(parser, "--footpaths", "FILE", "walks beside those of the feed", without="there are none")
+    told = "a matrix whose cell is taken, in place of a run of ttm"
+    add_text(parser, "--matrix", "FILE", told, without="ttm is run")
     told = "the program ttm"
     add_text(parser, "--program", "PATH", told, without="TTM_PROGRAM, or that on the path, or the one built here")
     add_out(parser, "where it is written")
+    for name in UNUSED:
+        told = "a word of ttm that changes no journey (without it, nothing changes)"
+        parser.add_argument(f"--{name}", metavar="VALUE", help=told)
 
 
 def asked_of(words: argparse.Namespace) -> "Run":
@@ -80,7 +87,8 @@ def run(words: argparse.Namespace) -> int:
     from ..explanation import explained
     from ..files import output
 
-    lines = explained(asked_of(words), words.date, words.origin, words.destination, words.program)
+    asked, ends = asked_of(words), (words.origin, words.destination)
+    lines = explained(asked, words.date, *ends, program=words.program, matrix=words.matrix)
     with output(words.out) as file:
         for line in lines:
             file.write(line.encode("utf-8", "backslashreplace") + b"\n")

@@ -15,6 +15,7 @@ import numpy.typing as npt
 from ..timetable import Events, Flags, Runs, Walks, Whole
 
 NEVER = 1 << 40
+AT_ONCE = 30  # departures that share a part of the network
 Places = npt.NDArray[np.intp]
 
 
@@ -199,30 +200,38 @@ def way_to(search: Search, times: Whole, stop: int, departure: int) -> tuple[int
 
 def durations(network: Network, origin: int, stop: int, departures: list[int], rides: int) -> list[int | None]:
     """The least duration for each departure, ascending; None where nobody gets there."""
-    arrivals: dict[int, int | None] = {}
-
-    def arrival(place: int) -> int | None:
-        if place not in arrivals:
-            arrivals[place] = Search(network, origin, departures[place], rides).arrival(stop)
-        return arrivals[place]
-
-    low, high, place = 0, len(departures), len(departures) - 1  # those before `low` get there, from `high` on nobody
+    low, high, place, last = 0, len(departures), len(departures) - 1, 0  # from `high` on nobody gets there
     while low < high:
-        low, high = (low, place) if arrival(place) is None else (place + 1, high)
+        found = Search(network, origin, departures[place], rides).arrival(stop)
+        low, high, last = (low, place, last) if found is None else (place + 1, high, found)
         place = (low + high) // 2
-    last = arrival(low - 1) if low else None
-    if last is None:
-        return [None] * len(departures)
-    network = network.within(departures[0], last)
-    spans = [(0, low - 1)]
+    made: list[int | None] = [None] * len(departures)
+    for begin in reversed(range(0, low, AT_ONCE)):
+        some = departures[begin : min(low, begin + AT_ONCE)]
+        ends = arrivals(network.within(some[0], last), origin, stop, some, rides)
+        made[begin : begin + len(some)] = [end - departure for end, departure in zip(ends, some)]
+        last = ends[0]
+    return made
+
+
+def arrivals(network: Network, origin: int, stop: int, departures: list[int], rides: int) -> list[int]:
+    """The least time at a stop for each of some departures, ascending, after all of which one gets there."""
+    known: dict[int, int] = {}
+
+    def arrival(place: int) -> int:
+        if place not in known:
+            found = Search(network, origin, departures[place], rides).arrival(stop)
+            known[place] = NEVER if found is None else found
+        return known[place]
+
+    spans = [(0, len(departures) - 1)]
     while spans:
         begin, end = spans.pop()
         if arrival(begin) == arrival(end):
-            arrivals.update(dict.fromkeys(range(begin, end), arrival(end)))
+            known.update(dict.fromkeys(range(begin, end), arrival(end)))
         else:
             spans += [(begin, (begin + end) // 2), ((begin + end) // 2 + 1, end)]
-    found = [arrivals.get(place) if place < low else None for place in range(len(departures))]
-    return [None if end is None else end - departure for end, departure in zip(found, departures)]
+    return [known[place] for place in range(len(departures))]
 
 
 def cell(durations: list[int | None], share: int) -> int | None:

@@ -34,6 +34,7 @@ class Asked:
     departures: list[int]  # seconds on the axis
     back: int  # days before the date, with which the axis begins
     share: int  # percent
+    words: str  # what else was asked for
 
     def clock(self, seconds: int) -> str:
         """A time on the axis, by the clock of the date."""
@@ -65,6 +66,7 @@ def text_of(asked: Asked, found: Sequence[Found]) -> Iterator[str]:
     """The lines of it all."""
     ends = f"From {asked.stop(asked.origin)} to {asked.stop(asked.destination)}"
     yield f"{ends}: the travel time that {asked.share} % of {len(asked.departures):,} departures attain"
+    yield asked.words
     yield "By a second search, in Python, which isn't proved."
     yield ""
     folder = asked.timetable.folder
