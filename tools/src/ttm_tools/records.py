@@ -58,7 +58,10 @@ def rows(path: str | Path, needed: Sequence[str], wanted: Sequence[str] = ()) ->
     places = places_of(header, path, needed)
     chosen = [places.get(name, len(header)) for name in (*needed, *wanted)]
     for number, fields in lines:
-        fields += [""] * (len(header) + 1 - len(fields))
+        fields = [
+            *fields[: len(header)],
+            *[""] * max(1, len(header) + 1 - len(fields)),
+        ]  # none is named behind the header's
         yield number, [fields[place] for place in chosen]
 
 
