@@ -40,16 +40,36 @@ def timed(words: list[str]) -> str:
     return f"{time.monotonic() - begin:.1f} s, {busy:.1f} s of processor time, {used.ru_maxrss // 1000} MB{told}"
 
 
-def commands(feed: str, matrix: str, origin: str, share: list[str]) -> list[tuple[str, str, list[str]]]:
+def commands(feed: str, matrix: str, origin: str, share: list[str], counts: str) -> list[tuple[str, str, list[str]]]:
     """Each command by its name, what it writes, and its words."""
+    kinds = ["--opportunities", counts, "--decay"]
     return [
         ("compare", "pairs.csv", ["--by", "pair", *share, matrix]),
         ("compare", "origins.csv", ["--by", "origin", *share, matrix]),
+        ("access", "access.csv", ["--opportunities", counts, "--cutoffs", "15,30,45", *share, matrix]),
+        (
+            "access",
+            "logistic.csv",
+            [*kinds, "logistic", "--decay-value", "10", "--cutoffs", "15,30,45", *share, matrix],
+        ),
+        ("access", "nearest.csv", ["--opportunities", counts, "--nearest", "1,1000", *share, matrix]),
         ("map", "difference.png", ["difference", "--feed", feed, *share, matrix]),
         ("map", "times.png", ["times", "--feed", feed, "--origin", origin, *share, matrix]),
         ("long", "long.csv", ["--feed", feed, *share, matrix]),
         ("omx", "matrix.omx", [matrix]),
     ]
+
+
+def made_counts(matrix: str, path: Path, columns: int = 10) -> Path:
+    """A file with some columns of numbers for each stop of a matrix."""
+    with open(matrix, encoding="utf-8") as file:
+        header = file.readline().rstrip("\n").split(",")
+    stops = header[4:]  # behind one limit
+    with open(path, "w", encoding="utf-8") as file:
+        file.write(",".join(["stop_id", *[f"kind{number}" for number in range(columns)]]) + "\n")
+        for place, stop in enumerate(stops):
+            file.write(",".join([stop, *[str((place * (7 + number)) % 1000 / 4) for number in range(columns)]]) + "\n")
+    return path
 
 
 def main() -> None:
@@ -59,7 +79,8 @@ def main() -> None:
         first, second = (file.readline().split(",", 3)[:3] for _ in range(2))
         several = first[:2] == second[:2]  # the same origin twice, for two shares
     with tempfile.TemporaryDirectory(prefix="ttm-times-", dir=Path(matrix).resolve().parent) as made:
-        for name, out, words in commands(feed, matrix, first[1], ["--share", "50"] if several else []):
+        counts = str(made_counts(matrix, Path(made) / "counts.csv"))
+        for name, out, words in commands(feed, matrix, first[1], ["--share", "50"] if several else [], counts):
             new, before = Path(made) / out, Path(made) / f"old_{out}"
             print(f"{name} {out}: {timed([PYTHON, str(TOOLS), name, *words, '--out', str(new)])}", flush=True)
             script = Path(old[0]) / f"{name}.py" if old else None

@@ -51,6 +51,11 @@ def test_records_with_more_fields_than_the_header_are_read(room: Room) -> None:
     assert [found.values[code] for code in found.codes] == ["2", "", "7"]
 
 
+def test_a_column_that_is_not_there_is_empty_however_long_a_record_is(room: Room) -> None:
+    path = room.write("some.csv", "a,b", [["1", "2", "3", "4"], ["5"]])
+    assert list(records.rows(path, ["b"], ["c"])) == [(2, ["2", ""]), (3, ["", ""])]
+
+
 def test_a_number_that_is_none_is_told_by_its_record(room: Room) -> None:
     path = room.write("t.csv", "a,b", [["1", "2"], ["x", "1"], ["1_0", "3"]])
     column = records.columns(path, ["a", "b"])

@@ -45,6 +45,34 @@ def add_number(
     )
 
 
+def numbers(unit: str, least: float, most: float) -> Callable[[str], list[float]]:
+    """A reader of numbers of a range between commas, each greater than the one before it."""
+    one = number(unit, least, most, whole=False)
+
+    def read(text: str) -> list[float]:
+        made = [one(part) for part in text.split(",")]
+        if any(low >= high for low, high in zip(made, made[1:])):
+            raise argparse.ArgumentTypeError(f"{text!r} is not ascending")
+        return made
+
+    return read
+
+
+def add_numbers(
+    parser: argparse.ArgumentParser,
+    name: str,
+    told: str,
+    unit: str,
+    bounds: tuple[float, float],
+    default: str | None = None,
+    without: str = "",
+) -> None:
+    """An option with one or more numbers of a unit and a range; without a default it says what holds without it."""
+    missing = f"default {default}" if default is not None else f"without it, {without}"
+    told = f"{told}: {range_told(unit, *bounds)} ({missing})"
+    parser.add_argument(name, type=numbers(unit, *bounds), default=default, metavar="N,N..", help=told)
+
+
 def add_text(
     parser: argparse.ArgumentParser, name: str, metavar: str, told: str, default: str | None = None, without: str = ""
 ) -> None:

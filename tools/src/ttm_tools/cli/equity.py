@@ -1,0 +1,57 @@
+"""ttm-tools equity."""
+
+import argparse
+
+from .options import add_base, add_number, add_out, add_text
+
+TOLD = "how access is spread over people, by group and scenario"
+HELP = """\
+Tells how access is spread over people: from a table of `ttm-tools access` in its long form, and the people at each of
+its origins. A line for each opportunity, percentile, cutoff, group of people and scenario: people, mean and median
+access by people, losers_percent (of the people, who lose --lose percent of the base's access or more), gini, palma (the
+mean of the tenth with the most access, as a multiple of that of the two fifths with the least), least_tenth (the mean
+of the tenth with the least access) and least_tenth_change (the mean change of those who are that tenth in the base).
+Gini and Palma fall where the well served lose: read them beside mean and losers. docs/MEASURES.md has each formula, its
+source, and which can mislead.
+
+Groups are the columns of numbers of --people: a file with the column stop_id (or id). With --picture Lorenz curves and
+the mean change of each tenth of the people are drawn as PNG, of one opportunity, percentile, cutoff and group; that
+needs matplotlib. Memory: some 100 MB, and 300 bytes for each line of the table."""
+
+
+def describe(parser: argparse.ArgumentParser) -> None:
+    parser.add_argument("access", metavar="ACCESS", help="a table of ttm-tools access in its long form")
+    told = "a file with how many people are at each origin; may be given more than once (needed)"
+    parser.add_argument("--people", metavar="FILE", action="append", required=True, help=told)
+    told = "a group of people, a column of these files; may be given more than once (without it, all)"
+    parser.add_argument("--column", metavar="NAME", action="append", default=[], help=told)
+    add_text(parser, "--opportunity", "NAME", "the opportunity that is taken", without="all")
+    add_number(parser, "--percentile", "the percentile that is taken", "percent", (1, 100), without="all")
+    add_number(parser, "--cutoff", "the cutoff that is taken", "minutes", (0, 10000), without="all", whole=False)
+    add_base(parser)
+    told = "of the base's access, from which on somebody counts as a loser"
+    add_number(parser, "--lose", told, "percent", (0, 100), default=10, whole=False)
+    parser.add_argument("--form", choices=("csv", "markdown"), default="csv", help="how it is written (default csv)")
+    add_text(parser, "--picture", "FILE", "where a picture is written", without="none is drawn")
+    add_out(parser, "where the table is written")
+
+
+def run(words: argparse.Namespace) -> int:
+    from ..faults import needs
+
+    needs("numpy", *(["matplotlib"] if words.picture else []))
+    from ..files import output
+    from ..measures.access_table import read_access
+    from ..measures.opportunities import read_counts
+    from ..views.equity import Asked, chosen_kinds, figure_of, measured, write_equity
+
+    table = read_access(words.access)
+    people = read_counts(words.people, table.origins, f"origin of {words.access}", words.column)
+    asked = Asked(words.base, words.lose, chosen_kinds(table, words.opportunity, words.percentile, words.cutoff))
+    figure = figure_of(table, people, asked) if words.picture else None
+    with output(words.out) as file:
+        write_equity(file, measured(table, people, asked), words.form)
+    if figure is not None:
+        with output(words.picture) as file:
+            figure.savefig(file, format="png", dpi="figure")
+    return 0

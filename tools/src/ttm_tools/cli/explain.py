@@ -1,0 +1,95 @@
+"""ttm-tools explain."""
+
+import argparse
+import re
+from typing import TYPE_CHECKING
+
+from .options import add_number, add_out, add_text
+
+if TYPE_CHECKING:
+    import datetime
+
+    from ..engine import Run
+
+UNUSED = ("within", "workers", "tries", "origins", "opportunities")
+TOLD = "the journey behind a cell, leg by leg, and all departures"
+HELP = """\
+Tells the journey behind a cell of the matrix: of the first departure whose duration the cell is, leg by leg, with
+stops, route, trip, times, waits, changes and walks, for the feed as it is and for each scenario side by side; and the
+durations of all departures (minutes and seconds; a star at the departure of the journey, - where nobody gets there).
+
+It is found by a second search, in Python, by the definitions of docs/DEFINITIONS.md. This search isn't proved; `ttm`
+runs as well (or a cell of --matrix is taken), and where its travel time is another an error tells both numbers. A time
+of 24:00:00 or more is of the day after the date. The words are those of `ttm`; scenario files stand directly behind the
+feed, or at the end where the feed stands there too. Memory:
+some 200 MB, and 200 bytes for each stop time of the days that count."""
+
+
+def clock(text: str) -> str:
+    if not re.fullmatch(r"([01][0-9]|2[0-3]):[0-5][0-9]", text):
+        raise argparse.ArgumentTypeError(f"{text!r} is not 00:00 to 23:59")
+    return text
+
+
+def date(text: str) -> "datetime.date":
+    import datetime
+
+    try:
+        return datetime.datetime.strptime(text if len(text) == 8 else "", "%Y%m%d").date()
+    except ValueError:
+        raise argparse.ArgumentTypeError(f"{text!r} is no day, YYYYMMDD") from None
+
+
+def describe(parser: argparse.ArgumentParser) -> None:
+    parser.add_argument("feed", metavar="FEED", help="the folder of an unpacked feed")
+    told = "scenario files, each told beside the feed as it is"
+    parser.add_argument("scenarios", metavar="SCENARIO", nargs="*", help=told)
+    for name, told in (("--origin", "where the journey begins"), ("--destination", "and where it ends")):
+        parser.add_argument(name, metavar="STOP", required=True, help=f"the stop {told} (needed)")
+    told = "the day of the departures, 00010101 to 99991231 (needed)"
+    parser.add_argument("--date", metavar="YYYYMMDD", type=date, required=True, help=told)
+    for name, told in (("--from", "first"), ("--to", "last")):
+        help = f"the {told} departure, one each minute, 00:00 to 23:59 (needed)"
+        parser.add_argument(name, dest=told, metavar="HH:MM", type=clock, required=True, help=help)
+    add_number(parser, "--trips", "the most vehicles of a journey", "", (1, 8), default=4)
+    add_number(parser, "--walk", "the longest walk", "seconds", (0, 7200), default=600)
+    add_number(parser, "--share", "the share of departures, one", "percent", (1, 100), default=50)
+    add_number(parser, "--back", "service days before the date that count", "days", (0, 6), default=1)
+    add_number(parser, "--ahead", "service days after the date that count", "days", (0, 6), default=1)
+    add_text(parser, "--footpaths", "FILE", "walks beside those of the feed", without="there are none")
+    told = "a matrix whose cell is taken, in place of a run of ttm"
+    add_text(parser, "--matrix", "FILE", told, without="ttm is run")
+    told = "the program ttm"
+    add_text(parser, "--program", "PATH", told, without="TTM_PROGRAM, or that on the path, or the one built here")
+    add_out(parser, "where it is written")
+    for name in UNUSED:
+        told = "a word of ttm that changes no journey (without it, nothing changes)"
+        parser.add_argument(f"--{name}", metavar="VALUE", help=told)
+
+
+def asked_of(words: argparse.Namespace) -> "Run":
+    """The run of `ttm` that these words ask for."""
+    from ..engine import Run
+    from ..faults import WrongWords
+
+    if words.last < words.first:
+        raise WrongWords("--to is before --from")
+    files = {} if words.footpaths is None else {"footpaths": words.footpaths}
+    how = {"trips": words.trips, "walk": words.walk, "back": words.back, "ahead": words.ahead}
+    window, text = (words.first, words.last), words.date.strftime("%Y%m%d")
+    return Run(words.feed, text, window, shares=[words.share], scenarios=words.scenarios, files=files, **how)
+
+
+def run(words: argparse.Namespace) -> int:
+    from ..faults import needs
+
+    needs("numpy", "pandas")
+    from ..explanation import explained
+    from ..files import output
+
+    asked, ends = asked_of(words), (words.origin, words.destination)
+    lines = explained(asked, words.date, *ends, program=words.program, matrix=words.matrix)
+    with output(words.out) as file:
+        for line in lines:
+            file.write(line.encode("utf-8", "backslashreplace") + b"\n")
+    return 0

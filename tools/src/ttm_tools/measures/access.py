@@ -1,0 +1,112 @@
+"""What is reached from each origin: opportunities, each weighted by its travel time, and the time to the nearest ones.
+
+The weights are those of R5 and r5r, with a `cutoff` and a `decay_value` in minutes; docs/MEASURES.md has the formulas.
+Each is a product of matrices, block of rows by block of rows: weights of cells times numbers by stop.
+"""
+
+import math
+from dataclasses import dataclass
+from typing import Callable, Sequence
+
+import numpy as np
+import numpy.typing as npt
+
+from .. import progress
+from ..faults import WrongWords
+from ..feed import Floats
+from ..matrices import Matrix, Seconds, Share
+
+STEP, LINEAR, EXPONENTIAL, LOGISTIC = "step", "linear", "exponential", "logistic"
+DECAYS = (STEP, LINEAR, EXPONENTIAL, LOGISTIC)
+NEARLY = 1 - 1e-12  # of a sum of decimals that is meant to be whole
+
+
+@dataclass(frozen=True)
+class Decay:
+    """How an opportunity's weight falls with its travel time."""
+
+    kind: str  # of DECAYS
+    value: float | None = None  # minutes: how wide the linear fall is, the standard deviation of the logistic one
+
+    def __post_init__(self) -> None:
+        if self.kind in (LINEAR, LOGISTIC) and not (self.value or 0) > 0:
+            raise WrongWords(f"--decay {self.kind} needs --decay-value, minutes above 0")
+        if self.kind in (STEP, EXPONENTIAL) and self.value is not None:
+            raise WrongWords(f"--decay {self.kind} takes no --decay-value")
+
+    def weights(self, seconds: Seconds, cutoff: float) -> Floats:
+        """The weight of each travel time, 0 to 1; 0 where there is none. The cutoff is in minutes."""
+        limit = np.round(60 * cutoff)
+        width = 60 * (self.value or 0)
+        if self.kind == STEP:
+            near: Floats = (seconds <= limit).astype(np.float64)
+            return near
+        times = np.where(np.isnan(seconds), np.inf, seconds).astype(np.float64)
+        if self.kind == LINEAR:
+            line: Floats = np.clip((limit + width / 2 - times) / width, 0, 1)
+            return line
+        if self.kind == EXPONENTIAL:
+            halves: Floats = np.exp2(-times / limit)
+            return halves
+        scale = width * math.sqrt(3) / math.pi
+        return logistic((times - limit) / scale, -limit / scale)
+
+
+def logistic(at: Floats, at_zero: float) -> Floats:
+    """The falling logistic curve, 1 where the travel time is 0."""
+    made: Floats = (1 + math.exp(at_zero)) / (1 + np.exp(np.minimum(at, 700)))
+    made[np.isinf(at)] = 0
+    return made
+
+
+def access(
+    matrix: Matrix, scenario: str, share: Share, numbers: Floats, decay: Decay, cutoffs: Sequence[float]
+) -> Floats:
+    """The weighted sums of the numbers by stop, from each origin: by origin, column of numbers, and cutoff."""
+    used = np.flatnonzero(numbers.any(axis=1))
+    chosen = numbers[used]
+
+    def sums(seconds: Seconds) -> Floats:
+        there = seconds[:, used]
+        return np.stack([decay.weights(there, cutoff) @ chosen for cutoff in cutoffs], axis=2)
+
+    return by_blocks(matrix, scenario, share, (numbers.shape[1], len(cutoffs)), sums)
+
+
+def nearest(matrix: Matrix, scenario: str, share: Share, numbers: Floats, counts: Sequence[float]) -> Floats:
+    """The least seconds within which so many opportunities are reached, NaN where they aren't: by origin, column of
+    numbers, and count. A stop with three of them counts as three.
+    """
+
+    used = np.flatnonzero(numbers.any(axis=1))
+    chosen = numbers[used]
+
+    def times(seconds: Seconds) -> Floats:
+        return times_to(seconds[:, used], chosen, counts)
+
+    return by_blocks(matrix, scenario, share, (numbers.shape[1], len(counts)), times)
+
+
+def times_to(seconds: Seconds, numbers: Floats, counts: Sequence[float]) -> Floats:
+    """The same of some rows: each is sorted once, and its numbers summed up in that order."""
+    order = np.argsort(seconds, axis=1)  # those without a time stand last
+    none = np.full((len(seconds), 1), np.nan)
+    ordered = np.concatenate([np.take_along_axis(seconds, order, axis=1).astype(np.float64), none], axis=1)
+    made = []
+    for column in numbers.T:
+        sums = np.cumsum(column[order], axis=1)
+        places: list[npt.NDArray[np.intp]] = [(sums < count * NEARLY).sum(axis=1) for count in counts]
+        made.append(np.take_along_axis(ordered, np.stack(places, axis=1), axis=1))
+    return np.stack(made, axis=1)
+
+
+def by_blocks(
+    matrix: Matrix, scenario: str, share: Share, shape: tuple[int, int], measure: Callable[[Seconds], Floats]
+) -> Floats:
+    """What is measured of each block of rows, one after the other."""
+    made = np.zeros((len(matrix.origins(scenario, share)), *shape))
+    count, begin = -(-len(made) // matrix.rows_at_once()), 0
+    for block in progress.told(matrix.blocks(scenario, share), count, f"{scenario} {share or ''}", "blocks"):
+        made[begin : begin + len(block.origins)] = measure(block.seconds)
+        begin += len(block.origins)
+    return made

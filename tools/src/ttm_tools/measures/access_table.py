@@ -1,0 +1,82 @@
+"""A table of access in the long form, as `ttm-tools access` or r5r writes it: columns of numbers by origin again."""
+
+from dataclasses import dataclass
+from typing import Iterator
+
+import numpy as np
+
+from ..faults import BadInput, some
+from ..feed import Floats
+from ..records import number_of, rows, shown
+
+COLUMNS = ("id", "opportunity", "percentile", "cutoff", "accessibility")
+
+
+@dataclass(frozen=True)
+class Kind:
+    """What was measured."""
+
+    opportunity: str
+    percentile: str
+    cutoff: str  # minutes
+
+    @property
+    def told(self) -> str:
+        share = f", share {self.percentile} %" if self.percentile else ""
+        return f"{shown(self.opportunity)} within {self.cutoff} minutes{share}"
+
+
+@dataclass(frozen=True)
+class AccessTable:
+    """Access by scenario, kind and origin."""
+
+    path: str
+    scenarios: list[str]
+    kinds: list[Kind]
+    origins: list[str]
+    numbers: Floats  # by scenario, kind and origin
+
+    def scenario(self, name: str) -> int:
+        """The place of a scenario."""
+        if name not in self.scenarios:
+            there = ", ".join(map(shown, self.scenarios))
+            raise BadInput(self.path, f"no scenario {shown(name)}; it has {there}: name the base by --base")
+        return self.scenarios.index(name)
+
+
+def read_access(path: str) -> AccessTable:
+    """A table in which each scenario and kind has each origin once; without a column scenario all is `base`."""
+    scenarios, kinds, origins = dict[str, int](), dict[Kind, int](), dict[str, int]()
+    found: dict[tuple[int, int, int], float] = {}
+    for number, scenario, kind, origin, value in lines_of(path):
+        places = (scenarios.setdefault(scenario, len(scenarios)), kinds.setdefault(kind, len(kinds)))
+        key = (*places, origins.setdefault(origin, len(origins)))
+        if key in found:
+            raise BadInput(path, f"{shown(origin)} is there twice for {kind.told}, {shown(scenario)}", record=number)
+        found[key] = value
+    numbers = np.full((len(scenarios), len(kinds), len(origins)), np.nan)
+    if not found:
+        raise BadInput(path, "no lines")
+    numbers[tuple(np.array(list(found)).T)] = list(found.values())
+    table = AccessTable(path, list(scenarios), list(kinds), list(origins), numbers)
+    tell_gaps(table)
+    return table
+
+
+def lines_of(path: str) -> Iterator[tuple[int, str, Kind, str, float]]:
+    """Each line: its record, scenario, kind, origin and access."""
+    for number, (origin, opportunity, percentile, cutoff, text, scenario) in rows(path, COLUMNS, ["scenario"]):
+        value = number_of(text.strip())
+        if not value >= 0:
+            allowed = "a number from 0 on"
+            raise BadInput(path, "is none", record=number, column=COLUMNS[-1], value=text, allowed=allowed)
+        yield number, scenario or "base", Kind(opportunity, percentile, cutoff), origin, value
+
+
+def tell_gaps(table: AccessTable) -> None:
+    """Tells the first scenario and kind that lacks origins."""
+    gaps = np.isnan(table.numbers)
+    for scenario, kind in np.argwhere(gaps.any(axis=2))[:1].tolist():
+        lost = [shown(table.origins[place]) for place in np.flatnonzero(gaps[scenario, kind]).tolist()]
+        what = f"{table.kinds[kind].told}, {shown(table.scenarios[scenario])}"
+        raise BadInput(table.path, f"{what} lacks {len(lost):,} of {len(table.origins):,} origins: {some(lost)}")

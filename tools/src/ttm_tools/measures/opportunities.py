@@ -1,0 +1,91 @@
+"""What is there to be reached: columns of numbers by stop, or by point, from files of opportunities or of people."""
+
+from dataclasses import dataclass
+from pathlib import Path
+from typing import Sequence
+
+import numpy as np
+
+from ..faults import BadInput, some
+from ..feed import Floats
+from ..records import number_of, places_of, records, rows, shown
+
+IDENTIFIERS = ("stop_id", "id")  # the column that names a stop or a point: the first of these that is there
+NO_COUNTS = {"stop_name", "stop_lat", "stop_lon", "name", "lat", "lon"}  # columns that say where and what it is
+OWN_NAME = "opportunities"  # as every file of `ttm` calls its column
+
+
+@dataclass(frozen=True)
+class Counts:
+    """Numbers of several kinds for each of some stops."""
+
+    names: list[str]
+    numbers: Floats  # a row for each stop, a column for each name; 0 for a stop that no record names
+
+    def named(self, name: str) -> Floats:
+        made: Floats = self.numbers[:, self.names.index(name)]
+        return made
+
+
+def read_counts(paths: Sequence[str], stops: Sequence[str], kind: str, asked: Sequence[str] = ()) -> Counts:
+    """The columns of some files, or those that are asked for, for these stops; a file that names another stop is
+    refused. A column `opportunities` is called as its file.
+    """
+    places = {stop: place for place, stop in enumerate(stops)}
+    names, there = list[str](), list[str]()
+    columns: list[Floats] = []
+    for path in paths:
+        there += [called(name, path) for name in columns_of(path)]
+        found = [name for name in columns_of(path) if not asked or called(name, path) in asked]
+        for name in found:
+            if called(name, path) in names:
+                raise BadInput(path, f"a column {shown(called(name, path))} is in another file too")
+            names.append(called(name, path))
+        columns.append(numbers_of(path, found, places, kind))
+    lost = [name for name in asked if name not in names]
+    if lost:
+        raise BadInput(
+            ", ".join(paths), f"no column {shown(lost[0])}; there are {some([shown(name) for name in there])}"
+        )
+    return Counts(names, np.concatenate([np.zeros((len(stops), 0)), *columns], axis=1))
+
+
+def called(column: str, path: str) -> str:
+    return Path(path).stem if column == OWN_NAME else column
+
+
+def columns_of(path: str) -> list[str]:
+    """The columns of numbers of a file: all but the identifier, names and places."""
+    _, header = next(records(path), (1, list[str]()))
+    names = list(places_of(header, path, []))
+    made = [name for name in names if name not in NO_COUNTS and name not in IDENTIFIERS and name]
+    if not made:
+        raise BadInput(path, "no column of numbers beside the identifier", record=1)
+    return made
+
+
+def identifier_of(path: str) -> str:
+    """The column of a file that names stops."""
+    _, header = next(records(path), (1, list[str]()))
+    found = [name for name in IDENTIFIERS if name in places_of(header, path, [])]
+    if not found:
+        raise BadInput(path, f"no column {' or '.join(IDENTIFIERS)}", record=1)
+    return found[0]
+
+
+def numbers_of(path: str, names: Sequence[str], places: dict[str, int], kind: str) -> Floats:
+    """Some columns of a file, each a number from 0 on for each stop."""
+    made, seen = np.zeros((len(places), len(names))), set[str]()
+    for number, (stop, *fields) in rows(path, [identifier_of(path), *names]):
+        if stop not in places:
+            raise BadInput(path, f"{shown(stop)} is no {kind}", record=number)
+        if stop in seen:
+            raise BadInput(path, f"{shown(stop)} is there twice", record=number)
+        seen.add(stop)
+        for column, text in enumerate(fields):
+            value = number_of(text.strip())
+            if not value >= 0:
+                allowed = "a number from 0 on"
+                raise BadInput(path, "is none", record=number, column=names[column], value=text, allowed=allowed)
+            made[places[stop], column] = value
+    return made

@@ -1,0 +1,91 @@
+"""Tables of access: a line for each number, as r5r has it, or a column for each."""
+
+import itertools
+from dataclasses import dataclass
+from typing import BinaryIO, Callable, Iterator, Sequence
+
+import numpy as np
+
+from ..faults import BadInput
+from ..feed import Floats
+from ..matrices import Matrix, Share
+from ..records import shown, write_rows
+
+LONG, WIDE = "long", "wide"
+ACCESS, NEAREST = ("cutoff", "accessibility"), ("nearest", "seconds")  # the last two columns of the long form
+
+
+@dataclass(frozen=True)
+class Measured:
+    """What was measured of a scenario."""
+
+    scenario: str
+    origins: list[str]
+    shares: list[Share]
+    numbers: Floats  # by share, origin, opportunity, and cutoff (or count of the nearest)
+
+
+def origins_of(matrix: Matrix, scenario: str) -> list[str]:
+    """The origins of a scenario, which each of its shares has."""
+    first = matrix.origins(scenario, matrix.shares[0])
+    for share in matrix.shares:
+        if matrix.origins(scenario, share) != first:
+            raise BadInput(matrix.path, f"{shown(scenario)} has other origins for the share {share}: was it cut short?")
+    return first
+
+
+def measured(
+    matrix: Matrix, scenario: str, shares: Sequence[Share], measure: Callable[[str, Share], Floats]
+) -> Measured:
+    """What a measure gives for each share of a scenario."""
+    origins = origins_of(matrix, scenario)
+    return Measured(scenario, origins, list(shares), np.stack([measure(scenario, share) for share in shares]))
+
+
+def told(number: float) -> str:
+    """A number without needless zeros, to the nearest millionth; nothing for NaN."""
+    if np.isnan(number):
+        return ""
+    return str(int(number)) if number == int(number) else f"{number:.6f}".rstrip("0").rstrip(".")
+
+
+def write_access(
+    out: BinaryIO,
+    found: Sequence[Measured],
+    opportunities: Sequence[str],
+    limits: Sequence[float],
+    *,
+    heads: tuple[str, str],
+    form: str,
+    with_scenario: bool,
+) -> None:
+    """Writes what was measured of some scenarios, one after the other."""
+    named, middle = ["scenario"] * with_scenario + ["id"], "_nearest_" if heads == NEAREST else "_"
+    cells = list(itertools.product(opportunities, map(told, limits)))
+    if form == WIDE:
+        header = [*named, "percentile", *[f"{name}{middle}{limit}" for name, limit in cells]]
+        write_rows(out, header, wide_rows(found, with_scenario))
+    else:
+        header = [*named, "opportunity", "percentile", *heads]
+        write_rows(out, header, long_rows(found, opportunities, list(map(told, limits)), with_scenario))
+
+
+def wide_rows(found: Sequence[Measured], with_scenario: bool) -> Iterator[list[object]]:
+    for of in found:
+        for row, origin in enumerate(of.origins):
+            for place, share in enumerate(of.shares):
+                numbers = of.numbers[place, row].ravel().tolist()
+                yield [*[of.scenario] * with_scenario, origin, "" if share is None else share, *map(told, numbers)]
+
+
+def long_rows(
+    found: Sequence[Measured], opportunities: Sequence[str], limits: Sequence[str], with_scenario: bool
+) -> Iterator[list[object]]:
+    for of in found:
+        for row, origin in enumerate(of.origins):
+            numbers = of.numbers[:, row].tolist()
+            for column, name in enumerate(opportunities):
+                for place, share in enumerate(of.shares):
+                    for limit, number in zip(limits, numbers[place][column]):
+                        head = [*[of.scenario] * with_scenario, origin, name, "" if share is None else share]
+                        yield [*head, limit, told(number)]

@@ -1,0 +1,130 @@
+"""What is shown of equity: a table, as CSV or Markdown, and a picture of Lorenz curves and of changes by tenths."""
+
+from dataclasses import astuple, dataclass
+from typing import Any, BinaryIO, Iterator, Sequence
+
+import numpy as np
+
+from ..faults import BadInput, some
+from ..feed import Floats
+from ..measures.access_table import AccessTable, Kind
+from ..measures.equity import TENTHS, Equity, changes_by_tenth, equity, lorenz
+from ..measures.opportunities import Counts
+from ..records import field, shown, write_rows
+
+CSV, MARKDOWN = "csv", "markdown"
+HEADS = ["opportunity", "percentile", "cutoff", "group", "scenario", "people", "mean", "median", "losers_percent"]
+MEASURES = ["gini", "palma", "least_tenth", "least_tenth_change"]
+COLOURS = ("#000000", "#0072b2", "#d55e00", "#009e73", "#cc79a7", "#e69f00", "#56b4e9")  # after Okabe and Ito
+INCHES, HIGH = (10.0, 4.8), 0.72
+
+
+@dataclass(frozen=True)
+class Asked:
+    """What is measured of a table of access."""
+
+    base: str
+    percent: float  # of the base's access, from which on somebody loses
+    kinds: list[Kind]
+
+
+def chosen_kinds(
+    table: AccessTable, opportunity: str | None, percentile: float | None, cutoff: float | None
+) -> list[Kind]:
+    """The kinds that are asked for; there is one, or it is told what there is."""
+    numbers = {"percentile": percentile, "cutoff": cutoff}
+    made = [
+        kind
+        for kind in table.kinds
+        if opportunity in (None, kind.opportunity)
+        and all(asked is None or is_number(getattr(kind, name), asked) for name, asked in numbers.items())
+    ]
+    if not made:
+        raise BadInput(table.path, f"nothing of the kind; it has {some([kind.told for kind in table.kinds])}")
+    return made
+
+
+def is_number(text: str, asked: float) -> bool:
+    try:
+        return float(text) == asked
+    except ValueError:
+        return False
+
+
+def measured(table: AccessTable, people: Counts, asked: Asked) -> Iterator[tuple[Kind, str, str, Equity]]:
+    """The measures of each kind, group and scenario."""
+    base = table.scenario(asked.base)
+    for kind in asked.kinds:
+        numbers = table.numbers[:, table.kinds.index(kind)]
+        for group in people.names:
+            weights = people.named(group)
+            if not weights.any():
+                raise BadInput(table.path, f"nobody of the group {shown(group)} lives at its origins")
+            for place, scenario in enumerate(table.scenarios):
+                yield kind, group, scenario, equity(numbers[base], numbers[place], weights, asked.percent)
+
+
+def told(number: float) -> str:
+    """A number to four decimals at most; nothing for NaN."""
+    return "" if np.isnan(number) else f"{number:.4f}".rstrip("0").rstrip(".")
+
+
+def write_equity(out: BinaryIO, lines: Iterator[tuple[Kind, str, str, Equity]], form: str) -> None:
+    """Writes a line for each kind, group and scenario."""
+    made = [[*astuple(kind), group, scenario, *map(told, astuple(of))] for kind, group, scenario, of in lines]
+    header = [*HEADS, *MEASURES]
+    if form == CSV:
+        write_rows(out, header, made)
+        return
+    bars = ["---"] * 5 + ["---:"] * (len(header) - 5)
+    for line in ([name.replace("_", " ") for name in header], bars, *made):
+        out.write(b"| " + b" | ".join(field(text).replace(b"|", b"\\|") for text in line) + b" |\n")
+
+
+def figure_of(table: AccessTable, people: Counts, asked: Asked) -> Any:
+    """The picture of one kind and one group."""
+    if len(asked.kinds) > 1:
+        there = some([kind.told for kind in asked.kinds])
+        names = "--opportunity, --percentile and --cutoff"
+        raise BadInput(table.path, f"a picture shows one of {there}: name it by {names}")
+    if len(people.names) > 1:
+        raise BadInput(table.path, f"a picture shows one group of {', '.join(people.names)}: name it by --column")
+    from matplotlib.backends.backend_agg import FigureCanvasAgg
+    from matplotlib.figure import Figure
+
+    kind, weights = asked.kinds[0], people.numbers[:, 0]
+    numbers, base = table.numbers[:, table.kinds.index(kind)], table.scenario(asked.base)
+    figure = Figure(figsize=INCHES, dpi=135, facecolor="white")
+    FigureCanvasAgg(figure)
+    title = f"How access is spread: {kind.told}; people: {shown(people.names[0])}"
+    figure.text(0.02, 0.96, title, fontsize=13, fontweight="bold", va="top", parse_math=False)
+    draw_lorenz(figure.add_axes((0.07, 0.13, 0.4, HIGH)), table.scenarios, numbers, weights)
+    others = [place for place in range(len(table.scenarios)) if place != base]
+    draw_tenths(figure.add_axes((0.58, 0.13, 0.4, HIGH)), table.scenarios, numbers, weights, base, others)
+    return figure
+
+
+def draw_lorenz(axes: Any, names: Sequence[str], numbers: Floats, weights: Floats) -> None:
+    axes.plot([0, 100], [0, 100], color="#999999", linestyle="dotted", label="equal access")
+    for place, name in enumerate(names):
+        across, up = lorenz(numbers[place], weights)
+        colour, style = COLOURS[place % len(COLOURS)], "solid" if place == 0 else "dashed"
+        axes.plot(100 * across, 100 * up, color=colour, linestyle=style, label=shown(name))
+    axes.set(xlim=(0, 100), ylim=(0, 100), xlabel="people by ascending access, %", ylabel="access that they have, %")
+    axes.legend(frameon=False, loc="upper left", fontsize=9)
+
+
+def draw_tenths(
+    axes: Any, names: Sequence[str], numbers: Floats, weights: Floats, base: int, others: Sequence[int]
+) -> None:
+    """Bars of the mean change of each tenth of the people, a row of them for each scenario beside the base."""
+    wide = 0.8 / max(1, len(others))
+    for row, place in enumerate(others):
+        changes = changes_by_tenth(numbers[base], numbers[place], weights)
+        across = np.arange(1, TENTHS + 1) + (row - (len(others) - 1) / 2) * wide
+        axes.bar(across, changes, wide, color=COLOURS[place % len(COLOURS)], label=shown(names[place]))
+    axes.axhline(0, color="#333333", linewidth=0.8)
+    axes.set(xticks=range(1, TENTHS + 1), xlabel=f"tenth of the people, 1 has the least access in {shown(names[base])}")
+    axes.set_ylabel("mean change of access")
+    if others:
+        axes.legend(frameon=False, fontsize=9)

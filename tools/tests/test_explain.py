@@ -1,0 +1,286 @@
+"""Journeys behind cells: by hand on the small feed, and on drawn feeds beside `bench/plain.py`, leg by leg."""
+
+import argparse
+import importlib
+import random
+import stat
+import sys
+from pathlib import Path
+from typing import Any
+
+import pytest
+
+from helpers import CALENDAR, STOP_TIMES, Room
+from test_damages import damaged
+from ttm_tools.feed import read_stops
+from ttm_tools.measures.journeys import Leg, Search, cell, durations, journey, network_of
+from ttm_tools.timetable import read_edits, read_timetable, read_walks, runs_of
+
+ROOT = Path(__file__).resolve().parents[2]
+WORDS = "--origin A --destination C --date 20260504 --from 07:58 --to 08:01 --trips 2 --walk 120 --ahead 0".split()
+
+
+@pytest.fixture
+def small(room: Room) -> Room:
+    """The small feed, with a change time of three minutes at B, a walk from C to D, and scenarios: T2 comes later, or
+    not at all.
+    """
+    room.write("stops.txt", "stop_id,stop_name", [["A", "Alpha"], ["B", ""], ["C", ""], ["D", ""]])
+    room.write("routes.txt", "route_id,route_short_name", [["R1", "1"], ["R2", ""]])
+    room.write("trips.txt", "route_id,service_id,trip_id", [["R1", "M", "T1"], ["R2", "M", "T2"]])
+    room.write("calendar.txt", *CALENDAR)
+    times = [["T1", "8:00:00", "8:00:00", "A", 1], ["T1", "8:10:00", "8:10:00", "B", 2]]
+    times += [["T2", "8:15:00", "8:15:00", "B", 1], ["T2", "8:30:00", "8:30:00", "C", 2]]
+    room.write("stop_times.txt", STOP_TIMES, times)
+    room.write("transfers.txt", "from_stop_id,to_stop_id,transfer_type,min_transfer_time", [["B", "B", 2, 180]])
+    room.write("walks.csv", "from_stop_id,to_stop_id,seconds", [["C", "D", 90]])
+    room.write("late.csv", "action,id,seconds", [["shift_trip", "T2", 300]])
+    room.write("cut.csv", "action,id,seconds", [["remove_route", "R2", ""]])
+    return room
+
+
+def explained(room: Room, program: str, *words: str) -> list[str]:
+    out, told, status = room.ran("explain", *words, "--program", program)
+    assert (told, status) == ("", 0)
+    return out.splitlines()
+
+
+def test_the_small_feed_by_hand(small: Room, program: str) -> None:
+    """At 07:58 it takes 32 minutes, at 07:59 31, at 08:00 30, and at 08:01 nobody gets there: half attain 31."""
+    lines = explained(small, program, str(small.folder), small.path("late.csv"), *WORDS)
+    assert lines == [
+        "From Alpha (A) to C: the travel time that 50 % of 4 departures attain",
+        "2026-05-04, days before 1 and after 0; departures 07:58 to 08:01, at most 2 rides, walks up to 120 seconds",
+        "By a second search, in Python, which isn't proved.",
+        "",
+        "base: 1860 seconds               late: 2160 seconds",
+        "07:59:00 Alpha (A)               07:59:00 Alpha (A)",
+        "  wait 1:00                        wait 1:00",
+        "08:00:00 route 1 (R1), trip T1   08:00:00 route 1 (R1), trip T1",
+        "  ride 10:00                       ride 10:00",
+        "08:10:00 B                       08:10:00 B",
+        "  change 3:00                      change 3:00",
+        "  wait 2:00                        wait 7:00",
+        "08:15:00 route R2, trip T2       08:20:00 route R2, trip T2",
+        "  ride 15:00                       ride 15:00",
+        "08:30:00 C                       08:35:00 C",
+        "",
+        "departure    base     late",
+        "07:58       32:00    37:00",
+        "07:59       31:00*   36:00*",
+        "08:00       30:00    35:00",
+        "08:01           -        -",
+    ]
+
+
+def test_a_walk_at_the_end_and_what_is_not_reached(small: Room, program: str) -> None:
+    words = [*WORDS[:3], "D", *WORDS[4:], "--footpaths", small.path("walks.csv")]
+    lines = explained(small, program, str(small.folder), small.path("cut.csv"), *words)
+    assert [line.split("   ")[0].rstrip() for line in lines[13:18]] == [
+        "  ride 15:00",
+        "08:30:00 C",
+        "  walk 1:30",
+        "08:31:30 D",
+        "",
+    ]
+    assert lines[4].split() == ["base:", "1950", "seconds", "cut:", "not", "reached"]
+    assert lines[-1].split() == ["08:01", "-", "-"]
+
+
+def test_the_numbers_of_both_are_told_where_they_differ(small: Room) -> None:
+    program = small.folder / "ttm"
+    matrix = "scenario,origin,share,access_1800,A,B,C,D\nbase,A,50,3,0,600,1800,\n"
+    program.write_text(f"#!/bin/sh\ncat << END\n{matrix}END\n")
+    program.chmod(program.stat().st_mode | stat.S_IXUSR)
+    words = ["explain", str(small.folder), *WORDS, "--program", str(program)]
+    told = "the travel times differ: from A to C, base: ttm has 1800 seconds, and this search, which isn't proved, "
+    small.refused(told + "1860 seconds", *words)
+
+
+def test_a_cell_of_a_matrix_is_taken_in_place_of_a_run(small: Room) -> None:
+    matrix = small.write(
+        "matrix.csv", "scenario,origin,share,access_1800,A,B,C,D", [["base", "A", 50, 2, 0, 600, 1860, ""]]
+    )
+    words = ["explain", str(small.folder), *WORDS, "--within", "1800", "--workers", "4", "--matrix", matrix]
+    out, told, status = small.ran(*words)
+    assert (told, status) == ("", 0) and out.splitlines()[4] == "base: 1860 seconds"
+    small.refused(f"{matrix}: no scenario late; it has base", *words[:2], small.path("late.csv"), *words[2:])
+
+
+def test_wrong_words_are_told(small: Room) -> None:
+    words = ["explain", str(small.folder), *WORDS]
+    told = f"{small.path('stops.txt')}: no stop X at which vehicles call"
+    small.refused(told, *words, "--origin", "X")
+    for more in (["--from", "08:02"], ["--date", "20260230"], ["--to", "24:00"], ["--trips", "9"]):
+        out, line, status = small.ran(*words, *more)
+        assert (out, status) == ("", 2) and line.splitlines()[-1].startswith("ttm-tools explain: "), more
+
+
+def asked_of(plain: Any, words: list[str]) -> argparse.Namespace:
+    made = plain.options(words)
+    assert isinstance(made, argparse.Namespace)
+    return made
+
+
+class Second:
+    """The other program's feed, walks and runs of the words of a drawn feed."""
+
+    def __init__(self, plain: Any, asked: argparse.Namespace, scenario: str | None) -> None:
+        self.feed = plain.Feed(asked.feed)
+        direct = self.feed.direct_footpaths(asked.footpaths)
+        self.feet = plain.closed_footpaths(len(self.feed.stops), direct, asked.walk)
+        self.changes = self.feed.change_times()
+        self.runs = plain.network(self.feed, asked, scenario)
+
+    def rides(self, leg: Leg) -> bool:
+        """Whether some run has this ride."""
+        return any(
+            before.stop == leg.start
+            and before.depart == leg.begin
+            and before.board
+            and after.stop == leg.end
+            and after.arrive == leg.finish
+            and after.alight
+            for run in self.runs
+            for place, before in enumerate(run)
+            for after in run[place + 1 :]
+        )
+
+    def end_of(self, legs: list[Leg], origin: int, departure: int) -> tuple[int, int]:
+        """Where and when a journey ends, each of whose legs the definitions allow."""
+        at, time, last = origin, departure, "start"
+        for leg in legs:
+            assert leg.start == at and leg.begin >= time
+            if leg.run is None:
+                assert last != "walk" and leg.begin == time
+                assert (leg.end, leg.finish - leg.begin) in self.feet[at]
+            else:
+                assert self.rides(leg)
+                assert leg.change == (self.changes[at] if last == "ride" else 0)
+                assert leg.begin >= time + leg.change
+            at, time, last = leg.end, leg.finish, "walk" if leg.run is None else "ride"
+        return at, time
+
+
+def others() -> tuple[Any, Any]:
+    """The other program, and what draws feeds."""
+    if not (ROOT / ".ci" / "random_feeds.py").is_file():
+        pytest.skip("without the gate")
+    for folder in ("bench", ".ci"):
+        if str(ROOT / folder) not in sys.path:
+            sys.path.append(str(ROOT / folder))
+    return importlib.import_module("plain"), importlib.import_module("random_feeds")
+
+
+def compare(room: Room, plain: Any, words: list[str]) -> int:
+    """Durations between all stops are those of the other program, and journeys last so long; gives how many changes
+    they have.
+    """
+    asked, changed = asked_of(plain, words), 0
+    timetable = read_timetable(read_stops(str(room.folder)))
+    walks, changes = read_walks(timetable, asked.footpaths, asked.walk)
+    departures = asked.departures[:: max(1, len(asked.departures) // 4)]
+    count = range(len(timetable.stops))
+    for scenario in [None, *asked.scenario]:
+        second = Second(plain, asked, scenario)
+        runs = runs_of(timetable, asked.date, (asked.back, asked.ahead), read_edits(scenario))
+        network = network_of(timetable.events, runs, walks, changes, departures[0])
+        for origin in count:
+            ways = (second.runs, second.feet, second.changes, origin)
+            table = [plain.durations(*ways, departure, asked.trips) for departure in departures]
+            for stop in count:
+                found = durations(network, origin, stop, departures, asked.trips)
+                assert found == [times[stop] for times in table]
+                for departure, time in zip(departures, found):
+                    legs = journey(Search(network, origin, departure, asked.trips), stop)
+                    changed += sum(leg.change > 0 for leg in legs)
+                    assert sum(leg.run is not None for leg in legs) <= asked.trips
+                    if time is not None:
+                        assert second.end_of(legs, origin, departure) == (stop, departure + time)
+    return changed
+
+
+@pytest.mark.parametrize("seed", range(1, 31))
+def test_drawn_feeds_have_the_durations_of_the_other_program_and_journeys_that_last_so_long(
+    room: Room, seed: int
+) -> None:
+    plain, random_feeds = others()
+    drawn = random_feeds.Drawn(seed)
+    drawn.put_into(room.folder)
+    compare(room, plain, drawn.words(room.folder))
+
+
+def clock(seconds: int) -> str:
+    return f"{seconds // 3600}:{seconds // 60 % 60:02}:{seconds % 60:02}"
+
+
+def draw_town(room: Room, draw: random.Random) -> list[str]:
+    """A town where much runs and most change: its files, and words of a run."""
+    stops = [f"S{number}" for number in range(7)]
+    room.write("stops.txt", "stop_id,location_type,parent_station", [["G", 1, ""], *[[it, "", ""] for it in stops[:5]]])
+    with open(room.path("stops.txt"), "a") as file:
+        file.write("S5,0,G\nS6,0,G\n")
+    room.write("routes.txt", "route_id", [["R0"], ["R1"]])
+    room.write("calendar.txt", *CALENDAR)
+    trips = [f"T{number}" for number in range(24)]
+    room.write("trips.txt", "route_id,service_id,trip_id", [[draw.choice(["R0", "R1"]), "M", it] for it in trips])
+    calls = []
+    for trip in trips:
+        time = 8 * 3600 + 60 * draw.randrange(30)
+        for place, stop in enumerate(draw.choices(stops, k=draw.randrange(2, 6))):
+            arrive, time = time, time + draw.choice([0, 0, 30])
+            calls.append([trip, clock(arrive), clock(time), stop, place, *draw.choices(["", 0, 1], [5, 5, 1], k=2)])
+            time += draw.choice([60, 90, 240])
+    room.write("stop_times.txt", f"{STOP_TIMES},pickup_type,drop_off_type", calls)
+    headways = [[trip, "8:05:00", "8:40:00", draw.choice([300, 433])] for trip in draw.sample(trips, 3)]
+    room.write("frequencies.txt", "trip_id,start_time,end_time,headway_secs", headways)
+    changes = [[it, it, 2, draw.choice([60, 120, 300])] for it in [*stops[:4], "G"]]
+    room.write("transfers.txt", "from_stop_id,to_stop_id,transfer_type,min_transfer_time", changes)
+    walks = [[*draw.sample(stops, 2), draw.choice([30, 100, 200])] for _ in range(5)]
+    path = room.write("walks.csv", "from_stop_id,to_stop_id,seconds", walks)
+    cut = room.write("cut.csv", "action,id,seconds", [["remove_trip", trips[0], ""], ["shift_trip", trips[1], 60]])
+    window = ["--from", "08:00", "--to", "08:25", "--trips", str(draw.randrange(1, 5)), "--walk", "250"]
+    own = ["--date", "20260506", "--back", "0", "--ahead", "0", "--share", "50", "--within", "600"]
+    return ["--feed", str(room.folder), *window, *own, "--footpaths", path, cut]
+
+
+def test_drawn_towns_have_the_durations_of_the_other_program(room: Room, monkeypatch: pytest.MonkeyPatch) -> None:
+    plain, _ = others()
+    monkeypatch.setattr("ttm_tools.measures.journeys.AT_ONCE", 3)
+    changed = sum(compare(room, plain, draw_town(room, random.Random(seed))) for seed in range(12))
+    assert changed > 100
+
+
+def test_a_cell_is_the_least_duration_that_enough_departures_attain() -> None:
+    times: list[int | None] = [720, 660, 600, None]
+    assert [cell(times, share) for share in (25, 50, 75, 100)] == [600, 660, 720, None]
+
+
+@pytest.mark.parametrize("seed", range(4))
+def test_whatever_is_damaged_is_told_in_a_line(small: Room, program: str, seed: int) -> None:
+    draw = random.Random(seed)
+    small.write("frequencies.txt", "trip_id,start_time,end_time,headway_secs", [["T1", "08:00:00", "08:01:00", 30]])
+    names = [path.name for path in small.folder.iterdir() if path.suffix in (".txt", ".csv")]
+    words = ["explain", str(small.folder), small.path("cut.csv"), small.path("late.csv"), *WORDS]
+    words += ["--footpaths", small.path("walks.csv"), "--program", program]
+    for _ in range(15):
+        path = small.folder / draw.choice(names)
+        whole = path.read_bytes()
+        path.write_bytes(damaged(draw, whole))
+        _, told, status = small.ran(*words)
+        assert (status, len(told.splitlines())) in ((0, 0), (1, 1)), (path, path.read_bytes(), told)
+        path.write_bytes(whole)
+
+
+def test_drawn_feeds_are_explained_as_ttm_counts(room: Room, program: str) -> None:
+    plain, random_feeds = others()
+    for seed in range(100, 112):
+        drawn = random_feeds.Drawn(seed)
+        drawn.put_into(room.folder)
+        words = drawn.words(room.folder)
+        kept = [words.index(f"--{name}") for name in ("date", "from", "to", "trips", "walk")]
+        some = [word for place in kept for word in words[place : place + 2]]
+        ends = ["--origin", drawn.stops[0], "--destination", drawn.stops[-1]]
+        files = [str(room.folder), room.path("cut.csv"), room.path("late.csv")]
+        lines = explained(room, program, *files, *ends, *some, "--footpaths", room.path("footpaths.csv"))
+        assert lines[2] == "By a second search, in Python, which isn't proved."
