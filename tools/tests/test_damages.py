@@ -35,7 +35,7 @@ def damaged(draw: random.Random, whole: bytes) -> bytes:
 
 def runs_of(town: Town, some: str, cut: str, table: str) -> list[list[str]]:
     """Each command, on files of the town."""
-    feed = ["--feed", town.feed]
+    feed, jobs, access = ["--feed", town.feed], town.path("jobs.csv"), town.path("access.csv")
 
     def out(name: str) -> list[str]:
         return ["--out", town.path(name)]
@@ -47,6 +47,8 @@ def runs_of(town: Town, some: str, cut: str, table: str) -> list[list[str]]:
         ["join", "--origins", some, *out("j"), town.file],
         ["compare", *feed, "--share", "50", *out("c"), town.file],
         ["compare", "--by", "origin", "--within", "900", "--share", "25", "--partial", *out("c"), town.file],
+        ["access", "--opportunities", jobs, "--cutoffs", "10,30", *out("a"), town.file],
+        ["equity", access, "--people", jobs, "--column", "jobs", *out("e")],
         ["long", *feed, "--origins", some, *out("l"), town.file],
         ["long", "--access", *out("l"), town.file],
         ["long", "--names", "r5py", "--scenario", "cut", *out("l"), town.file],
@@ -65,6 +67,9 @@ def test_whatever_is_damaged_is_told_in_a_line(town: Town, seed: int) -> None:
     some = town.write("some.csv", "stop_id", [["A"], ["D"]])
     cut = town.write("cut.csv", "action,id,seconds", [["remove_route", "R", ""]])
     table = town.write("walks.csv", "from_stop_id,to_stop_id,seconds", [["A", "B", 7.5], ["B", "A", 8]])
+    town.write("jobs.csv", "stop_id,jobs,shops", [["A", 7, 0.5], ["D", 8, 1]])
+    spread = [[name, stop, "jobs", 50, 30, 7.5] for name in ("base", "cut") for stop in "AD"]
+    town.write("access.csv", "scenario,id,opportunity,percentile,cutoff,accessibility", spread)
     runs = runs_of(town, some, cut, table)
     inputs = [
         "matrix.csv",
@@ -75,6 +80,8 @@ def test_whatever_is_damaged_is_told_in_a_line(town: Town, seed: int) -> None:
         "some.csv",
         "cut.csv",
         "walks.csv",
+        "jobs.csv",
+        "access.csv",
     ]
     whole = {name: Path(town.path(name)).read_bytes() for name in inputs}
     statuses = set()

@@ -74,7 +74,7 @@ def test_each_command_prints_what_the_page_says(room: Room, program: str) -> Non
     for package in ("matplotlib", "h5py", "pandas"):
         pytest.importorskip(package)
     make_town(room, program)
-    page = commands("One question, from zip to picture")
+    page = commands("One question, from zip to picture") + commands("What a number means")
     assert len(page) > 15
     prints_what_is_said(room, page)
 
