@@ -25,6 +25,7 @@ COMMANDS = (
     "long",
     "omx",
     "gis",
+    "study",
 )
 NO_MEMORY = 3
 
