@@ -33,6 +33,8 @@ PACKAGES = {
     "tqdm": "python3-tqdm",
     "tables": "python3-tables",
     "shapely": "python3-shapely",
+    "osmium": "python3-pyosmium",
+    "networkx": "python3-networkx",
 }
 SECONDS_TO_INSTALL = 300
 

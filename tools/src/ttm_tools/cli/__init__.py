@@ -15,6 +15,7 @@ COMMANDS = (
     "prepare",
     "scenarios",
     "walks",
+    "points",
     "split",
     "join",
     "compare",

@@ -60,6 +60,13 @@ class Matrix(ABC):
         """Where each stop's column stands."""
         return {name: place for place, name in enumerate(self.stops)}
 
+    def stops_and_origins(self) -> list[str]:
+        """All stops of the columns, and behind them those origins that aren't among them."""
+        origins = (
+            name for scenario in self.scenarios for share in self.shares for name in self.origins(scenario, share)
+        )
+        return list(dict.fromkeys([*self.stops, *origins]))
+
     def rows_at_once(self) -> int:
         return max(1, CELLS_AT_ONCE // max(1, len(self.stops)))
 
