@@ -51,13 +51,10 @@ def service_named(base: Base, entry: Entry) -> str:
         entry.known("service", service, base.days.services, "is no service of the feed")
         return service
     days = weekdays_of(entry)
-    span = days_stated(base)
-    if not span:
-        raise entry.fault("the feed's calendars have no days: name a service", "days")
-    weekday = np.array([day.weekday() for day in (base.days.day(place) for place in range(base.days.runs.shape[1]))])
-    within = np.zeros(len(weekday), dtype=np.bool_)
-    within[span[0] : span[1] + 1] = True
-    runs = np.isin(weekday, [WEEKDAYS.index(day) for day in days]) & within
+    weekday = (base.days.first + np.arange(base.days.runs.shape[1]) - 1) % 7
+    runs = np.isin(weekday, [WEEKDAYS.index(day) for day in days])
+    if not runs.any():
+        raise entry.fault("no such day is among those of the feed's calendars", "days", " ".join(days))
     return new_service(base, "days-" + "".join(str(int(day in days)) for day in WEEKDAYS), runs)
 
 
@@ -69,9 +66,3 @@ def weekdays_of(entry: Entry) -> list[str]:
     for day in named:
         entry.known("days", day, WEEKDAYS, "is no day of the week; all are 'daily', 'weekdays', 'weekend' or a list")
     return named
-
-
-def days_stated(base: Base) -> tuple[int, int] | None:
-    """The first and the last day on which a service runs."""
-    places = np.flatnonzero(base.days.runs.any(axis=0))
-    return (int(places[0]), int(places[-1])) if len(places) else None

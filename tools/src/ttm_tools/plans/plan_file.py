@@ -52,9 +52,10 @@ class Entry:
     def one_of(self, *keys: str) -> str:
         """Which one of some keys is there."""
         found = [key for key in keys if key in self.values]
-        if len(found) != 1:
-            told = f"both {found[0]} and {found[1]} are there" if found else "needed"
-            raise self.fault(told, " or ".join(keys), allowed=f"one of {', '.join(keys)}")
+        if not found:
+            raise self.fault("needed", " or ".join(keys))
+        if len(found) > 1:
+            raise self.fault(f"is there beside {found[0]}", found[1], allowed=f"one of {', '.join(keys)}")
         return found[0]
 
     def get(self, key: str) -> Any:
