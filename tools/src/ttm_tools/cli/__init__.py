@@ -13,6 +13,7 @@ from ..files import Interrupted, unwind_on_signals
 
 COMMANDS = (
     "prepare",
+    "scenarios",
     "walks",
     "points",
     "split",
@@ -25,6 +26,7 @@ COMMANDS = (
     "long",
     "omx",
     "gis",
+    "study",
 )
 NO_MEMORY = 3
 

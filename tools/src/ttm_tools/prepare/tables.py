@@ -204,6 +204,11 @@ def write_feed(feed: Feed, folder: Path) -> None:
 def write_table(table: Table, file: BinaryIO) -> None:
     """Writes a table, some records at a time."""
     file.write(b",".join(map(quoted, table.columns)) + b"\n")
+    write_lines(table, file)
+
+
+def write_lines(table: Table, file: BinaryIO) -> None:
+    """Writes the records of a table without its header."""
     texts = {}
     for place, (name, column) in enumerate(table.columns.items()):
         made = np.empty(len(column.values), dtype=object)
