@@ -3,7 +3,7 @@
 import argparse
 import sys
 
-from .options import add_matrix, add_share, add_text
+from .options import add_matrix, add_share, add_text, scenarios_of
 
 TOLD = "stops with access and travel times, for a geographic information system"
 HELP = """\
@@ -37,7 +37,7 @@ def run(words: argparse.Namespace) -> int:
     from ..views.gis import features_of, write_geojson, write_geopackage
 
     matrix, stops = open_matrix(words.matrix), read_stops(words.feed)
-    scenarios = [matrix.scenario(name) for name in words.scenario or matrix.scenarios]
+    scenarios = scenarios_of(matrix, words.scenario)
     shares = matrix.shares if words.share is None else [matrix.share(words.share)]
     features = features_of(matrix, stops, scenarios, shares, words.origin)
     if kind == "gpkg":

@@ -2,7 +2,7 @@
 
 import argparse
 
-from .options import add_text
+from .options import add_text, scenarios_of
 
 TOLD = "an Open Matrix file"
 HELP = """\
@@ -33,6 +33,7 @@ def run(words: argparse.Namespace) -> int:
     from ..parts import origins_in
 
     matrix = open_matrix(words.matrix)
+    scenarios_of(matrix, None)
     if words.origins:
         has_all(matrix, origins_in(words.origins), words.origins)
     write_open_matrix(matrix, words.out)
