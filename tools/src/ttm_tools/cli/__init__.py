@@ -11,7 +11,21 @@ from typing import Sequence
 from ..faults import BadInput, Lacking, WrongWords, one_line
 from ..files import Interrupted, unwind_on_signals
 
-COMMANDS = ("prepare", "walks", "split", "join", "compare", "access", "equity", "explain", "map", "long", "omx", "gis")
+COMMANDS = (
+    "prepare",
+    "walks",
+    "split",
+    "join",
+    "compare",
+    "access",
+    "equity",
+    "explain",
+    "map",
+    "page",
+    "long",
+    "omx",
+    "gis",
+)
 NO_MEMORY = 3
 
 
