@@ -62,5 +62,3 @@ def figure_of(picture: Picture, matrix: Matrix, stops: Stops, folder: str, sheet
     drawn_from = "Lines as in shapes.txt." if shaped else "Lines drawn straight from stop to stop."
     picture = replace(picture, title=sheet.title or picture.title)
     return drawing.draw(picture, shown_stops, lines, f"{drawn_from} {sheet.note}".strip(), sheet.width)
-
-
