@@ -308,6 +308,7 @@ async function begin() {
   addPrinting();
   window.addEventListener("hashchange", () => { readAddress(); show(); });
   await show();
+  performance.mark("shown");
 }
 
 const begun = begin();
