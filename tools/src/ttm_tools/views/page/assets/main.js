@@ -312,3 +312,8 @@ async function begin() {
 }
 
 const begun = begin();
+begun.catch((fault) => {
+  element("heading").textContent = "This page can't be shown";
+  element("told").textContent = "DecompressionStream" in window ? `${fault}`
+    : "This browser is too old: take one of 2023 or later (Chrome, Edge, Firefox, Safari).";
+});
