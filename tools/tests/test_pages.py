@@ -9,6 +9,7 @@ from pathlib import Path
 
 import pytest
 
+from browser import LEAFLET
 from helpers import Room
 
 ROOT = Path(__file__).resolve().parents[2]
@@ -44,8 +45,10 @@ def prints_what_is_said(room: Room, *names: str) -> int:
 
 
 def test_each_command_prints_what_the_page_says(room: Room, program: str) -> None:
-    for package in ("matplotlib", "h5py", "pandas"):
+    for package in ("matplotlib", "h5py", "pandas", "jinja2"):
         pytest.importorskip(package)
+    if not LEAFLET.is_file():
+        pytest.skip("without libjs-leaflet")
     make_town(room, program)
     assert prints_what_is_said(room, "One question, from zip to picture", "What a number means") > 15
 

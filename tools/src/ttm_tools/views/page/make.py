@@ -131,6 +131,7 @@ def told_rows(content: Content, asked: Asked) -> list[str]:
 def tell(path: str, page: Page) -> None:
     """Says on the standard error what was written."""
     ground = page.content.ground
-    print(f"{path}: {len(ground.places.identifiers):,} places, {os.path.getsize(path):,} bytes", file=sys.stderr)
+    count, rows = len(ground.places.identifiers), len(ground.rows)
+    print(f"{path}: {count:,} places, travel times from {rows:,} of them", file=sys.stderr)
     for line in page.frame.told:
         print(line, file=sys.stderr)

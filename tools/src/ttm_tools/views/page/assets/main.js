@@ -308,6 +308,12 @@ async function begin() {
   addPrinting();
   window.addEventListener("hashchange", () => { readAddress(); show(); });
   await show();
+  performance.mark("shown");
 }
 
 const begun = begin();
+begun.catch((fault) => {
+  element("heading").textContent = "This page can't be shown";
+  element("told").textContent = "DecompressionStream" in window ? `${fault}`
+    : "This browser is too old: take one of 2023 or later (Chrome, Edge, Firefox, Safari).";
+});
