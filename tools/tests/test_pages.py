@@ -35,13 +35,15 @@ def make_town(room: Room, program: str) -> None:
     os.symlink(ROOT / "tools", room.folder / "tools")
 
 
-def prints_what_is_said(room: Room, *names: str) -> int:
-    """Each command of some sections prints what the page says; gives how many there are."""
+def prints_what_is_said(room: Room, *names: str, before: str = "true") -> int:
+    """Each command of some sections prints what the page says, after one that prints nothing; gives how many there
+    are.
+    """
     known = pages.sections(PAGE.read_text())
-    page = [command for name in names for command in pages.commands(known[name])]
+    page = [pages.Command(before), *(command for name in names for command in pages.commands(known[name]))]
     path = os.pathsep.join([os.path.dirname(sys.executable), room.path("tools"), os.environ["PATH"]])
     assert pages.differences(page, room.folder, {**os.environ, "PATH": path, "LC_ALL": "C.UTF-8"}) == []
-    return len(page)
+    return len(page) - 1
 
 
 def test_each_command_prints_what_the_page_says(room: Room, program: str) -> None:
@@ -56,3 +58,13 @@ def test_each_command_prints_what_the_page_says(room: Room, program: str) -> Non
 def test_a_damaged_feed_is_told_and_mended_as_the_page_says(room: Room, program: str) -> None:
     make_town(room, program)
     assert prints_what_is_said(room, "Getting a feed ready") > 7
+
+
+def test_travel_times_from_door_to_door_as_the_page_says(room: Room, program: str) -> None:
+    for package in ("matplotlib", "pandas"):
+        pytest.importorskip(package)
+    make_town(room, program)
+    before = "export PATH=$PWD/crates/ttm/out:$PWD/tools:$PATH; unzip -q town.zip -d town"
+    edits = "printf 'action,id,seconds\\nremove_route,L0013,\\n' > no13.csv"
+    section = "Access to jobs from 2,000 cells, before and after"
+    assert prints_what_is_said(room, section, before=f"{before}; {edits}") > 9
