@@ -84,3 +84,14 @@ def test_a_damaged_feed_is_told_and_mended_as_the_page_says(room: Room, program:
     page = commands("Getting a feed ready")
     assert len(page) > 7
     prints_what_is_said(room, page)
+
+
+def test_travel_times_from_door_to_door_as_the_page_says(room: Room, program: str) -> None:
+    for package in ("matplotlib", "pandas"):
+        pytest.importorskip(package)
+    make_town(room, program)
+    page = commands("Access to jobs from 2,000 cells, before and after")
+    assert len(page) > 9
+    before = "export PATH=$PWD/crates/ttm/out:$PWD/tools:$PATH; unzip -q town.zip -d town"
+    edits = "printf 'action,id,seconds\\nremove_route,L0013,\\n' > no13.csv"
+    prints_what_is_said(room, [(f"{before}; {edits}", []), *page])

@@ -149,7 +149,7 @@ def test_areas_become_points_inside_of_them(room: Room) -> None:
     south, west = place(20, -10)
     north, east = place(40, 10)
     ring = [[west, south], [east, south], [east, north], [west, north], [west, south]]
-    feature = {"type": "Feature", "geometry": {"type": "Polygon", "coordinates": [ring]}}
+    feature: dict[str, Any] = {"type": "Feature", "geometry": {"type": "Polygon", "coordinates": [ring]}}
     feature["properties"] = {"id": 7, "kind": "a text", "people": 12}
     areas = Path(room.path("areas.geojson"))
     areas.write_text(json.dumps({"type": "FeatureCollection", "features": [feature]}))
@@ -227,10 +227,6 @@ class Doors:
         first = [self.own.get((point, stop), self.plain.NEVER) for stop in range(self.count)]
         return [time if time <= self.limit else self.plain.NEVER for time in self.plain.walked(first, first, self.feet)]
 
-    def arrival(self, times: list[int], point: str) -> int:
-        """The least time at a point, for who walks there from stops at these times within what is left of a walk."""
-        return min(times[stop] + self.own.get((stop, point), self.plain.NEVER) for stop in range(self.count))
-
     def durations(self, runs: Any, points: list[str], origin: str, departure: int, rides: int) -> list[int | None]:
         """The least duration to each point."""
         never, access = self.plain.NEVER, self.to_stops(origin)
@@ -265,7 +261,7 @@ class Doors:
         """The least walk from a stop to a point within the limit."""
         chains = [time + self.own.get((other, point), self.plain.NEVER) for other, time in self.feet[stop]]
         best = min([self.own.get((stop, point), self.plain.NEVER), *chains])
-        return best if best <= self.limit else self.plain.NEVER
+        return int(best if best <= self.limit else self.plain.NEVER)
 
 
 @pytest.mark.parametrize("seed", range(4))
@@ -273,7 +269,7 @@ def test_drawn_towns_have_the_durations_of_journeys_that_begin_and_end_with_a_wa
     room: Room, program: str, monkeypatch: pytest.MonkeyPatch, seed: int
 ) -> None:
     monkeypatch.syspath_prepend(str(BENCH))
-    import plain  # type: ignore[import-not-found, unused-ignore]
+    import plain
 
     draw = random.Random(seed)
     town, limit = draw_town(room, draw), draw.choice([300, 420, 600])

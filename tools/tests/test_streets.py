@@ -165,8 +165,8 @@ def network(nx: Any, nodes: dict[int, tuple[float, float]], ways: list[Way], pla
     graph = nx.DiGraph()
     for name, place in places.items():
         graph.add_node(("place", name))
-        found = [(*reversed(nearest(place, nodes[a], nodes[b])), number) for number, (a, b, _) in enumerate(lines)]
-        metres, along, number = min(found)
+        found = [(nearest(place, nodes[a], nodes[b]), number) for number, (a, b, _) in enumerate(lines)]
+        (along, metres), number = min(found, key=lambda it: it[0][1])
         on[number].append((along, name))
         for end in lines[number][:2] if along in (0, 1) else ():
             if along == (end == lines[number][1]):

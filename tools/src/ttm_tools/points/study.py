@@ -4,6 +4,7 @@ A journey from point to point begins and ends with a walk, or is one. Points are
 between points and stops are footpaths, so that `ttm` itself puts walks and rides together, minute by minute.
 """
 
+import itertools
 import re
 import shlex
 import shutil
@@ -194,22 +195,24 @@ def stops_with(path: Path, points: Points) -> tuple[list[str], Iterator[list[str
     """The header and the records of stops.txt with the points behind the feed's own."""
     lines = records(path)
     _, header = next(lines, (1, list[str]()))
-    own = len(header)
     there = places_of(header, path, ["stop_id"])
-    header = header + [name for name in PLACE if name not in there]
-    places = places_of(header, path, [])
+    wide = header + [name for name in PLACE if name not in there]
+    own = (padded(fields[: len(header)], len(wide)) for _, fields in lines)
+    places = places_of(wide, path, [])
+    chosen = [places[name] for name in ("stop_id", *PLACE)]
+    return wide, itertools.chain(own, (spread(line, chosen, len(wide)) for line in lines_of(points)))
 
-    def made() -> Iterator[list[str]]:
-        for _, fields in lines:
-            kept = fields[:own]
-            yield kept + [""] * (len(header) - len(kept))
-        for identifier, name, *place in lines_of(points):
-            fields = [""] * len(header)
-            for column, text in zip(("stop_id", *PLACE), (identifier, name, *place)):
-                fields[places[column]] = text
-            yield fields
 
-    return header, made()
+def padded(fields: list[str], width: int) -> list[str]:
+    return fields + [""] * (width - len(fields))
+
+
+def spread(fields: Sequence[str], places: Sequence[int], width: int) -> list[str]:
+    """A record with these fields at some places, and nothing elsewhere."""
+    made = [""] * width
+    for place, text in zip(places, fields):
+        made[place] = text
+    return made
 
 
 def lines_of(points: Points) -> Iterator[tuple[str, str, str, str]]:
@@ -227,13 +230,12 @@ def point_lines(points: Points) -> Iterator[list[str]]:
 
 def write_files(folder: Path, asked: Asked, study: Study, walks: Walks, rounded: Rounded) -> None:
     """Writes what stands beside the feed."""
-    ends = {"origins": study.of_files(asked.begins), "destinations": study.of_files(asked.ends)}
-    tables = {f"{name}.csv": (["stop_id"], [[stop] for stop in stops]) for name, stops in ends.items()}
+    ends = {"origins.csv": study.of_files(asked.begins), "destinations.csv": study.of_files(asked.ends)}
     with open(folder / "footpaths.csv", "wb") as out:
         write_rows(out, ["from_stop_id", "to_stop_id", "seconds"], walks.rows())
-    for name, (header, lines) in tables.items():
+    for name, stops in ends.items():
         with open(folder / name, "wb") as out:
-            write_rows(out, header, lines)
+            write_rows(out, ["stop_id"], [[stop] for stop in stops])
     for column, name in zip(study.points.columns, file_names(study.points.columns)):
         with open(folder / name, "wb") as out:
             write_rows(out, ["stop_id", "opportunities"], opportunities(asked, study, column, rounded))

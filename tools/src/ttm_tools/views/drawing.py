@@ -25,6 +25,7 @@ INCHES = 10  # the picture's width; that of the map, its greatest height, and wh
 MAP_WIDTH, MAP_HEIGHT, HEAD, EDGE = 6.7, 7.0, 0.85, 0.2
 LEAST_HEIGHT = 5.2  # of the picture, so that the key has room
 LEAST_SIDE = 0.5  # kilometres that a map shows
+FAINT, OVER_SQUARES = "#cdcdcd", "#7d7d7d"  # the colours of lines on which vehicles run
 CORNERS = np.array([[-0.5, -0.5], [0.5, -0.5], [0.5, 0.5], [-0.5, 0.5]])
 STAR = {"marker": "*", "color": "#111111"}
 LETTERS: dict[str, Any] = {
@@ -50,7 +51,7 @@ class Lines:
 
 def running(pieces: Pieces) -> Lines:
     """The lines on which vehicles run."""
-    return Lines(pieces, "where vehicles run", "#cdcdcd", 0.9 if len(pieces) < MANY_LINES else 0.5)
+    return Lines(pieces, "where vehicles run", FAINT, 0.9 if len(pieces) < MANY_LINES else 0.5)
 
 
 def taken_out(pieces: Pieces) -> Lines:
@@ -71,9 +72,11 @@ def draw(picture: Picture, stops: Stops, lines: Sequence[Lines], note: str, widt
     plain: dict[str, Any] = {"va": "top", "parse_math": False}
     figure.text(EDGE / INCHES, 1 - 0.2 / top, title, fontsize=14.5, fontweight="bold", **plain)
     figure.text(EDGE / INCHES, 1 - 0.52 / top, told, fontsize=9.5, color="#333333", **plain)
+    squares = squares_of(stops)
+    if not np.isnan(squares).all():
+        lines = [replace(kind, colour=OVER_SQUARES) if kind.colour == FAINT else kind for kind in lines]
     for number, kind in enumerate(lines):
         draw_lines(axes, kind, 1 + number / 10)
-    squares = squares_of(stops)
     draw_squares(axes, picture, points, squares)
     draw_stops(axes, picture, np.where(np.isnan(squares)[:, None], points, np.nan))
     draw_names(axes, picture, stops, points)
