@@ -61,11 +61,17 @@ def run(words: argparse.Namespace) -> int:
         return 0
     needs("h5py")
     from ..study.cluster import Means, one_part
+    from ..study.cutting import processors
     from ..study.study_file import read_study
     from ..study.work import make_study
 
     if words.part is not None:
         one_part(Path(words.study), words.part)
+        return 0
+    if words.verify is not None:
+        from ..study.verify import verify
+
+        verify(Path(words.verify), words.seed, words.workers or processors())
         return 0
     study = read_study(words.study)
     out = Path(words.out) if words.out else study.path.with_suffix("")

@@ -183,6 +183,14 @@ def cut_of(wish: PartWish, inputs: Inputs, key: str, workers: int, room: Path) -
     return parts, shape
 
 
+def parts_noted() -> int:
+    """How many parts there were."""
+    try:
+        return int(json.loads(Path(CUT).read_text(encoding="utf-8"))["shape"]["parts"])
+    except (OSError, ValueError, KeyError, TypeError):
+        return 1
+
+
 def remove_others(names: set[str]) -> None:
     """Removes the folders of parts that the study doesn't have."""
     Path(PARTS).mkdir(exist_ok=True)

@@ -3,19 +3,23 @@ points, walks, origins, opportunities. All paths of what is made are from that f
 """
 
 import datetime
+import shlex
 import shutil
 from dataclasses import asdict, dataclass
 from pathlib import Path
-from typing import Any, Sequence
+from typing import Any, Callable, Sequence
 
 from ..engine import Run
 from ..faults import BadInput
-from ..feed import read_stops
+from ..feed import Stops, read_stops
 from ..measures.opportunities import called, columns_of, read_counts
 from ..parts import origins_in, origins_of_feed
+from ..plans import make as plans
+from ..plans.scenario_files import TODAY
+from ..points import read_points, study as points
 from ..prepare.clip import Clip
-from ..records import Rounded, write_rows
-from ..walks import Pace, read_walks, straight_walks
+from ..records import Rounded, shown, write_rows
+from ..walks import Pace, Walks, read_walks, told as what_is_told, walks_of
 from .stages import Folder, Record, Stage, room, sums_of
 from .wishes import FeedWish, Study
 
@@ -23,6 +27,7 @@ FEED, PLANNED, POINTS = "inputs/feed", "inputs/planned", "inputs/points"
 FOOTPATHS, ORIGINS, OPPORTUNITIES = "inputs/footpaths.csv", "inputs/origins.csv", "inputs/opportunities.csv"
 SCENARIOS = "inputs/scenarios"
 COUNTED = "opportunities"  # the column of `ttm`
+BASE = "base"  # what `ttm` calls the feed as it is
 
 
 @dataclass(frozen=True)
@@ -31,6 +36,8 @@ class Inputs:
 
     run: Run
     base: str  # the scenario that others are compared with
+    left_out: tuple[str, ...]  # scenarios of the run that nobody asks for
+    tables: list[str]  # files of opportunities
     records: dict[str, Record]
 
     @property
@@ -38,32 +45,94 @@ class Inputs:
         return str(self.run.feed)
 
     @property
+    def edits(self) -> dict[str, str]:
+        """The scenario files by the names of their scenarios."""
+        return {Path(path).name.removesuffix(".csv"): str(path) for path in self.run.scenarios}
+
+    @property
+    def outputs(self) -> dict[str, str]:
+        """The sums of all files that were made."""
+        return {name: was for record in self.records.values() for name, was in record.outputs.items()}
+
+    @property
     def sums(self) -> dict[str, str]:
         """The sums of all files that the run reads, by their names in the folder."""
-        known = {name: was for record in self.records.values() for name, was in record.outputs.items()}
         named = {str(path) for path in [*self.run.scenarios, *self.run.files.values()]}
-        return {name: was for name, was in known.items() if name in named or name.startswith(f"{self.feed}/")}
+        known = self.outputs.items()
+        return {name: was for name, was in known if name in named or name.startswith(f"{self.feed}/")}
+
+    @property
+    def stops_sum(self) -> str:
+        return self.outputs[f"{self.feed}/stops.txt"]
+
+
+class Maker:
+    """Does the stages before the run, one after the other, and keeps what each has made."""
+
+    def __init__(self, study: Study, folder: Folder) -> None:
+        self.study, self.folder = study, folder
+        self.feed = FEED
+        self.records: dict[str, Record] = {}
+        self.files: dict[str, str] = {}
+
+    def do(self, stage: Stage) -> Record:
+        self.records[stage.name] = self.folder.do(stage)
+        return self.records[stage.name]
+
+    @property
+    def feed_sums(self) -> dict[str, str]:
+        """The sums of the feed's files as it is by now."""
+        known = {name: was for record in self.records.values() for name, was in record.outputs.items()}
+        return {name: was for name, was in known.items() if name.startswith(f"{self.feed}/")}
+
+    @property
+    def stops_sum(self) -> str | None:
+        return self.feed_sums.get(f"{self.feed}/stops.txt")
+
+    def scenarios(self) -> list[str]:
+        """The scenario files: those of a plan, whose feed has the trips of all, or those that are named."""
+        if self.study.scenarios.plan:
+            self.do(plan_stage(self))
+            self.feed = PLANNED
+            words = shlex.split((Path(PLANNED) / plans.WORDS).read_text(encoding="utf-8", errors="surrogateescape"))
+            return words[2:]
+        if self.study.scenarios.files:
+            self.do(scenarios_stage(self.study))
+        return [f"{SCENARIOS}/{Path(path).name}" for path in self.study.scenarios.files]
+
+    def walks(self) -> None:
+        """Walks between stops, or between points and stops."""
+        if self.study.points.all:
+            self.do(points_stage(self))
+            self.feed = f"{POINTS}/{points.FEED}"
+            self.files["footpaths"] = f"{POINTS}/footpaths.csv"
+        elif not self.study.walks.none:
+            self.do(walks_stage(self))
+            self.files["footpaths"] = FOOTPATHS
+
+    def tables(self) -> list[str]:
+        """The files of opportunities: those that are named, and that of points with numbers."""
+        own = f"{self.feed}/{points.POINTS}" if self.study.points.all else None
+        has_numbers = own is not None and bool(number_columns(own))
+        return [*([own] if own and has_numbers else []), *map(self.study.at, self.study.opportunities.files)]
 
 
 def make_inputs(study: Study, folder: Folder) -> Inputs:
     """Does all stages that come before the run."""
-    records = {"feed": folder.do(feed_stage(study))}
-    feed, files = FEED, dict[str, str]()
-    stage = walks_stage(study, feed, records["feed"])
+    maker = Maker(study, folder)
+    maker.do(feed_stage(study))
+    scenarios = maker.scenarios()
+    maker.walks()
+    maker.do(origins_stage(maker))
+    maker.files["origins"] = ORIGINS
+    tables = maker.tables()
+    stage = opportunities_stage(maker, tables)
     if stage is not None:
-        records["walks"] = folder.do(stage)
-        files["footpaths"] = FOOTPATHS
-    records["origins"] = folder.do(origins_stage(study, feed, records["feed"]))
-    files["origins"] = ORIGINS
-    stage = opportunities_stage(study, feed, records["feed"])
-    if stage is not None:
-        records["opportunities"] = folder.do(stage)
-        files["opportunities"] = OPPORTUNITIES
-    scenarios = list[str]()
-    if study.scenarios.files:
-        records["scenarios"] = folder.do(scenarios_stage(study))
-        scenarios = [f"{SCENARIOS}/{Path(path).name}" for path in study.scenarios.files]
-    return Inputs(run_of(study, feed, files, scenarios), "base", records)
+        maker.do(stage)
+        maker.files["opportunities"] = OPPORTUNITIES
+    is_planned = study.scenarios.plan is not None
+    base, left_out = (TODAY, (BASE,)) if is_planned else (BASE, ())
+    return Inputs(run_of(study, maker.feed, maker.files, scenarios), base, left_out, tables, maker.records)
 
 
 def run_of(study: Study, feed: str, files: dict[str, str], scenarios: Sequence[str]) -> Run:
@@ -129,13 +198,19 @@ def taken(path: str) -> list[str]:
     return [f"{FEED}: {len(files)} files as they are"]
 
 
-def walks_stage(study: Study, feed: str, record: Record) -> Stage | None:
+def plan_stage(maker: Maker) -> Stage:
+    """The feed that has the trips of all scenarios of a plan, and their files."""
+    plan, feed = maker.study.at(maker.study.scenarios.plan or ""), maker.feed
+
+    def make() -> list[str]:
+        return plans.make(feed, plan, PLANNED).lines
+
+    return Stage("plan", {"feed": maker.feed_sums, "inputs": sums_of([plan])}, [PLANNED], make)
+
+
+def walks_stage(maker: Maker) -> Stage:
     """Walks between the stops."""
-    wish = study.walks
-    if wish.none:
-        return None
-    source = [study.at(path) for path in (wish.streets, wish.table) if path]
-    pace = Pace(study.walk_limit, wish.speed, wish.detour)
+    study, wish, feed = maker.study, maker.study.walks, maker.feed
 
     def make() -> list[str]:
         stops, rounded = read_stops(feed), Rounded()
@@ -143,54 +218,91 @@ def walks_stage(study: Study, feed: str, record: Record) -> Stage | None:
             rows = read_walks(study.at(wish.table), stops, rounded)
             told = f"{rounded.count:,} seconds with decimals were rounded up"
         else:
-            found = straight_walks(stops, pace)
-            rows, told = found.rows(), f"{found.lost:,} stops have no coordinates"
+            found = walker(study)(stops)
+            rows, told = found.rows(), what_is_told(found, "stops", wish.near)
         with open(FOOTPATHS, "wb") as file:
             write_rows(file, ["from_stop_id", "to_stop_id", "seconds"], rows)
         return [f"{FOOTPATHS}: {len(rows):,} footpaths; {told}"]
 
-    facts = {"pace": [pace.limit, pace.speed, pace.detour, wish.near], "inputs": sums_of(source)}
-    return Stage("walks", {"stops": record.outputs.get(f"{feed}/stops.txt"), **facts}, [FOOTPATHS], make)
+    return Stage("walks", {"stops": maker.stops_sum, **walk_facts(study)}, [FOOTPATHS], make)
 
 
-def origins_stage(study: Study, feed: str, record: Record) -> Stage:
-    """Where journeys begin."""
-    given = study.at(study.run.origins) if study.run.origins else None
+def walk_facts(study: Study) -> dict[str, Any]:
+    """What walks depend on beside places."""
+    wish = study.walks
+    source = [study.at(path) for path in (wish.streets, wish.table) if path]
+    return {"pace": [study.walk_limit, wish.speed, wish.detour, wish.near], "streets": sums_of(source)}
+
+
+def walker(study: Study) -> Callable[[Stops], Walks]:
+    """What makes walks between places."""
+    wish = study.walks
+    pace = Pace(study.walk_limit, wish.speed, wish.detour)
+    return lambda stops: walks_of(stops, pace, study.at(wish.streets) if wish.streets else None, wish.near)
+
+
+def points_stage(maker: Maker) -> Stage:
+    """The feed with points as stops, and the walks to and from them."""
+    study, wish, feed = maker.study, maker.study.points, maker.feed
+    begins = [path in (*wish.files, *wish.origins) for path in wish.all]
+    ends = [path in (*wish.files, *wish.destinations) for path in wish.all]
+    paths = [study.at(path) for path in wish.all]
 
     def make() -> list[str]:
-        origins = origins_in(given) if given else origins_of_feed(feed)
+        files, limit, near = [read_points(path) for path in paths], study.walk_limit, study.walks.near
+        asked = points.Asked(feed, POINTS, files, begins, ends, limit, wish.leave_out, near)
+        return points.make(asked, walker(study))
+
+    facts = {"begins": begins, "ends": ends, "leave_out": wish.leave_out, "inputs": sums_of(paths)}
+    return Stage("points", {"feed": maker.feed_sums, **walk_facts(study), **facts}, [POINTS], make)
+
+
+def origins_stage(maker: Maker) -> Stage:
+    """Where journeys begin."""
+    study, feed = maker.study, maker.feed
+    named = study.at(study.run.origins) if study.run.origins else None
+    given = f"{POINTS}/origins.csv" if study.points.all else named
+
+    def make() -> list[str]:
+        known = origins_of_feed(feed)
+        origins = origins_in(given) if given else known
         if not origins:
             raise BadInput(given or f"{feed}/stops.txt", "no origins")
-        known = set(origins_of_feed(feed))
-        lost = next(((number, stop) for number, stop in enumerate(origins, 2) if stop not in known), None)
+        among = set(known)
+        lost = next(((number, stop) for number, stop in enumerate(origins, 2) if stop not in among), None)
         if lost is not None:
-            raise BadInput(given or feed, f"{lost[1]} is no stop of the feed", record=lost[0])
+            raise BadInput(given or feed, f"{shown(lost[1])} is no stop of the feed", record=lost[0])
         with open(ORIGINS, "wb") as file:
             write_rows(file, ["stop_id"], [[stop] for stop in origins])
         return [f"{ORIGINS}: {len(origins):,} origins"]
 
-    depends = {"stops": record.outputs.get(f"{feed}/stops.txt"), "inputs": sums_of([given] if given else [])}
-    return Stage("origins", depends, [ORIGINS], make)
+    return Stage("origins", {"stops": maker.stops_sum, "inputs": sums_of([given] if given else [])}, [ORIGINS], make)
 
 
-def counted_column(study: Study) -> str | None:
+def number_columns(path: str) -> list[str]:
+    """The columns of numbers of a file of points; there may be none."""
+    try:
+        return [called(name, path) for name in columns_of(path)]
+    except BadInput:
+        return []
+
+
+def counted_column(study: Study, tables: Sequence[str]) -> str | None:
     """The column that `ttm` counts: the one that is named, or the only one."""
-    paths = [study.at(path) for path in study.opportunities.files]
-    found = [called(name, path) for path in paths for name in columns_of(path)]
+    found = [called(name, path) for path in tables for name in columns_of(path)]
     return study.opportunities.column or (found[0] if len(found) == 1 else None)
 
 
-def opportunities_stage(study: Study, feed: str, record: Record) -> Stage | None:
+def opportunities_stage(maker: Maker, tables: Sequence[str]) -> Stage | None:
     """What each stop counts for."""
-    column = counted_column(study)
-    paths = [study.at(path) for path in study.opportunities.files]
+    column, feed = counted_column(maker.study, tables), maker.feed
     if column is None:
         return None
     chosen = [column]
 
     def make() -> list[str]:
         stops, rounded = origins_of_feed(feed), Rounded()
-        numbers = read_counts(paths, stops, "stop of the feed", chosen).numbers[:, 0]
+        numbers = read_counts(tables, stops, "stop of the feed", chosen).numbers[:, 0]
         rows = [
             [stop, rounded.whole(repr(number), OPPORTUNITIES, place, COUNTED, up=False)]
             for place, (stop, number) in enumerate(zip(stops, numbers.tolist()), 2)
@@ -199,10 +311,10 @@ def opportunities_stage(study: Study, feed: str, record: Record) -> Stage | None
         with open(OPPORTUNITIES, "wb") as file:
             write_rows(file, ["stop_id", COUNTED], rows)
         whole = f"; {rounded.count:,} numbers with decimals were rounded" if rounded.count else ""
-        return [f"{OPPORTUNITIES}: {column} of {len(rows):,} stops{whole}"]
+        return [f"{OPPORTUNITIES}: {shown(chosen[0])} at {len(rows):,} stops{whole}"]
 
-    stops = record.outputs.get(f"{feed}/stops.txt")
-    return Stage("opportunities", {"stops": stops, "column": column, "inputs": sums_of(paths)}, [OPPORTUNITIES], make)
+    facts = {"stops": maker.stops_sum, "column": column, "inputs": sums_of(tables)}
+    return Stage("opportunities", facts, [OPPORTUNITIES], make)
 
 
 def scenarios_stage(study: Study) -> Stage:

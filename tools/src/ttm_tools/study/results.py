@@ -1,4 +1,4 @@
-"""What is made of the matrix: tables of access, of winners and losers, and maps. Each is a stage of its own."""
+"""What is made of the matrix: tables of access, of winners and losers, and of equity. Each is a stage of its own."""
 
 import re
 from dataclasses import dataclass
@@ -6,13 +6,16 @@ from typing import Any
 
 import numpy as np
 
+from ..feed import Floats, Stops
 from ..files import output
 from ..matrices import Matrix, Share, open_matrix, pair_of
 from ..measures.access import Decay, access
+from ..measures.access_table import read_access
 from ..measures.comparison import Comparison, compare
 from ..measures.opportunities import Counts, read_counts
-from ..feed import Floats, read_stops
+from ..points.shown import shown_of
 from ..records import shown
+from ..views import equity
 from ..views.access import ACCESS, LONG, measured, write_access
 from ..views.differences import summary, write_origins, write_pairs
 from .inputs import Inputs
@@ -20,8 +23,9 @@ from .joining import MATRIX
 from .stages import Folder, Record, Stage, sums_of
 from .wishes import Study
 
-ACCESS_TABLE, EQUITY_TABLE = "access.csv", "equity.csv"
+ACCESS_TABLE, EQUITY_TABLE, EQUITY_PAGE = "access.csv", "equity.csv", "equity.md"
 STOPS = "stops"  # what is counted where nothing else is named
+LOSE = 10.0  # percent of the base's access, from which on somebody counts as a loser
 
 
 @dataclass(frozen=True)
@@ -31,61 +35,64 @@ class Whole:
     study: Study
     inputs: Inputs
     sum: str  # of the matrix' file
+    scenarios: list[str]
 
     @property
-    def others(self) -> list[str]:
-        """The scenarios beside the base."""
-        return [name for name in open_matrix(MATRIX).scenarios if name != self.inputs.base]
+    def others(self) -> dict[str, str]:
+        """The scenarios beside the base, and how their files are called."""
+        return file_names([name for name in self.scenarios if name != self.inputs.base])
 
     @property
     def depends(self) -> dict[str, Any]:
         """What every result depends on."""
-        return {"matrix": self.sum, "base": self.inputs.base, "share": self.study.share, "within": self.study.within}
+        known = {"matrix": self.sum, "base": self.inputs.base, "stops": self.inputs.stops_sum}
+        return {**known, "share": self.study.share, "within": self.study.within}
+
+    def open(self) -> tuple[Matrix, Stops]:
+        """The matrix, with names and places of what it shows."""
+        matrix, stops = shown_of(open_matrix(MATRIX), self.inputs.feed, None)
+        assert stops is not None  # a feed was named
+        return matrix, stops
 
 
-def file_name(scenario: str) -> str:
-    """A scenario's name as a file may be called."""
-    return re.sub(r"[^\w.-]", "_", shown(scenario)).lstrip(".") or "_"
+def file_name(name: str) -> str:
+    """A scenario's or a stop's name as a file may be called."""
+    return re.sub(r"[^\w.-]", "_", shown(name)).lstrip(".") or "_"
 
 
-def file_names(scenarios: list[str]) -> dict[str, str]:
-    """The same of some scenarios, no two alike."""
+def file_names(names: list[str]) -> dict[str, str]:
+    """The same of some names, no two alike."""
     made: dict[str, str] = {}
-    for scenario in scenarios:
-        name = file_name(scenario)
-        while name in made.values():
-            name += "_"
-        made[scenario] = name
+    for name in names:
+        file = file_name(name)
+        while file in made.values():
+            file += "_"
+        made[name] = file
     return made
 
 
-def make_results(whole: Whole, folder: Folder) -> dict[str, Record]:
-    """Does all stages behind the matrix, the report aside."""
+def make_tables(whole: Whole, folder: Folder) -> dict[str, Record]:
+    """Does all stages that make tables."""
     wish, made = whole.study.results, dict[str, Record]()
     if wish.access:
         made["access"] = folder.do(access_stage(whole))
+        if whole.study.opportunities.people:
+            made["equity"] = folder.do(equity_stage(whole, made["access"]))
     if wish.compare:
-        for scenario, name in file_names(whole.others).items():
-            made[f"compare_{name}"] = folder.do(compare_stage(whole, scenario, name))
+        for scenario, name in whole.others.items():
+            stage = compare_stage(whole, scenario, name)
+            made[stage.name] = folder.do(stage)
     return made
-
-
-def counts_of(study: Study, matrix: Matrix) -> Counts:
-    """What there is at each stop: the columns of the files, or the stops themselves."""
-    paths = [study.at(path) for path in study.opportunities.files]
-    if paths:
-        return read_counts(paths, matrix.stops, "stop of the matrix")
-    return Counts([STOPS], np.ones((len(matrix.stops), 1)))
 
 
 def access_stage(whole: Whole) -> Stage:
     """The table of access: all scenarios, shares, opportunities and cutoffs."""
-    study, wish = whole.study, whole.study.results
-    paths = [study.at(path) for path in study.opportunities.files]
+    study, wish, tables = whole.study, whole.study.results, whole.inputs.tables
 
     def make() -> list[str]:
-        matrix = open_matrix(MATRIX)
-        counts = counts_of(study, matrix)
+        matrix, _ = whole.open()
+        stops = Counts([STOPS], np.ones((len(matrix.stops), 1)))
+        counts = read_counts(tables, matrix.stops, "stop of the matrix") if tables else stops
         decay = Decay(wish.decay, wish.decay_value)
 
         def measure(scenario: str, share: Share) -> Floats:
@@ -97,8 +104,25 @@ def access_stage(whole: Whole) -> Stage:
         return [f"{ACCESS_TABLE}: {', '.join(map(shown, counts.names))}"]
 
     words = [wish.decay, wish.decay_value, list(study.cutoffs)]
-    depends = {"matrix": whole.sum, "words": words, "inputs": sums_of(paths)}
-    return Stage("access", depends, [ACCESS_TABLE], make)
+    return Stage("access", {"matrix": whole.sum, "words": words, "inputs": sums_of(tables)}, [ACCESS_TABLE], make)
+
+
+def equity_stage(whole: Whole, record: Record) -> Stage:
+    """How access is spread over people."""
+    study = whole.study
+    people, groups = study.at(study.opportunities.people or ""), study.opportunities.groups
+
+    def make() -> list[str]:
+        table = read_access(ACCESS_TABLE)
+        counts = read_counts([people], table.origins, f"origin of {ACCESS_TABLE}", groups)
+        asked = equity.Asked(whole.inputs.base, LOSE, table.kinds)
+        for path, form in ((EQUITY_TABLE, equity.CSV), (EQUITY_PAGE, equity.MARKDOWN)):
+            with output(path) as file:
+                equity.write_equity(file, equity.measured(table, counts, asked), form)
+        return [f"{EQUITY_TABLE}: {', '.join(map(shown, counts.names))}"]
+
+    depends = {"access": record.outputs, "base": whole.inputs.base, "groups": groups, "inputs": sums_of([people])}
+    return Stage("equity", depends, [EQUITY_TABLE, EQUITY_PAGE], make)
 
 
 def compare_stage(whole: Whole, scenario: str, name: str) -> Stage:
@@ -107,9 +131,9 @@ def compare_stage(whole: Whole, scenario: str, name: str) -> Stage:
     by_origin, by_pair = f"compare_{name}.csv", f"compare_{name}_pairs.csv"
 
     def make() -> list[str]:
-        matrix = open_matrix(MATRIX)
+        matrix, stops = whole.open()
         pair = pair_of(matrix, whole.inputs.base, scenario, study.share)
-        place, stops = matrix.limit(study.within)[0], read_stops(whole.inputs.feed)
+        place = matrix.limit(study.within)[0]
         made: Comparison = compare(pair, wish.differs, with_pairs=wish.pairs)
         with output(by_origin) as file:
             write_origins(file, pair, place, made, stops)
@@ -118,6 +142,5 @@ def compare_stage(whole: Whole, scenario: str, name: str) -> Stage:
                 write_pairs(file, pair, made.changes, stops)
         return summary(pair, made, wish.differs, place)
 
-    feed = whole.inputs.records["feed"].outputs.get(f"{whole.inputs.feed}/stops.txt")
-    depends = {**whole.depends, "scenario": scenario, "words": [wish.differs, wish.pairs], "stops": feed}
+    depends = {**whole.depends, "scenario": scenario, "words": [wish.differs, wish.pairs]}
     return Stage(f"compare_{name}", depends, [by_origin, *([by_pair] if wish.pairs else [])], make)

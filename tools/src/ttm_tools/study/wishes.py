@@ -111,8 +111,9 @@ class OpportunityWish:
         TEXT, "the column that ttm counts as access; without it the only one, else 1 for each stop", '"jobs"', None
     )
     people: str | None = told(
-        FILE, "a table with stop_id (or id) and numbers of residents, for equity", '"people.csv"', None
+        FILE, "a table with stop_id (or id) and numbers of residents by origin, for equity", '"people.csv"', None
     )
+    groups: tuple[str, ...] = told(TEXTS, "its columns that count; without it, all", '["residents"]', ())
 
 
 @dataclass(frozen=True)
