@@ -5,7 +5,7 @@ from pathlib import Path
 
 import pytest
 
-from helpers import Room, Town, read, town_matrix
+from helpers import Cell, Room, Town, read, town_matrix
 
 STOPS = [["A", "Alpha", 50.0, 8.0], ["B", "Beta", 50.0, 8.014], ["C", "", 50.0, 8.028], ["D", "Delta", 50.0, 8.042]]
 CALENDAR = "service_id,monday,tuesday,wednesday,thursday,friday,saturday,sunday,start_date,end_date"
@@ -384,8 +384,10 @@ def test_lines_are_counted_past_comments_and_long_texts(small: Room) -> None:
 
 def test_today_is_the_base_and_what_has_everything_is_left_out(town: Town) -> None:
     """Of three scenarios, as a run with the files of a plan prints them; `--base base` compares with it too."""
-    tables = {"base": {"A": [0, 1, 2, 3]}, "today": {"A": [0, 300, 900, ""]}, "tram": {"A": [0, 200, 900, 800]}}
-    town.matrix(town_matrix(True, tables))
+    today: list[Cell] = [0, 300, 900, ""]
+    town.matrix(
+        town_matrix(True, {"base": {"A": [0, 1, 2, 3]}, "today": {"A": today}, "tram": {"A": [0, 200, 900, 800]}})
+    )
     out, told, status = town.ran("compare", town.file)
     assert (read(out)[0]["what"], told.split(":")[0], status) == ("new", "tram beside today", 0)
     assert town.ran("compare", "--base", "base", "--scenario", "tram", town.file)[1].startswith("tram beside base")
@@ -403,3 +405,20 @@ def test_today_is_the_base_and_what_has_everything_is_left_out(town: Town) -> No
     Path(town.path("access.csv")).write_text(out)
     out, _, _ = town.ran("equity", town.path("access.csv"), "--people", town.write("p.csv", "id,all", [["A", 3]]))
     assert [(row["scenario"], row["mean"]) for row in read(out)] == [("today", "7"), ("tram", "15")]
+
+
+def test_walks_that_bring_old_stops_nearer_are_told(small: Room) -> None:
+    """From A to B by way of N 590 seconds; straight lines and these three sides of a triangle bring nothing nearer."""
+    line = 'do = "add_line"\nroute = "T"\nstops = ["A", "N"]\nspeed = 30\nservice = "M"'
+    made(small, f'{line}\ndepartures = [{{ first = "8:00", last = "8:00", every = 60 }}]', before=NEW_STOP)
+    told = f"{small.path('out/footpaths.csv')}: {{}} footpaths; {{}}\n"
+    assert small.ran("walks", "--limit", "3000", small.path("out"))[1] == told.format(20, "0 stops have no coordinates")
+    table = [["A", "N", 290], ["N", "B", 300], ["A", "B", 590], ["B", "A", 600]]
+    small.write("walks.csv", "from_stop_id,to_stop_id,seconds", table)
+    words = ["walks", "--table", small.path("walks.csv"), small.path("out")]
+    assert small.ran(*words)[1] == told.format(4, "0 seconds with decimals were rounded up")
+    small.write("walks.csv", "from_stop_id,to_stop_id,seconds", [*table[:2], ["A", "B", 591], ["B", "A", 600]])
+    nearer = "walks to new stops bring 1 pairs of old stops nearer, so today isn't as it was: A and B, "
+    assert small.ran(*words)[1].splitlines()[1] == f"{nearer}590 seconds apart by way of them, and 591 without"
+    small.write("walks.csv", "from_stop_id,to_stop_id,seconds", [*table[:2], ["B", "A", 600]])
+    assert small.ran(*words)[1].endswith("590 seconds apart by way of them, and out of reach without\n")
