@@ -84,3 +84,16 @@ def test_a_damaged_feed_is_told_and_mended_as_the_page_says(room: Room, program:
     page = commands("Getting a feed ready")
     assert len(page) > 7
     prints_what_is_said(room, page)
+
+
+def test_a_plan_is_carried_out_as_the_page_says(room: Room, program: str) -> None:
+    for package in ("matplotlib", "pandas"):
+        pytest.importorskip(package)
+    make_town(room, program)
+    (plan,) = re.findall(r"^```toml\n(.*?)^```", PAGE.read_text(), re.MULTILINE | re.DOTALL)
+    Path(room.path("plan.toml")).write_text(plan)
+    begin = ("export", "unzip", "ttm-tools walks", "printf", "ttm --feed")
+    page = [it for it in commands("One question, from zip to picture") if it[0].startswith(begin)]
+    page += commands("A tram every ten minutes, and what it brings")
+    assert len(page) > 14
+    prints_what_is_said(room, page)
