@@ -3,8 +3,9 @@
 
     pages.py PAGE [SECTION ..]      all sections with commands but those for many machines, or the named ones
 
-A command is an indented line that begins with `$ `; what it prints are the indented lines after it. Lines of `ttm`'s
-report tell of the machine and of time, and aren't compared. Standard library only.
+A command is an indented line that begins with `$ `; what it prints are the indented lines after it. A block of TOML is
+written as plan.toml before. Lines of `ttm`'s report tell of the machine and of time, and aren't compared. Standard
+library only.
 """
 
 from __future__ import annotations
@@ -56,6 +57,12 @@ def commands(section: str) -> list[Command]:
     return found
 
 
+def write_files(section: str, folder: Path) -> None:
+    """Writes the plan of a section."""
+    for text in re.findall(r"^```toml\n(.*?)^```", section, re.MULTILINE | re.DOTALL):
+        (folder / "plan.toml").write_text(text, encoding="utf-8")
+
+
 def differences(page: list[Command], folder: Path, environment: dict[str, str]) -> list[str]:
     """What the commands print otherwise than the page says: a text for each; none where all is as it says."""
     script = "\n".join(f"{command.text}\necho '{END}'" for command in page)
@@ -76,6 +83,8 @@ def main(words: list[str]) -> int:
     known = sections(Path(words[0]).read_text(encoding="utf-8"))
     named = words[1:] or [it for it in known if it not in ELSEWHERE]
     page = [command for name in named for command in commands(known[name])]
+    for name in named:
+        write_files(known[name], Path.cwd())
     found = differences(page, Path.cwd(), {**os.environ, "LC_ALL": "C.UTF-8"})
     for text in found:
         print(text)

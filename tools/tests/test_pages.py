@@ -35,14 +35,18 @@ def make_town(room: Room, program: str) -> None:
     os.symlink(ROOT / "tools", room.folder / "tools")
 
 
+def environment_of(room: Room) -> dict[str, str]:
+    path = os.pathsep.join([os.path.dirname(sys.executable), room.path("tools"), os.environ["PATH"]])
+    return {**os.environ, "PATH": path, "LC_ALL": "C.UTF-8"}
+
+
 def prints_what_is_said(room: Room, *names: str, before: str = "true") -> int:
     """Each command of some sections prints what the page says, after one that prints nothing; gives how many there
     are.
     """
     known = pages.sections(PAGE.read_text())
     page = [pages.Command(before), *(command for name in names for command in pages.commands(known[name]))]
-    path = os.pathsep.join([os.path.dirname(sys.executable), room.path("tools"), os.environ["PATH"]])
-    assert pages.differences(page, room.folder, {**os.environ, "PATH": path, "LC_ALL": "C.UTF-8"}) == []
+    assert pages.differences(page, room.folder, environment_of(room)) == []
     return len(page) - 1
 
 
@@ -68,3 +72,17 @@ def test_travel_times_from_door_to_door_as_the_page_says(room: Room, program: st
     edits = "printf 'action,id,seconds\\nremove_route,L0013,\\n' > no13.csv"
     section = "Access to jobs from 2,000 cells, before and after"
     assert prints_what_is_said(room, section, before=f"{before}; {edits}") > 9
+
+
+def test_a_plan_is_carried_out_as_the_page_says(room: Room, program: str) -> None:
+    for package in ("matplotlib", "pandas"):
+        pytest.importorskip(package)
+    make_town(room, program)
+    known = pages.sections(PAGE.read_text())
+    section = "A tram every ten minutes, and what it brings"
+    pages.write_files(known[section], room.folder)
+    begin = ("export", "unzip", "ttm-tools walks", "printf", "ttm --feed")
+    page = [it for it in pages.commands(known["One question, from zip to picture"]) if it.text.startswith(begin)]
+    page += pages.commands(known[section])
+    assert len(page) > 14
+    assert pages.differences(page, room.folder, environment_of(room)) == []
