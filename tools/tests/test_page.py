@@ -273,7 +273,7 @@ def test_the_town_as_the_program_computes_it(town: Town, browser: Browser, progr
     town.take(program, f"--feed {town.feed} {run} --footpaths {town.feed}/footpaths.csv {cut}")
     browser.open(page(town, "--edits", cut, "--words", run))
     matrix = open_matrix(town.file)
-    for origin in random.Random(1).sample(matrix.stops, 5):
+    for origin in random.Random(1).sample(matrix.stops, 3):
         browser.run("return set({ view: 'times', scenario: 1, difference: true })")
         browser.click(origin)
         browser.press("#all-part summary")
