@@ -13,6 +13,7 @@ from ..files import Interrupted, unwind_on_signals
 
 COMMANDS = (
     "prepare",
+    "scenarios",
     "walks",
     "points",
     "split",
@@ -22,9 +23,11 @@ COMMANDS = (
     "equity",
     "explain",
     "map",
+    "page",
     "long",
     "omx",
     "gis",
+    "study",
 )
 NO_MEMORY = 3
 

@@ -3,7 +3,7 @@
 import argparse
 from typing import TYPE_CHECKING
 
-from .options import add_matrix, add_number, add_numbers, add_out, add_points, add_share, add_text
+from .options import add_matrix, add_number, add_numbers, add_out, add_points, add_share, add_text, scenarios_of
 
 if TYPE_CHECKING:
     from ..feed import Floats
@@ -65,7 +65,7 @@ def run(words: argparse.Namespace) -> int:
     if words.nearest and min(words.nearest) <= 0:
         raise WrongWords("--nearest needs numbers above 0")
     matrix, _ = shown_of(open_matrix(words.matrix), None, words.points)
-    scenarios = matrix.scenarios if words.scenario is None else [matrix.scenario(words.scenario)]
+    scenarios = scenarios_of(matrix, [words.scenario] if words.scenario else None)
     shares = matrix.shares if words.share is None else [matrix.share(words.share)]
     counts = read_counts(words.opportunities, matrix.stops, "stop of the matrix", words.column)
 

@@ -2,10 +2,10 @@
 
 from ..faults import needs
 from ..feed import Stops
-from .straight import Pace, Walks, read_walks, straight_walks
+from .straight import Pace, Walks, distances, points_of, read_walks, straight_walks
 
 NEAR = 100.0  # metres to a street
-__all__ = ["NEAR", "Pace", "Walks", "read_walks", "straight_walks", "told", "walks_of"]
+__all__ = ["NEAR", "Pace", "Walks", "distances", "points_of", "read_walks", "straight_walks", "told", "walks_of"]
 
 
 def walks_of(stops: Stops, pace: Pace, streets: str | None = None, near: float = NEAR) -> Walks:
