@@ -14,10 +14,10 @@ from .matrices import BASE, TODAY, Matrix, open_matrix
 from .measures.journeys import Search, cell, durations, journey, network_of
 from .records import shown
 from .timetable import DAY, Walks, Whole, read_edits, read_timetable, read_walks, runs_of
-from .views.journeys import Asked, Found, text_of
+from .views.journeys import Asked, Found
 
 
-def explained(
+def found_of(
     asked: Run,
     date: datetime.date,
     origin: str,
@@ -25,9 +25,9 @@ def explained(
     *,
     program: Pathlike | None = None,
     matrix: str | None = None,
-) -> list[str]:
-    """The lines that tell it for the base and each scenario. The travel times beside are those of a matrix, or of a run
-    of the program.
+) -> tuple[Asked, list[Found]]:
+    """What is found for the base and each scenario. The travel times beside are those of a matrix, or of a run of the
+    program.
     """
     stops = read_stops(str(asked.feed))
     for name in (origin, destination):
@@ -41,16 +41,16 @@ def explained(
         cells = cells_of_ttm(asked, names, origin, destination, program)
     timetable = read_timetable(stops)
     footpaths = asked.files.get("footpaths")
-    walks, changes = read_walks(timetable, None if footpaths is None else str(footpaths), asked.walk)
     first, last = (int(text[:2]) * 60 + int(text[3:]) for text in asked.window)
     departures = [DAY * asked.back + 60 * minute for minute in range(first, last + 1)]
     begin, end = map(timetable.stops.index, (origin, destination))
+    walks, changes = read_walks(timetable, None if footpaths is None else str(footpaths), asked.walk, begin)
     what = Asked(timetable, begin, end, departures, asked.back, asked.shares[0], told_of(asked, date))
     found = []
     for name, seconds in cells.items():
         found.append(found_in(what, asked, date, name, files[name], walks, changes))
         tell_difference(found[-1], seconds, origin, destination)
-    return list(text_of(what, found))
+    return what, found
 
 
 def scenarios_of(files: Sequence[Pathlike]) -> dict[str, Pathlike | None]:

@@ -15,6 +15,7 @@ COMMANDS = (
     "prepare",
     "scenarios",
     "walks",
+    "points",
     "split",
     "join",
     "compare",
@@ -22,9 +23,11 @@ COMMANDS = (
     "equity",
     "explain",
     "map",
+    "page",
     "long",
     "omx",
     "gis",
+    "study",
 )
 NO_MEMORY = 3
 

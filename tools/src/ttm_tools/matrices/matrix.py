@@ -61,6 +61,13 @@ class Matrix(ABC):
         """Where each stop's column stands."""
         return {name: place for place, name in enumerate(self.stops)}
 
+    def stops_and_origins(self) -> list[str]:
+        """All stops of the columns, and behind them those origins that aren't among them."""
+        origins = (
+            name for scenario in self.scenarios for share in self.shares for name in self.origins(scenario, share)
+        )
+        return list(dict.fromkeys([*self.stops, *origins]))
+
     @property
     def base(self) -> str:
         """The scenario that others are compared with where none is named: of those of a plan, today."""

@@ -5,7 +5,7 @@ from dataclasses import dataclass, field, replace
 from typing import Any
 
 from ..faults import BadInput
-from ..feed import Projection, Stops, has_file, lines_of, read_stops
+from ..feed import Projection, Stops, has_file, lines_of
 from ..matrices import Matrix
 from . import drawing
 from .lines import Planned, lines_of_edits, lines_of_plan
@@ -35,24 +35,26 @@ def picture_of(kind: str, matrix: Matrix, stops: Stops, origin: str | None, wish
     if origin is not None and origin not in stops.places:
         raise BadInput(stops.path, f"no stop {origin}")
     if kind == "access":
-        return picture_of_access(matrix, stops, wish)
-    if origin is None:
-        return picture_of_access_difference(matrix, stops, wish)
-    return (picture_of_times if kind == "times" else picture_of_time_difference)(matrix, stops, origin, wish)
+        made = picture_of_access(matrix, stops, wish)
+    elif origin is None:
+        made = picture_of_access_difference(matrix, stops, wish)
+    else:
+        made = (picture_of_times if kind == "times" else picture_of_time_difference)(matrix, stops, origin, wish)
+    return replace(made, what=wish.what)
 
 
 def figure_of(picture: Picture, matrix: Matrix, stops: Stops, folder: str, sheet: Sheet, base: str | None) -> Any:
     """The figure of a picture over the lines of a feed; in a difference from a base lines that a scenario adds are told
     from those that it takes out.
     """
-    shown_stops = stops.of(matrix.stops)
+    shown_stops = stops.of(picture.drawn or matrix.stops)
     lost = int((~shown_stops.placed).sum())
     if lost == len(shown_stops.identifiers):
         raise BadInput(stops.path, "no stop has stop_lat and stop_lon, so there is nothing to draw")
     if lost:
-        print(f"{lost} stops have no stop_lat and stop_lon and are not drawn", file=sys.stderr)
+        print(f"{lost} {picture.what} have no stop_lat and stop_lon and are not drawn", file=sys.stderr)
     projection = Projection(shown_stops.latitudes, shown_stops.longitudes)
-    points, shaped = lines_of(folder, shown_stops, projection), has_file(folder, "shapes.txt")
+    points, shaped = lines_of(folder, stops, projection), has_file(folder, "shapes.txt")
     if sheet.planned is None:
         lines = lines_of_edits(points, folder, shaped, sheet.edits, base)
     else:
@@ -60,10 +62,3 @@ def figure_of(picture: Picture, matrix: Matrix, stops: Stops, folder: str, sheet
     drawn_from = "Lines as in shapes.txt." if shaped else "Lines drawn straight from stop to stop."
     picture = replace(picture, title=sheet.title or picture.title)
     return drawing.draw(picture, shown_stops, lines, f"{drawn_from} {sheet.note}".strip(), sheet.width)
-
-
-def matrix_stops(folder: str, matrix: Matrix) -> Stops:
-    """The stops of a feed, which has all those of the matrix."""
-    stops = read_stops(folder)
-    stops.of(matrix.stops)
-    return stops
