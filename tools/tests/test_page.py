@@ -153,7 +153,7 @@ def test_names_are_text_and_nothing_is_fetched(town: Town, browser: Browser) -> 
 def test_by_keyboard_on_a_phone_and_on_paper(town: Town, browser: Browser) -> None:
     town.matrix(town_matrix(True))
     browser.size(360, 740)
-    browser.open(page(town, *jobs(town)), "view=times&scenario=base")
+    browser.open(page(town, *jobs(town)), "view=times&scenario=cut")
     browser.type("search", "BETA")  # without its accent
     assert browser.text("found") == 'Béta, "the" square (B)'
     browser.type("search", "\ue007")  # Enter
@@ -161,7 +161,10 @@ def test_by_keyboard_on_a_phone_and_on_paper(town: Town, browser: Browser) -> No
     browser.run("document.getElementById('search').value = ''")
     browser.type("search", "a", "\ue015", "\ue015", "\ue007")  # down twice: Alpha, then those with an a within
     assert browser.text("heading") == "Travel times from Delta (D)"
-    assert browser.run("return document.documentElement.scrollWidth") <= 360
+    assert browser.run("return document.documentElement.scrollWidth") == 360
+    browser.press("input[value=access]")
+    assert browser.lines("losers")[0] == ["Place", "before", "after", "change", "", "residents"]
+    assert browser.run("return document.documentElement.scrollWidth") == 360
     browser.size(1280, 800)
     printed = browser.driver.execute_cdp_cmd("Page.printToPDF", {"preferCSSPageSize": True})["data"]
     assert printed.startswith("JVBERi0")  # %PDF- in base64

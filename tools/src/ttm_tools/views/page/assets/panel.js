@@ -188,12 +188,11 @@ function showPlaceAccess(place, words, now, before) {
   if (place < 0) {
     fill("sums");
   } else if (origin < 0) {
-    fill("sums", line(nameOf(place), ["is no origin of the matrix"]));
-  } else if (before === null) {
-    fill("sums", heads(nameOf(place), words.short), line(words.scenario, [told(now[origin])]));
+    fill("sums", made("caption", `${nameOf(place)} is no origin of the matrix`));
   } else {
-    fill("sums", heads(nameOf(place), "before", "after", "change", ""),
-      line(words.short, accessChange(before[origin], now[origin])));
+    const [names, cells] = before === null ? [["reached"], [told(now[origin])]]
+      : [["before", "after", "change", ""], accessChange(before[origin], now[origin])];
+    fill("sums", made("caption", `From ${nameOf(place)}`), heads("", ...names), line(words.short, cells));
   }
 }
 
