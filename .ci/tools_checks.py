@@ -33,6 +33,8 @@ PACKAGES = {
     "tqdm": "python3-tqdm",
     "tables": "python3-tables",
     "shapely": "python3-shapely",
+    "osmium": "python3-pyosmium",
+    "networkx": "python3-networkx",
     "jinja2": "python3-jinja2",
 }
 BROWSER = {"selenium": "python3-selenium", "chromium": "chromium", "chromedriver": "chromium-driver"}  # large: the last

@@ -13,7 +13,9 @@ from ..files import Interrupted, unwind_on_signals
 
 COMMANDS = (
     "prepare",
+    "scenarios",
     "walks",
+    "points",
     "split",
     "join",
     "compare",
@@ -25,6 +27,7 @@ COMMANDS = (
     "long",
     "omx",
     "gis",
+    "study",
 )
 NO_MEMORY = 3
 

@@ -61,6 +61,8 @@ def describe(parser: argparse.ArgumentParser) -> None:
     add_text(parser, "--matrix", "FILE", told, without="ttm is run")
     told = "the program ttm"
     add_text(parser, "--program", "PATH", told, without="TTM_PROGRAM, or that on the path, or the one built here")
+    told = "where a picture of the durations by departure is written, as PNG; needs matplotlib"
+    add_text(parser, "--picture", "FILE", told, without="none is drawn")
     add_out(parser, "where it is written")
     for name in UNUSED:
         told = "a word of ttm that changes no journey (without it, nothing changes)"
@@ -83,13 +85,20 @@ def asked_of(words: argparse.Namespace) -> "Run":
 def run(words: argparse.Namespace) -> int:
     from ..faults import needs
 
-    needs("numpy", "pandas")
-    from ..explanation import explained
+    needs("numpy", "pandas", *(["matplotlib"] if words.picture else []))
+    from ..explanation import found_of
     from ..files import output
+    from ..views.departures import figure_of
+    from ..views.journeys import text_of
 
-    asked, ends = asked_of(words), (words.origin, words.destination)
-    lines = explained(asked, words.date, *ends, program=words.program, matrix=words.matrix)
+    run, ends = asked_of(words), (words.origin, words.destination)
+    asked, found = found_of(run, words.date, *ends, program=words.program, matrix=words.matrix)
+    lines = list(text_of(asked, found))
+    figure = figure_of(asked, found) if words.picture else None
     with output(words.out) as file:
         for line in lines:
             file.write(line.encode("utf-8", "backslashreplace") + b"\n")
+    if figure is not None:
+        with output(words.picture) as file:
+            figure.savefig(file, format="png", dpi="figure")
     return 0

@@ -56,8 +56,8 @@ class Page:
 
 def asked_of(matrix: Matrix, wish: Wish) -> Asked:
     """What of the matrix is shown; that it has it is looked at."""
-    base = matrix.scenario(wish.base)
-    others = [matrix.scenario(name) for name in wish.scenarios or matrix.scenarios]
+    base = matrix.scenario(wish.base or matrix.base)
+    others = [matrix.scenario(name) for name in wish.scenarios or matrix.compared]
     scenarios = list(dict.fromkeys([base, *others]))
     shares: list[Share] = matrix.shares if wish.share is None else [matrix.share(wish.share)]
     files = (wish.points, wish.opportunities, wish.people)
