@@ -304,13 +304,8 @@ def test_bad_input_is_told_in_one_line(town: Town) -> None:
     refused(f"no {lost}/leaflet.min.js, which the page needs: apt-get install libjs-leaflet", "--leaflet", lost)
     late = town.write("late.csv", "action,id,seconds", [])
     refused(f"{late}: no scenario late on the page; it has base, cut", "--edits", late)
-    points = town.write("points.csv", "id,lat,lon,width", [["A", 1, 2, "wide"]])
-    told = f"{points}: record 2: width 'wide' is none; allowed: metres from 0 to 100000"
-    refused(told, "--points", points)
-    points = town.write("points.csv", "id,lat,lon", [["A", 1, 2], ["A", 1, 2]])
-    refused(f"{points}: record 3: A is there twice", "--points", points)
-    points = town.write("points.csv", "id,lat,lon", [["X", 1, 2]])
-    refused(f"{points}: none of its points is in the matrix", "--points", points)
+    points = town.write("cells.csv", "id,lat,lon", [["X", 1, 2]])
+    refused(f"{town.file}: it has no point of {points}", "--points", points)
     origins = town.write("origins.csv", "stop_id", [["B"]])
     refused(f"{origins}: record 2: B is no origin of the matrix", "--origins", origins)
     words = jobs(town)
@@ -318,8 +313,9 @@ def test_bad_input_is_told_in_one_line(town: Town) -> None:
     refused(f"{town.path('people.csv')}: a column jobs is among the opportunities too", *words)
     town.matrix(town_matrix(True).replace("cut,D,", "cut,C,"))
     refused(f"{town.file}: 1 of 2 origins of base aren't in cut: D; 1 of 2 origins of cut aren't in base: C")
+    town.matrix(town_matrix(True))
     town.write("stops.txt", "stop_id", [["A"], ["B"], ["C"], ["D"]])
-    refused(f"{town.feed}/stops.txt: no stop has stop_lat and stop_lon, so there is nothing to show")
+    refused(f"{town.feed}/stops.txt: none of the stops has a place, so there is nothing to show")
 
 
 def test_the_same_words_give_the_same_bytes_and_a_fault_leaves_nothing(town: Town) -> None:
