@@ -19,7 +19,7 @@ from .parts import Part, blocks_of, part, rows_in_block
 
 ASSETS = Path(__file__).resolve().parent / "assets"
 LEAFLET = "/usr/share/javascript/leaflet"
-SCRIPTS = ("data.js", "classes.js", "layer.js", "figures.js", "panel.js", "main.js")
+SCRIPTS = ("data.js", "classes.js", "layer.js", "figures.js", "panel.js", "search.js", "main.js")
 STYLES = ("page.css",)
 
 

@@ -88,6 +88,11 @@ function accessOf(scenario, share, measure) {
   return numbers[`access-${scenario}-${share}`].subarray(begin, begin + head.origins);
 }
 
+/** For each origin 1 where it is cut off from half of what it reached, 2 where it is joined to so much, else 0. */
+function marksOf(scenario, share) {
+  return numbers[`marks-${scenario}-${share}`];
+}
+
 /** A column of counts, a number for each place. */
 function countsOf(number) {
   return numbers.counts.subarray(number * head.names.length, (number + 1) * head.names.length);
