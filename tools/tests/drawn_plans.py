@@ -126,7 +126,7 @@ class DrawnPlan:
         made: Values = {"do": "speed", **self.chosen()}
         made |= {name: self.stop() for name in ("from_stop", "to_stop") if self.random.random() < 0.2}
         how = self.random.choice(["factor", "factor", "dwell"])
-        values = [Decimal("0.5"), Decimal("0.855"), Decimal("1.3333")] if how == "factor" else [-30, 20, 61]
+        values: list[Any] = [Decimal("0.5"), Decimal("0.855"), Decimal("1.3333")] if how == "factor" else [-30, 20, 61]
         return {**made, how: self.random.choice(values)}
 
     def end(self) -> Values:

@@ -157,6 +157,13 @@ def test_areas_become_points_inside_of_them(room: Room) -> None:
     assert room.ran("points", feed(room), str(areas), "--out", out, *PACE)[2] == 0
     assert Path(out, "footpaths.csv").read_text().splitlines()[1:] == ["A,7,30", "7,A,30"]
     assert Path(out, "opportunities_people.csv").read_text() == "stop_id,opportunities\n7,12\n"
+    import geopandas
+
+    packed = room.path("areas.gpkg")
+    geopandas.read_file(areas).to_crs(3857).to_file(packed, driver="GPKG")
+    again = room.path("again")
+    assert room.ran("points", room.path("town"), packed, "--out", again, *PACE)[2] == 0
+    assert Path(again, "footpaths.csv").read_text().splitlines()[1:] == ["A,7,30", "7,A,30"]
     del feature["properties"]["id"]
     areas.write_text(json.dumps({"type": "FeatureCollection", "features": [feature]}))
     room.refused(f"{areas}: no column id", "points", room.path("town"), str(areas), "--out", room.path("more"))

@@ -5,7 +5,7 @@ from pathlib import Path
 
 import pytest
 
-from helpers import Room, read
+from helpers import Cell, Room, Town, read, town_matrix
 
 STOPS = [["A", "Alpha", 50.0, 8.0], ["B", "Beta", 50.0, 8.014], ["C", "", 50.0, 8.028], ["D", "Delta", 50.0, 8.042]]
 CALENDAR = "service_id,monday,tuesday,wednesday,thursday,friday,saturday,sunday,start_date,end_date"
@@ -19,8 +19,8 @@ def clock(minutes: float) -> str:
 
 @pytest.fixture
 def small(room: Room) -> Room:
-    """Route R runs from A to D in 20 minutes at 8:00, 8:20 (in 21) and 9:00, and back at 8:10; half a minute's stand at B
-    and C. Route Q runs from A to D at 8:00 in half an hour. Weekdays have service M, and Mondays W too.
+    """Route R runs from A to D in 20 minutes at 8:00, 8:20 (in 21) and 9:00, and back at 8:10; half a minute's stand at
+    B and C. Route Q runs from A to D at 8:00 in half an hour. Weekdays have service M, and Mondays W too.
     """
     (room.folder / "feed").mkdir()
     room.write("feed/stops.txt", "stop_id,stop_name,stop_lat,stop_lon", STOPS)
@@ -134,7 +134,7 @@ def test_a_new_line_by_its_speed_in_one_direction(small: Room) -> None:
 
 
 def test_copies_of_a_typical_trip_run_every_so_often(small: Room) -> None:
-    """From A to D three trips leave from 8:00 to 9:00 inclusive, in 20, 21 and 20 minutes: the median is 20, first R1."""
+    """From A to D three trips leave from 8:00 to 9:00, in 20, 21 and 20 minutes: the median is 20, first R1."""
     feed, told = made(small, 'do = "headway"\nroute = "R"\nevery = 1200\nfrom = "08:00"\nto = "09:01"')
     assert sorted(feed) == ["Q1", "R1#1", "R1#2", "R1#3", "R1#4", "S1#1", "S1#2", "S1#3", "S1#4"]
     assert feed["R1#2"] == ["A 08:20:00", "B 08:25:00 08:25:30", "C 08:31:00 08:31:30", "D 08:40:00"]
@@ -247,7 +247,8 @@ def test_the_feed_of_all_scenarios_has_files_that_take_out_what_each_has_not(sma
         assert (small.folder / "out" / name).read_bytes().startswith(whole)  # the feed as it is, and what is new behind
     assert [(small.folder / path).read_text() for path in files] == [
         "action,id,seconds\nremove_route,Q@fast,\n",
-        "action,id,seconds\nremove_trip,R3,\nshift_trip,R1,60\nshift_trip,R2,60\nshift_trip,S1,60\nremove_route,Q@fast,\n",
+        "action,id,seconds\nremove_trip,R3,\n"
+        "shift_trip,R1,60\nshift_trip,R2,60\nshift_trip,S1,60\nremove_route,Q@fast,\n",
         "action,id,seconds\nremove_route,Q,\n",
     ]
     assert calls(small, "out")["Q1@fast"] == ["A 08:00:00", "D 08:15:00"]
@@ -374,7 +375,50 @@ def test_plans_that_are_none(small: Room) -> None:
 
 
 def test_lines_are_counted_past_comments_and_long_texts(small: Room) -> None:
-    text = '# [[scenario]]\n[[scenario]]\nname = """\\\n  new"""\n[[ scenario.action ]]\n"do" = "cut" # [\nroute = [\n "R",\n]\nafter = "X"\n'
+    text = '# [[scenario]]\n[[scenario]]\nname = """\\\n  new"""\n[[ scenario.action ]]\n'
+    text += '"do" = "cut" # [\nroute = [\n "R",\n]\nafter = "X"\n'
     Path(small.path("plan.toml")).write_text(text)
     told = f"{small.path('plan.toml')}: line 10: after 'X' is no stop of the feed or of the plan"
     small.refused(told, "scenarios", small.path("feed"), small.path("plan.toml"), "--out", small.path("out"))
+
+
+def test_today_is_the_base_and_what_has_everything_is_left_out(town: Town) -> None:
+    """Of three scenarios, as a run with the files of a plan prints them; `--base base` compares with it too."""
+    today: list[Cell] = [0, 300, 900, ""]
+    town.matrix(
+        town_matrix(True, {"base": {"A": [0, 1, 2, 3]}, "today": {"A": today}, "tram": {"A": [0, 200, 900, 800]}})
+    )
+    out, told, status = town.ran("compare", town.file)
+    assert (read(out)[0]["what"], told.split(":")[0], status) == ("new", "tram beside today", 0)
+    assert town.ran("compare", "--base", "base", "--scenario", "tram", town.file)[1].startswith("tram beside base")
+    left = f"{town.file}: base, which has the trips of all scenarios at once, is left out\n"
+    out, told, _ = town.ran("long", town.file)
+    assert (list(dict.fromkeys(row["scenario"] for row in read(out))), told) == (["today", "tram"], left)
+    assert town.ran("long", "--scenario", "base", town.file)[1] == ""
+    pytest.importorskip("h5py")
+    assert town.ran("omx", "--out", town.path("m.omx"), town.file)[1] == left
+    out, told, _ = town.ran("compare", town.path("m.omx"))
+    assert (read(out)[0]["what"], told.split(":")[0]) == ("new", "tram beside today")
+    jobs = town.write("jobs.csv", "stop_id,jobs", [["A", 7], ["D", 8]])
+    out, told, _ = town.ran("access", "--opportunities", jobs, town.file)
+    assert ([row["scenario"] for row in read(out)], told) == (["today", "tram"], left)
+    Path(town.path("access.csv")).write_text(out)
+    out, _, _ = town.ran("equity", town.path("access.csv"), "--people", town.write("p.csv", "id,all", [["A", 3]]))
+    assert [(row["scenario"], row["mean"]) for row in read(out)] == [("today", "7"), ("tram", "15")]
+
+
+def test_walks_that_bring_old_stops_nearer_are_told(small: Room) -> None:
+    """From A to B by way of N 590 seconds; straight lines and these three sides of a triangle bring nothing nearer."""
+    line = 'do = "add_line"\nroute = "T"\nstops = ["A", "N"]\nspeed = 30\nservice = "M"'
+    made(small, f'{line}\ndepartures = [{{ first = "8:00", last = "8:00", every = 60 }}]', before=NEW_STOP)
+    told = f"{small.path('out/footpaths.csv')}: {{}} footpaths; {{}}\n"
+    assert small.ran("walks", "--limit", "3000", small.path("out"))[1] == told.format(20, "0 stops have no coordinates")
+    table = [["A", "N", 290], ["N", "B", 300], ["A", "B", 590], ["B", "A", 600]]
+    small.write("walks.csv", "from_stop_id,to_stop_id,seconds", table)
+    words = ["walks", "--table", small.path("walks.csv"), small.path("out")]
+    assert small.ran(*words)[1] == told.format(4, "0 seconds with decimals were rounded up")
+    small.write("walks.csv", "from_stop_id,to_stop_id,seconds", [*table[:2], ["A", "B", 591], ["B", "A", 600]])
+    nearer = "walks to new stops bring 1 pairs of old stops nearer, so today isn't as it was: A and B, "
+    assert small.ran(*words)[1].splitlines()[1] == f"{nearer}590 seconds apart by way of them, and 591 without"
+    small.write("walks.csv", "from_stop_id,to_stop_id,seconds", [*table[:2], ["B", "A", 600]])
+    assert small.ran(*words)[1].endswith("590 seconds apart by way of them, and out of reach without\n")

@@ -54,6 +54,13 @@ def test_points_in_the_folder_of_a_feed_are_found(town: Town) -> None:
     assert told.startswith("cut beside base: of 2 pairs 0 cut off, 0 slower, 1 new, 0 faster")
 
 
+def test_access_is_measured_at_points_alone(town: Town) -> None:
+    town.matrix(town_matrix(True))
+    counts = town.write("counts.csv", "id,lat,lon,width,schools", [["B", 0, 9.01, "", 2], ["D", 0.02, 9, 400, 0.5]])
+    words = ["access", "--opportunities", counts, "--points", points(town), "--scenario", "cut", town.file]
+    assert town.ran(*words)[0].splitlines()[1:] == ["D,schools,50,30,2.5"]
+
+
 def test_an_open_matrix_file_of_points(town: Town) -> None:
     pytest.importorskip("h5py")
     town.matrix(town_matrix(True))

@@ -161,29 +161,29 @@ def nearest(place: tuple[float, float], one: tuple[float, float], other: tuple[f
 def network(nx: Any, nodes: dict[int, tuple[float, float]], ways: list[Way], places: dict[str, Any]) -> Any:
     """The streets with each place joined to the nearest one, place after place, by a second program."""
     lines = [(a, b, tags) for refs, tags in ways for a, b in zip(refs, refs[1:])]
-    on: dict[int, list[tuple[float, str]]] = {number: [] for number in range(len(lines))}
+    on: dict[int, list[tuple[float, Any]]] = {number: [] for number in range(len(lines))}
     graph = nx.DiGraph()
     for name, place in places.items():
-        graph.add_node(("place", name))
         found = [(nearest(place, nodes[a], nodes[b]), number) for number, (a, b, _) in enumerate(lines)]
         (along, metres), number = min(found, key=lambda it: it[0][1])
-        on[number].append((along, name))
-        for end in lines[number][:2] if along in (0, 1) else ():
-            if along == (end == lines[number][1]):
-                graph.add_edge(end, ("put", name), weight=0)
-                graph.add_edge(("put", name), end, weight=0)
-        straight = metres if metres <= 100 else 1.3 * metres
-        graph.add_edge(("place", name), ("put", name), weight=straight)
-        graph.add_edge(("put", name), ("place", name), weight=straight)
+        on[number].append((along, ("put", name)))
+        join(graph, ("place", name), ("put", name), metres if metres <= 100 else 1.3 * metres)
+        for end in (0, 1):
+            if along == end:
+                join(graph, lines[number][end], ("put", name), 0)
     for number, (a, b, tags) in enumerate(lines):
-        length = math.dist(nodes[a], nodes[b])
-        chain = [(0.0, a), *[(along, ("put", name)) for along, name in sorted(on[number])], (1.0, b)]
+        chain: list[tuple[float, Any]] = [(0.0, a), *sorted(on[number]), (1.0, b)]
         for (low, one), (high, other) in zip(chain, chain[1:]):
-            for begin, end in [(one, other)] + ([(other, one)] if tags.get("oneway:foot") != "yes" else []):
-                weight = (high - low) * length
-                if not graph.has_edge(begin, end) or graph[begin][end]["weight"] > weight:
-                    graph.add_edge(begin, end, weight=weight)
+            length = (high - low) * math.dist(nodes[a], nodes[b])
+            join(graph, one, other, length, one_way=tags.get("oneway:foot") == "yes")
     return graph
+
+
+def join(graph: Any, one: Any, other: Any, metres: float, one_way: bool = False) -> None:
+    """Adds a connection in one direction or in both, where there is none that is as short."""
+    for begin, end in [(one, other)] if one_way else [(one, other), (other, one)]:
+        if not graph.has_edge(begin, end) or graph[begin][end]["weight"] > metres:
+            graph.add_edge(begin, end, weight=metres)
 
 
 @pytest.mark.parametrize("seed", range(6))

@@ -253,13 +253,19 @@ def closed(direct: dict[tuple[int, int], int], limit: int, begins: set[int] | No
         leaving.setdefault(a, []).append((b, seconds))
     made: list[tuple[int, int, int]] = []
     for source in leaving if begins is None else begins & leaving.keys():
-        best, heap = {source: 0}, [(0, source)]
-        while heap:
-            time, stop = heapq.heappop(heap)
-            for target, more in leaving.get(stop, []) if time == best[stop] else []:
-                if time + more <= limit and time + more < best.get(target, limit + 1):
-                    best[target] = time + more
-                    heapq.heappush(heap, (time + more, target))
-        made += [(source, stop, seconds) for stop, seconds in best.items() if stop != source]
-    found = np.array(made, dtype=np.int64).reshape(-1, 3)
-    return Walks(found[:, 0], found[:, 1], found[:, 2])
+        found = reached_from(source, leaving, limit)
+        made += [(source, stop, seconds) for stop, seconds in found.items() if stop != source]
+    columns = np.array(made, dtype=np.int64).reshape(-1, 3)
+    return Walks(columns[:, 0], columns[:, 1], columns[:, 2])
+
+
+def reached_from(source: int, leaving: dict[int, list[tuple[int, int]]], limit: int) -> dict[int, int]:
+    """The least seconds to each stop within the limit."""
+    best, heap = {source: 0}, [(0, source)]
+    while heap:
+        time, stop = heapq.heappop(heap)
+        for target, more in leaving.get(stop, []) if time == best[stop] else []:
+            if time + more <= limit and time + more < best.get(target, limit + 1):
+                best[target] = time + more
+                heapq.heappush(heap, (time + more, target))
+    return best

@@ -23,6 +23,7 @@ COMMANDS = (
     "equity",
     "explain",
     "map",
+    "page",
     "long",
     "omx",
     "gis",

@@ -3,7 +3,7 @@
 import argparse
 import sys
 
-from .options import add_matrix, add_points, add_share, add_text
+from .options import add_matrix, add_points, add_share, add_text, scenarios_of
 
 TOLD = "stops with access and travel times, for a geographic information system"
 HELP = """\
@@ -39,7 +39,7 @@ def run(words: argparse.Namespace) -> int:
 
     matrix, stops = shown_of(open_matrix(words.matrix), words.feed, words.points)
     assert stops is not None
-    scenarios = [matrix.scenario(name) for name in words.scenario or matrix.scenarios]
+    scenarios = scenarios_of(matrix, words.scenario)
     shares = matrix.shares if words.share is None else [matrix.share(words.share)]
     features = features_of(matrix, stops, scenarios, shares, words.origin)
     if kind == "gpkg":

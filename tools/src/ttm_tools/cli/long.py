@@ -3,7 +3,7 @@
 import argparse
 from typing import TYPE_CHECKING
 
-from .options import add_feed, add_matrix, add_out, add_points, add_share, add_text, add_within
+from .options import add_feed, add_matrix, add_out, add_points, add_share, add_text, add_within, scenarios_of
 
 if TYPE_CHECKING:
     from ..matrices import Matrix
@@ -83,7 +83,7 @@ def choice_of(words: argparse.Namespace, matrix: "Matrix") -> "Choice":
     from ..feed import read_list
     from ..views.long import Choice
 
-    named = [matrix.scenario(name) for name in words.scenario or matrix.scenarios]
+    named = scenarios_of(matrix, words.scenario)
     scenarios = [name for name in matrix.scenarios if name in named]
     if words.names == "r5py" and len(scenarios) > 1:
         raise BadInput(

@@ -16,7 +16,9 @@ Points are drawn alone where the matrix has them, as squares where the file of p
 Stops are drawn where the feed's stops.txt has them, over the lines of its shapes.txt, or over straight ones from stop
 to stop where it has none. With --edits the lines of the trips that a scenario file removes are drawn black; in a
 difference from a base that has a scenario file of its own, name both files, and the trips that the base lacks and the
-scenario has are drawn as added. Needs matplotlib. Memory: some 150 MB, and 110 bytes for each stop time of the feed."""
+scenario has are drawn as added. Of a feed that ttm-tools scenarios wrote its own scenario files are taken: new lines
+are drawn as added, and lines whose trips are others as changed. Needs matplotlib. Memory: some 150 MB, and 110 bytes
+for each stop time of the feed."""
 
 
 def breaks_of(text: str) -> tuple[float, ...]:
@@ -74,6 +76,7 @@ def run(words: argparse.Namespace) -> int:
     from ..files import output
     from ..matrices import open_matrix
     from ..points.shown import shown_of
+    from ..views.lines import planned_of
     from ..views.maps import Sheet, figure_of, picture_of
     from ..views.pictures import Wish
 
@@ -82,11 +85,13 @@ def run(words: argparse.Namespace) -> int:
     assert stops is not None
     stops.of(matrix.stops)
     what = "stops" if matrix is whole else "points"
-    wish = Wish(words.scenario, words.base, words.share, words.within, words.breaks, words.unit, what)
+    base, loses = words.base or matrix.base, words.picture == "difference"
+    wish = Wish(words.scenario, base, words.share, words.within, words.breaks, words.unit, what)
     picture = picture_of(words.picture, matrix, stops, words.origin, wish)
-    sheet = Sheet(words.title, words.note or "", words.width, words.edits)
-    base = words.base if words.picture == "difference" else None
-    figure = figure_of(picture, matrix, stops, words.feed, sheet, base)
+    scenario = words.scenario or (matrix.other(base, None) if loses else base)
+    planned = planned_of(words.feed, words.edits, base, scenario, loses)
+    sheet = Sheet(words.title, words.note or "", words.width, words.edits, planned)
+    figure = figure_of(picture, matrix, stops, words.feed, sheet, base if loses else None)
     with output(words.out) as file:
         figure.savefig(file, format="png", dpi="figure")
     return 0

@@ -2,7 +2,7 @@
 
 import argparse
 
-from .options import add_points, add_text
+from .options import add_points, add_text, scenarios_of
 
 TOLD = "an Open Matrix file"
 HELP = """\
@@ -35,6 +35,7 @@ def run(words: argparse.Namespace) -> int:
     from ..points.shown import shown_of
 
     matrix = open_matrix(words.matrix)
+    scenarios_of(matrix, None)
     if words.origins:
         has_all(matrix, origins_in(words.origins), words.origins)
     write_open_matrix(shown_of(matrix, None, words.points)[0], words.out)

@@ -2,7 +2,11 @@
 
 import argparse
 import math
-from typing import Callable
+import sys
+from typing import TYPE_CHECKING, Callable, Sequence
+
+if TYPE_CHECKING:
+    from ..matrices import Matrix
 
 
 def number(unit: str, least: float, most: float, whole: bool = True) -> Callable[[str], float]:
@@ -97,7 +101,8 @@ def add_within(parser: argparse.ArgumentParser, without: str = "the only one") -
 
 
 def add_base(parser: argparse.ArgumentParser) -> None:
-    add_text(parser, "--base", "NAME", "the scenario that others are compared with", default="base")
+    told = "base, or today where scenarios are those of a plan"
+    add_text(parser, "--base", "NAME", "the scenario that others are compared with", without=told)
 
 
 def add_feed(parser: argparse.ArgumentParser, told: str, without: str) -> None:
@@ -123,3 +128,10 @@ def add_pace(parser: argparse.ArgumentParser) -> None:
     add_text(parser, "--streets", "FILE", told, without="straight lines")
     told = "with --streets, how far a street may be to count as near"
     add_number(parser, "--near", told, "metres", (0, 100000), default=100, whole=False)
+
+
+def scenarios_of(matrix: "Matrix", named: Sequence[str] | None) -> list[str]:
+    """The scenarios that are named, or all that are compared; one that is left out then is told."""
+    if not named and matrix.left_out:
+        print(matrix.left_out, file=sys.stderr)
+    return [matrix.scenario(name) for name in named or matrix.compared]

@@ -16,7 +16,8 @@ its own --walk, so a limit above that adds nothing.
 Stops are those at which vehicles call: location_type 0 or empty. Where their station lists entrances (location_type 2),
 one reaches or leaves it only by an entrance; within one station one walks directly (GTFS reference, stops.txt). A stop
 without coordinates, at 0 and 0, or at none on earth has no footpath, which a line on standard error counts. The file
-has the columns from_stop_id, to_stop_id and seconds; hand it to ttm by --footpaths.
+has the columns from_stop_id, to_stop_id and seconds; hand it to ttm by --footpaths. Of a folder of ttm-tools scenarios
+with new stops it is looked at whether walks by way of these bring old stops nearer, and told where they do.
 
 With --streets one walks along the ways of a file of OpenStreetMap, which are no longer than they are. A way may be
 walked where its highway is primary, secondary, tertiary (and their links), unclassified, residential, living_street,
@@ -45,6 +46,7 @@ def run(words: argparse.Namespace) -> int:
     needs("numpy")
     from ..feed import read_stops
     from ..files import output
+    from ..plans.nearness import told_nearer
     from ..records import Rounded, write_rows
     from ..walks import Pace, read_walks, told as what_is_told, walks_of
 
@@ -60,4 +62,6 @@ def run(words: argparse.Namespace) -> int:
     with output(out) as file:
         write_rows(file, ["from_stop_id", "to_stop_id", "seconds"], rows)
     print(f"{out}: {len(rows)} footpaths; {told}", file=sys.stderr)
+    for line in told_nearer(words.folder, out):
+        print(line, file=sys.stderr)
     return 0

@@ -9,11 +9,11 @@ import numpy as np
 from ..faults import BadInput
 from ..prepare.days import runs_of_trips
 from ..prepare.fields import MOST_STOP_TIMES, MOST_TRIPS, Whole
+from ..prepare.make import MOST_RUNS
 from .base import Base
 from .days import runs_of
 from .state import State
 
-MOST_RUNS = 1_000_000
 FEWER = "fewer scenarios, or actions on fewer trips"
 
 
@@ -73,11 +73,13 @@ def told_days(base: Base, states: Sequence[State]) -> Iterator[str]:
     one, three = (most_of(base, runs, events, days) for days in (1, 3))
     if one is None or three is None:
         return
-    what = f"all scenarios together on a day at most {one.runs:,} runs with {one.events:,} stop times ({one.day})"
+    who = "all scenarios together" if len(states) > 1 else "the scenario"
+    what = f"{who}: on a day at most {one.runs:,} runs with {one.events:,} stop times ({one.day})"
     taken = f"ttm takes {MOST_RUNS:,} and {MOST_STOP_TIMES:,}"
     if one.too_many():
         yield f"{what}, and {taken}: {FEWER}"
     elif three.too_many():
-        yield f"{what}; with a day before and one after {three.runs:,} with {three.events:,}: --back 0 --ahead 0, {taken}"
+        more = f"with a day before and one after {three.runs:,} with {three.events:,}"
+        yield f"{what}; {more}: --back 0 --ahead 0, since {taken}"
     else:
         yield what

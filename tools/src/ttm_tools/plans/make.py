@@ -36,7 +36,7 @@ def make(feed: str, path: str, out: str, only: str | None = None) -> Made:
     finished = [carried_out(base, it) for it in plan.scenarios if only in (None, it.name)]
     refuse_limits(path, base, [it.state for it in finished])
     written = written_of(base, finished, alone=only is not None)
-    lines = [*sentences(finished), *unused(written), *told_days(base, written.states)]
+    lines = [*sentences(finished), *([] if only else unused(written)), *told_days(base, written.states)]
     with many_written_aside(out) as folder:
         write_all(written, folder)
         write_lists(written, folder)

@@ -1,5 +1,5 @@
-"""Along which lines trips run that go another way than the feed's, where it has shapes: a shape that is cut where a trip
-ends earlier, and goes straight from stop to stop where it is new.
+"""Along which lines trips run that go another way than the feed's, where it has shapes: a shape that is cut where a
+trip ends earlier, and goes straight from stop to stop where it is new.
 """
 
 import math

@@ -124,9 +124,9 @@ def read_feed(path: str | Path, room: Path, near: Near = lambda _: None) -> Feed
     given = Path(path)
     if given.is_dir():
         files = {str(it.relative_to(given)): it for it in files_in(given)}
-        chosen = {name: files[member] for name, member in files_of(given, list(files)).items()}
-        feed = feed_of(given, chosen, near)
-        inside = next(iter(chosen.values())).parent
+        held = {name: files[member] for name, member in files_of(given, list(files)).items()}
+        feed = feed_of(given, held, near)
+        inside = next(iter(held.values())).parent
         feed.unread.update((name, inside / name) for name in FILES if (inside / name).is_dir())
         return feed
     if not given.exists():

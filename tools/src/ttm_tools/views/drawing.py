@@ -58,6 +58,11 @@ def taken_out(pieces: Pieces) -> Lines:
     return Lines(pieces, "trips that are taken out", "#222222", 2.0)
 
 
+def changed(pieces: Pieces) -> Lines:
+    """Where trips give way to others."""
+    return Lines(pieces, "trips that are changed", "#882255", 1.6)
+
+
 def added(pieces: Pieces) -> Lines:
     return Lines(pieces, "trips that are added", "#117733", 2.4, (0, (4, 1.5)))
 

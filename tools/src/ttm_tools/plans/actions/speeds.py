@@ -19,9 +19,8 @@ def speed(state: State, entry: Entry) -> list[str]:
         factor, more = Fraction(entry.number("factor", "0", "100")), 0
     else:
         factor, more = Fraction(1), entry.whole("dwell", -3_600, 3_600)
-    trips, changed = chosen(state, entry), 0
-    spans = [(trip, span_of(state, entry, trip)) for trip in trips]
-    spans = [(trip, span) for trip, span in spans if span is not None]
+    found, changed = [(trip, span_of(state, entry, trip)) for trip in chosen(state, entry)], 0
+    spans = [(trip, span) for trip, span in found if span is not None]
     if not spans:
         raise entry.fault("no trip of the route calls there and at to_stop afterwards", "from_stop")
     for trip, span in spans:

@@ -4,8 +4,8 @@ import math
 
 import numpy as np
 
-from ...prepare.fields import Whole
-from ...walks import distances, points_of
+from ...feed import Projection
+from ...prepare.fields import Floats, Whole
 from ..choice import told_stop
 from ..plan_file import Entry
 from ..state import State
@@ -20,12 +20,17 @@ def run_times(state: State, entry: Entry, way: Whole) -> tuple[Whole, int]:
     dwell = entry.whole("dwell", 0, 3_600, default=0)
     if entry.one_of("seconds", "speed") == "seconds":
         return np.array(entry.wholes("seconds", len(way) - 1, MOST), dtype=np.int64), dwell
-    metres_a_second = float(entry.number("speed", "0.1", "1000")) / 3.6
+    kilometres_an_hour = float(entry.number("speed", "0.1", "1000"))
     places = state.base.places
-    points = points_of(places.latitudes[way], places.longitudes[way])
-    for stop, point in zip(way.tolist(), points):
-        if math.isnan(point[0]):
-            told = f"needs places, and stop {told_stop(state, stop)} has none: give seconds"
-            raise entry.fault(told, "speed")
-    metres = distances(points[:-1], points[1:])
-    return np.ceil(np.round(metres / metres_a_second, 6)).astype(np.int64), dwell
+    north, east = places.latitudes[way], places.longitudes[way]
+    for stop in way[np.isnan(north)].tolist():
+        raise entry.fault(f"needs places, and stop {told_stop(state, stop)} has none: give seconds", "speed")
+    metres = [straight(north[place : place + 2], east[place : place + 2]) for place in range(len(way) - 1)]
+    return np.ceil(np.round(np.array(metres) * 3.6 / kilometres_an_hour, 6)).astype(np.int64), dwell
+
+
+def straight(latitudes: Floats, longitudes: Floats) -> float:
+    """Metres between two places."""
+    projection = Projection(latitudes, longitudes)
+    east, north = projection.east(longitudes), projection.north(latitudes)
+    return 1000 * math.hypot(east[1] - east[0], north[1] - north[0])
