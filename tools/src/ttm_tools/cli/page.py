@@ -28,7 +28,8 @@ def describe(parser: argparse.ArgumentParser) -> None:
     parser.add_argument("--feed", metavar="FOLDER", required=True, help="the unpacked feed of the matrix (needed)")
     many = "may be given more than once (without it, {})"
     told = "a file of points, with columns id, lat, lon, and perhaps name, and width in metres; "
-    parser.add_argument("--points", metavar="FILE", action="append", default=[], help=told + many.format("stops"))
+    more = many.format("points.csv in the feed's folder, else stops")
+    parser.add_argument("--points", metavar="FILE", action="append", default=[], help=told + more)
     told = "a scenario file, named as its scenario, whose lines are drawn; "
     parser.add_argument("--edits", metavar="FILE", action="append", default=[], help=told + many.format("none"))
     told = "a file with what each stop has, as for access; its columns are counted; "
@@ -69,10 +70,13 @@ def run(words: argparse.Namespace) -> int:
     needs("numpy", "pandas", "jinja2")
     from ..files import output
     from ..matrices import open_matrix
+    from ..points.shown import points_in
     from ..views.page.document import leaflet_files
     from ..views.page.make import Wish, page_of, tell
 
     leaflet_files(words.leaflet)
+    beside = points_in(words.feed)
+    words.points = words.points or ([] if beside is None else [beside])
     wish = Wish(**{name: getattr(words, WORDS.get(name, name)) for name in Wish.__dataclass_fields__})
     page = page_of(open_matrix(words.matrix), wish)
     with output(words.out) as file:
