@@ -6,7 +6,7 @@ peak memory, and tells what was written.
 
 Each scenario has three actions: a new line along twenty stops of a route; twenty routes every five minutes all day; and
 one that differs (a bus lane on fifty routes, stops, routes and trips taken out or shifted, routes cut and extended).
-OUT, which is new or empty, has the plan and what was written of it.
+OUT has the plan then, what was told, and in OUT/feed what was written.
 """
 
 import csv
@@ -87,7 +87,7 @@ def main() -> None:
     (out / "plan.toml").write_text(plan_of(feed))
     begin = time.monotonic()
     words = [PYTHON, str(TOOLS), "scenarios", str(feed), str(out / "plan.toml"), "--out", str(out / "feed")]
-    with subprocess.Popen(words) as run:
+    with open(out / "told.txt", "w") as told, subprocess.Popen(words, stdout=told, stderr=told) as run:
         _, status, used = os.wait4(run.pid, 0)
         run.returncode = os.waitstatus_to_exitcode(status)
     busy = used.ru_utime + used.ru_stime

@@ -89,7 +89,7 @@ def test_routes_and_trips_are_taken_out_and_shifted(small: Room) -> None:
     }
     assert told[:4] == [
         "new: 1 remove_route Q: trips 1 taken out; trips 5 to 4, stops 4, stop times 18 to 16",
-        "new: 2 remove_trip R2 R3: trips 2 taken out; trips 4 to 2, stops 4, stop times 16 to 8",
+        "new: 2 remove_trip R2, R3: trips 2 taken out; trips 4 to 2, stops 4, stop times 16 to 8",
         "new: 3 shift_route R: trips 2 shifted; trips 2, stops 4, stop times 8",
         "new: 4 shift_trip S1: trips 1 shifted; trips 2, stops 4, stop times 8",
     ]
@@ -336,6 +336,10 @@ FAULTS = [
     (
         'do = "add_line"\nroute = "Q"\nstops = ["A", "B"]',
         "line 5: route 'Q' is a route already",
+    ),
+    (
+        'do = "add_line"\nroute = "R@new"\nstops = ["A", "B"]',
+        "line 5: route 'R@new' can't be a new route's name; behind an @ stands a scenario",
     ),
     ('name = "x"', "line 3: do needed"),
 ]
