@@ -250,6 +250,22 @@ def test_points_alone_as_squares_and_a_new_line(town: Town, browser: Browser) ->
     assert browser.text("heading") == "Access: points within 15 minutes"
 
 
+def test_a_plan_brings_its_scenario_files_and_leaves_the_base_out(town: Town, browser: Browser) -> None:
+    """Route Q gives way to others on A, B and C, and no longer goes to D; what is new stands in trip T."""
+    town.matrix(town_matrix(True, {"base": TOWN["base"], "today": TOWN["cut"], "tram": TOWN["base"]}))
+    (town.folder / "scenarios").mkdir()
+    town.write("scenarios/today.csv", "action,id,seconds", [["remove_trip", "T", ""]])
+    town.write("scenarios/tram.csv", "action,id,seconds", [["remove_trip", "U", ""]])
+    told = town.ran("page", "--feed", town.feed, "--out", town.path("plan.html"), town.file)[1]
+    assert told.splitlines()[0] == f"{town.file}: base, which has the trips of all scenarios at once, is left out"
+    browser.open(Path(town.path("plan.html")))
+    assert browser.run("return head.scenarios") == ["today", "tram"]
+    key = ["where vehicles run", "trips that are taken out", "trips that are changed"]
+    assert browser.text("lines-key").splitlines()[:3] == key
+    counts = "return CHANGED_LINES.map((it) => numbers[`${it}-1`].length / 4)"
+    assert browser.run(counts) == [1, 2, 0]  # from A to D; A to B to C
+
+
 def test_a_background_map_is_fetched_from_where_it_is_asked_for(town: Town, browser: Browser) -> None:
     town.matrix(town_matrix(True))
     tiles = ["--tiles", "http://127.0.0.1:9/{z}/{x}/{y}.png", "--attribution", "© <b>Somebody</b>"]

@@ -61,9 +61,9 @@ def parts_of(content: Content, lines: Lines) -> Iterator[Part]:
         yield part(name, ground.at(names))
     yield part("counts", content.counts.numbers.T)
     yield part("running", lines.running)
-    for scenario, (taken, added) in enumerate(zip(lines.taken, lines.added)):
-        yield part(f"taken-{scenario}", taken)
-        yield part(f"added-{scenario}", added)
+    for scenario, change in enumerate(lines.changes):
+        for name in ("taken", "changed", "added"):
+            yield part(f"{name}-{scenario}", getattr(change, name))
     for scenario, by_share in enumerate(content.times):
         for share, times in enumerate(by_share):
             key = f"{scenario}-{share}"

@@ -14,7 +14,7 @@ from ...records import shown
 from . import sources
 from .content import MOST_CELLS, Asked, Content, content_of, origins_of
 from .document import LEAFLET, Frame, write_page
-from .lines import Lines, page_lines
+from .lines import Lines, page_lines, scenario_files
 
 MINUTES, MOST_MINUTES = 30, 120  # of the slider: where it stands first, and where it ends
 
@@ -78,8 +78,9 @@ def page_of(matrix: Matrix, wish: Wish) -> Page:
     assert stops is not None  # there is a feed
     asked = asked_of(chosen, "stops" if chosen is matrix else "points", wish)
     content = content_of(chosen, stops, matrix.stops_and_origins(), asked, wish.unit)
-    lines = page_lines(wish.feed, stops, asked.scenarios, wish.edits)
-    return Page(content, lines, frame_of(matrix, content, asked, wish))
+    files = scenario_files(wish.feed, asked.scenarios, wish.edits)
+    lines = page_lines(wish.feed, stops, asked.scenarios, files)
+    return Page(content, lines, frame_of(matrix, content, asked, replace(wish, edits=list(files.values()))))
 
 
 def frame_of(matrix: Matrix, content: Content, asked: Asked, wish: Wish) -> Frame:

@@ -86,7 +86,7 @@ function showKey(title, marks, counts) {
 
 /** What the lines on the map are. */
 function showLinesKey(scenario) {
-  const changes = scenario > 0 ? ["taken", "added"].filter((name) => numbers[`${name}-${scenario}`].length) : [];
+  const changes = CHANGED_LINES.filter((name) => scenario > 0 && numbers[`${name}-${scenario}`].length);
   const lines = ["running", ...changes].map((name) =>
     made("li", [made("span", "", { class: `line ${name}` }), made("span", LINES[name].label)]));
   fill("lines-key", ...lines, made("li", head.lines.source, { class: "source" }));
