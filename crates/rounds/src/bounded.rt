@@ -6,9 +6,11 @@ ghost use Rattle.timetable.specs.declared.limits.TheConstants.{END_OF_AXIS};
 ghost use Rattle.trip_lanes.specs.Lane.{lane};
 ghost use Rattle.rounds.specs.State.{LaneState, Bounds};
 
-use crate::scan::scan_lines;
+use crate::scan::{Round, scan_lines};
 use timetable::{Lines, NEVER, Network, StopNo};
-use trip_lanes::{Fall, Lanes, lower_all, lower_of, transfer_marked, walk_marked};
+use trip_lanes::{
+    Fall, Labels, Lanes, falls_of, lower_all, lower_of, transfer_marked, walk_marked,
+};
 
 /// The most rides for which labels are kept.
 pub(crate) const MOST_KEPT: u32 = 8;
@@ -109,9 +111,18 @@ pub(crate) fn run_bounded(
     for k in 0..rides as usize {
         lower_to(ride, bound_ride, k + 1);
         marked.fill(false);
-        scan_lines(
-            trips, lines, before, ready, fallen, falls, due, aboard, ride, marked,
-        );
+        falls_of(before, ready, fallen, falls);
+        let labels = Labels {
+            falls,
+            before,
+            ready,
+        };
+        let round = Round {
+            trips,
+            lines,
+            labels,
+        };
+        scan_lines(round, due, aboard, ride, marked);
         begin(ready, before, bound_ready, k + 1);
         fallen.fill(false);
         transfer_marked(feet, ride, marked, ready, fallen);
