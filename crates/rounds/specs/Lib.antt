@@ -6,3 +6,4 @@ pub mod Rank
 pub mod Scan
 pub mod State
 pub mod Batches
+pub mod Query

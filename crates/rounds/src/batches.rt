@@ -1,6 +1,5 @@
 //! The minutes of a window, sixteen at a time and from the last to the first.
-ghost use Rattle.std.specs.Prelude.{◌≡◌, ◌≢◌, ℕ, ◌+◌, ◌*◌, ◌<◌, ◌≤◌, [], length, slice_index, slice_index_or, replicate, All};
-ghost use Rattle.timetable.specs.Lines.{AreLinesOf};
+ghost use Rattle.std.specs.Prelude.{◌≡◌, ◌≢◌, ℕ, ◌+◌, ◌*◌, ◌<◌, ◌≤◌, [], length, slice_index, slice_index_or, replicate};
 ghost use Rattle.timetable.specs.Least.{IsLeastOrNever};
 ghost use Rattle.timetable.specs.Journeys.{IsDuration};
 ghost use Rattle.timetable.specs.declared.least.TheConstants.{NEVER as NEVER_VALUE};
@@ -9,15 +8,17 @@ ghost use Rattle.rounds.specs.Minutes.{IsSince};
 ghost use Rattle.rounds.specs.Window.{Fits, departure};
 ghost use Rattle.rounds.specs.State.{arrival};
 ghost use Rattle.rounds.specs.Batches.{IsDeparture};
+ghost use Rattle.rounds.specs.Query.{IsAsked, AreTablesFor};
 ghost use Rattle.rounds.specs.Table.{batches_of, label_of};
 
-use crate::bounded::{Kept, run_bounded};
-use crate::scan::clear;
+use crate::bounded::{Batch, Kept, run_bounded};
+use crate::query::Query;
+use crate::tables::Tables;
 use crate::window::Window;
 use std::simd::prelude::*;
 use std::simd::u32x16;
-use timetable::{Lines, NEVER, Network, StopNo};
-use trip_lanes::{Fall, Lanes, lower_of};
+use timetable::NEVER;
+use trip_lanes::{Lanes, lower_of};
 
 /// The departures of a batch of a window.
 fn departs_of(window: Window, batch: u32) -> Lanes
@@ -83,73 +84,27 @@ fn write_batch(
 
 /// Writes the least durations for each minute of a window, batch by batch from the last, each bounded by the one
 /// after it.
-pub(crate) fn run_window(
-    network: &Network,
-    lines: &Lines,
-    origin: StopNo,
-    window: Window,
-    rides: u32,
-    labels: &mut [Lanes],
-    bound_ride: &mut [Kept],
-    bound_ready: &mut [Kept],
-    ride: &mut [Lanes],
-    ready: &mut [Lanes],
-    before: &mut [Lanes],
-    falls: &mut [Fall],
-    due: &mut [u32],
-    aboard: &mut [Lanes],
-    marked: &mut [bool],
-    fallen: &mut [bool],
-)
-    requires origin { origin.0 < network.now.stops }
-    requires rides { rides ≤ 8 }
-    requires fits { Fits window }
-    requires lines { AreLinesOf network.now.stops network.now.trips lines.now }
-    requires labels { length labels.old ≡ network.now.stops * batches_of window.minutes }
-    requires bound_ride { length bound_ride.old ≡ network.now.stops }
-    requires bound_ready { length bound_ready.old ≡ network.now.stops }
-    requires ride { length ride.old ≡ network.now.stops }
-    requires ready { length ready.old ≡ network.now.stops }
-    requires before { length before.old ≡ network.now.stops }
-    requires falls { length falls.old ≡ network.now.stops }
-    requires due { length due.old ≡ length lines.now.lines }
-    requires aboard { All (λ row. length row ≤ length aboard.old) lines.now.lines }
-    requires marked { length marked.old ≡ network.now.stops }
-    requires fallen { length fallen.old ≡ network.now.stops }
+pub(crate) fn run_window(query: Query<'_>, tables: &mut Tables, labels: &mut [Lanes])
+    requires asked { IsAsked query }
+    requires tables { AreTablesFor query.network.now.stops query.lines.now tables.old }
+    requires labels { length labels.old ≡ query.network.now.stops * batches_of query.window.minutes }
     ensures same { length labels.new ≡ length labels.old }
-    ensures each { (p m : ℕ) → p < network.now.stops → m < window.minutes →
-        IsLeastOrNever (IsDuration network.now origin.0 (departure window m) rides p) (label_of window.minutes labels.new p m) }
-    ensures dead { (p m : ℕ) → p < network.now.stops → window.minutes ≤ m → m < 16 * batches_of window.minutes → label_of window.minutes labels.new p m ≡ NEVER_VALUE }
+    ensures each { (p m : ℕ) → p < query.entry.network.now.stops → m < query.entry.window.minutes →
+        IsLeastOrNever (IsDuration query.entry.network.now query.entry.origin.0 (departure query.entry.window m) query.entry.rides p) (label_of query.entry.window.minutes labels.new p m) }
+    ensures dead { (p m : ℕ) → p < query.entry.network.now.stops → query.entry.window.minutes ≤ m → m < 16 * batches_of query.entry.window.minutes → label_of query.entry.window.minutes labels.new p m ≡ NEVER_VALUE }
 {
-    network.known();
-    let batches = (window.minutes + 15) / 16;
-    clear_kept(bound_ride);
-    clear_kept(bound_ready);
+    query.network.known();
+    let batches = (query.window.minutes + 15) / 16;
+    clear_kept(tables.bound_ride.as_mut_slice());
+    clear_kept(tables.bound_ready.as_mut_slice());
     let mut later = NEVER;
     for i in 0..batches {
         let batch = batches - 1 - i;
-        let departs = departs_of(window, batch);
-        clear(ride);
-        clear(ready);
-        run_bounded(
-            network,
-            lines,
-            origin,
-            departs,
-            later,
-            rides,
-            bound_ride,
-            bound_ready,
-            ride,
-            ready,
-            before,
-            falls,
-            due,
-            aboard,
-            marked,
-            fallen,
-        );
+        let departs = departs_of(query.window, batch);
+        run_bounded(query, Batch { departs, later }, tables);
         later = departs[0];
+        let ride = tables.ride.as_slice();
+        let ready = tables.ready.as_slice();
         write_batch(
             labels,
             ride,

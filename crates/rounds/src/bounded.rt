@@ -1,14 +1,15 @@
 //! Sixteen departures at a time, each round bounded by the labels of a later departure.
-ghost use Rattle.std.specs.Prelude.{◌≡◌, ◌≢◌, ℕ, ◌+◌, ◌<◌, ◌≤◌, ◌⊎◌, length, replicate, slice_index, All};
+ghost use Rattle.std.specs.Prelude.{◌≡◌, ◌≢◌, ℕ, ◌<◌, ◌≤◌, length, slice_index};
 ghost use Rattle.timetable.specs.Steps.{Lowers};
-ghost use Rattle.timetable.specs.Lines.{AreLinesOf};
-ghost use Rattle.timetable.specs.declared.limits.TheConstants.{END_OF_AXIS};
 ghost use Rattle.trip_lanes.specs.Lane.{lane};
 ghost use Rattle.rounds.specs.State.{LaneState, Bounds};
+ghost use Rattle.rounds.specs.Query.{IsAsked, AreTablesFor};
+ghost use Rattle.rounds.specs.Batches.{IsBatch, start_at};
 
-use crate::scan::scan_lines;
-use timetable::{Lines, NEVER, Network, StopNo};
-use trip_lanes::{Fall, Lanes, lower_all, lower_of, transfer_marked, walk_marked};
+use crate::query::Query;
+use crate::scan::{Round, clear, scan_lines};
+use crate::tables::Tables;
+use trip_lanes::{Labels, Lanes, falls_of, lower_all, lower_of, transfer_marked, walk_marked};
 
 /// The most rides for which labels are kept.
 pub(crate) const MOST_KEPT: u32 = 8;
@@ -54,64 +55,64 @@ fn keep(kept: &mut [Kept], k: usize, labels: &[Lanes])
     }
 }
 
-/// Fills in by when each stop is reached by a ride, and from when one may board there, for sixteen departures at once, none
-/// of them later than the departure of the bounds. The bounds become the labels of the first of them.
-pub(crate) fn run_bounded(
-    network: &Network,
-    lines: &Lines,
-    origin: StopNo,
-    departs: Lanes,
-    later: u32,
-    rides: u32,
-    bound_ride: &mut [Kept],
-    bound_ready: &mut [Kept],
-    ride: &mut [Lanes],
-    ready: &mut [Lanes],
-    before: &mut [Lanes],
-    falls: &mut [Fall],
-    due: &mut [u32],
-    aboard: &mut [Lanes],
-    marked: &mut [bool],
-    fallen: &mut [bool],
-)
-    requires origin { origin.0 < network.now.stops }
-    requires rides { rides ≤ 8 }
-    requires lines { AreLinesOf network.now.stops network.now.trips lines.now }
-    requires departs { (l : ℕ) → l < 16 → (slice_index departs l < END_OF_AXIS) ⊎ (slice_index departs l ≡ NEVER) }
-    requires later { (later < END_OF_AXIS) ⊎ (later ≡ NEVER) }
-    requires none_later { (l : ℕ) → l < 16 → slice_index departs l ≤ later }
-    requires bounds { (k : ℕ) → k ≤ rides → LaneState network.now (record { stop = origin.0; time = later }) k (lane k bound_ride.old) (lane k bound_ready.old) }
-    requires bound_ride { length bound_ride.old ≡ network.now.stops }
-    requires bound_ready { length bound_ready.old ≡ network.now.stops }
-    requires rows { length ride.old ≡ network.now.stops }
-    requires ride { (l : ℕ) → l < 16 → lane l ride.old ≡ replicate network.now.stops NEVER }
-    requires ready { ready.old ≡ ride.old }
-    requires before { length before.old ≡ network.now.stops }
-    requires falls { length falls.old ≡ network.now.stops }
-    requires due { length due.old ≡ length lines.now.lines }
-    requires aboard { All (λ row. length row ≤ length aboard.old) lines.now.lines }
-    requires marked { length marked.old ≡ network.now.stops }
-    requires fallen { length fallen.old ≡ network.now.stops }
-    ensures states { (l : ℕ) → l < 16 → LaneState network.now (record { stop = origin.0; time = slice_index departs l }) rides (lane l ride.new) (lane l ready.new) }
-    ensures kept { (k : ℕ) → k ≤ rides → LaneState network.now (record { stop = origin.0; time = slice_index departs 0 }) k (lane k bound_ride.new) (lane k bound_ready.new) }
+/// Sixteen departures, and one that none of them is later than, whose labels bound theirs.
+#[derive(Clone, Copy)]
+pub(crate) struct Batch {
+    /// `NEVER` in a dead lane.
+    pub departs: Lanes,
+    /// `NEVER` where nothing bounds them.
+    pub later: u32,
+}
+
+/// Fills in by when each stop is reached by a ride, and from when one may board there, for sixteen departures at once. What
+/// was kept bounds them, and what is kept then are the labels of the first of them.
+pub(crate) fn run_bounded(query: Query<'_>, batch: Batch, tables: &mut Tables)
+    requires asked { IsAsked query }
+    requires batch { IsBatch batch }
+    requires tables { AreTablesFor query.network.now.stops query.lines.now tables.old }
+    requires bounds { (k : ℕ) → k ≤ query.rides → LaneState query.network.now (start_at query batch.later) k (lane k tables.old.bound_ride.items) (lane k tables.old.bound_ready.items) }
+    ensures tables { AreTablesFor query.entry.network.now.stops query.entry.lines.now tables.new }
+    ensures states { (l : ℕ) → l < 16 → LaneState query.entry.network.now (start_at query.entry (slice_index batch.departs l)) query.entry.rides (lane l tables.new.ride.items) (lane l tables.new.ready.items) }
+    ensures kept { (k : ℕ) → k ≤ query.entry.rides → LaneState query.entry.network.now (start_at query.entry (slice_index batch.departs 0)) k (lane k tables.new.bound_ride.items) (lane k tables.new.bound_ready.items) }
 {
-    network.known();
-    let feet = network.feet();
-    let trips = network.trips();
-    lower_all(ride, origin.0 as usize, departs);
+    query.network.known();
+    let ride = tables.ride.as_mut_slice();
+    let ready = tables.ready.as_mut_slice();
+    let before = tables.before.as_mut_slice();
+    let marked = tables.marked.as_mut_slice();
+    let fallen = tables.fallen.as_mut_slice();
+    let bound_ride = tables.bound_ride.as_mut_slice();
+    let bound_ready = tables.bound_ready.as_mut_slice();
+    let falls = tables.falls.as_mut_slice();
+    let due = tables.due.as_mut_slice();
+    let aboard = tables.aboard.as_mut_slice();
+    let feet = query.network.feet();
+    let trips = query.network.trips();
+    clear(ride);
+    clear(ready);
+    lower_all(ride, query.origin.0 as usize, batch.departs);
     begin(ready, before, bound_ready, 0);
     marked.fill(false);
-    marked[origin.0 as usize] = true;
+    marked[query.origin.0 as usize] = true;
     fallen.fill(false);
     walk_marked(feet, ride, marked, ready, fallen);
     keep(bound_ride, 0, ride);
     keep(bound_ready, 0, ready);
-    for k in 0..rides as usize {
+    for k in 0..query.rides as usize {
         lower_to(ride, bound_ride, k + 1);
         marked.fill(false);
-        scan_lines(
-            trips, lines, before, ready, fallen, falls, due, aboard, ride, marked,
-        );
+        falls_of(before, ready, fallen, falls);
+        let labels = Labels {
+            falls,
+            before,
+            ready,
+        };
+        let round = Round {
+            trips,
+            lines: query.lines,
+            labels,
+        };
+        scan_lines(round, due, aboard, ride, marked);
         begin(ready, before, bound_ready, k + 1);
         fallen.fill(false);
         transfer_marked(feet, ride, marked, ready, fallen);

@@ -4,7 +4,7 @@
 //!
 //! - `minutes`: [`one_minute`], which alternates rides with changes and walks.
 //! - `window`: [`Window`], and [`durations`] for each of its minutes.
-//! - `search`: [`Search`], the tables of a search, which serve one origin after another.
+//! - `search`: [`Search`], which serves one origin after another. `query`: what is asked of it. `tables`: its tables.
 //! - `batches`: the minutes of a window, sixteen at a time, from the last to the first.
 //! - `bounded`: the rounds of sixteen departures, within the labels of a later one.
 //! - `scan`, `due`: a round of rides, line by line: the lines that serve a stop where a label fell, from there on.
@@ -21,10 +21,12 @@ mod bounded;
 mod due;
 mod laws;
 mod minutes;
+mod query;
 mod scan;
 mod search;
 mod steps;
 mod table;
+mod tables;
 mod window;
 
 pub use laws::{

@@ -1,15 +1,17 @@
 //! A search: the tables that a window's durations are found with, made once and used for one origin after another.
-ghost use Rattle.std.specs.Prelude.{◌≡◌, ◌<◌, ◌≤◌, length, IfOk, OnOk};
+ghost use Rattle.std.specs.Prelude.{◌<◌, ◌≤◌, IfOk};
 ghost use Rattle.rounds.specs.Batches.{AreLabels};
 ghost use Rattle.rounds.specs.Window.{Fits, AreDurations};
 
 use crate::batches::run_window;
-use crate::bounded::{Kept, MOST_KEPT};
+use crate::bounded::MOST_KEPT;
+use crate::query::Query;
 use crate::table::Durations;
-use crate::window::{Window, labels_by_minute, longest};
+use crate::tables::Tables;
+use crate::window::{Window, labels_by_minute};
 use std::alloc::{AllocError, Global};
 use timetable::{NEVER, Network, StopNo};
-use trip_lanes::{Fall, Lanes, UNFALLEN};
+use trip_lanes::Lanes;
 
 /// The tables of a search: labels, bounds and marks, of each stop, line or place.
 ///
@@ -17,42 +19,14 @@ use trip_lanes::{Fall, Lanes, UNFALLEN};
 /// from before doesn't matter. One search serves any network, and the tables are made anew where its size is another.
 #[derive(Drop)]
 pub struct Search {
-    /// By when each stop is reached by a ride, for sixteen departures.
-    ride: Vec<Lanes>,
-    /// From when one may board at each stop.
-    ready: Vec<Lanes>,
-    /// The same, when lines were scanned last.
-    before: Vec<Lanes>,
-    /// How far the labels of each stop fell since then.
-    falls: Vec<Fall>,
-    /// Whether a ride reached the stop earlier in this round.
-    marked: Vec<bool>,
-    /// Whether a label of who is ready there fell.
-    fallen: Vec<bool>,
-    /// The labels of the earliest departure of the batch after this one, for each number of rides: they bound those of
-    /// this one, and become its own.
-    bound_ride: Vec<Kept>,
-    bound_ready: Vec<Kept>,
-    /// From which place on a line is scanned in this round, or `NEVER`.
-    due: Vec<u32>,
-    /// Who rides which trip of the line that is scanned.
-    aboard: Vec<Lanes>,
+    tables: Tables,
 }
 
 impl Search {
     /// A search with empty tables.
     pub fn new(alloc: Global) -> Self {
         Search {
-            ride: Vec::new(alloc),
-            ready: Vec::new(alloc),
-            before: Vec::new(alloc),
-            falls: Vec::new(alloc),
-            marked: Vec::new(alloc),
-            fallen: Vec::new(alloc),
-            bound_ride: Vec::new(alloc),
-            bound_ready: Vec::new(alloc),
-            due: Vec::new(alloc),
-            aboard: Vec::new(alloc),
+            tables: Tables::new(alloc),
         }
     }
 
@@ -111,88 +85,18 @@ impl Search {
         ensures { IfOk result (λ labels. AreLabels network.now origin.0 window rides labels.items) }
     {
         network.known();
-        let lines = network.lines();
-        let stops = network.stops() as usize;
-        let batches = (window.minutes as usize + 15) / 16;
-        let mut labels = vec![in alloc; [NEVER; 16]; stops * batches]?;
-        make_lanes(alloc, &mut self.ride, stops)?;
-        make_lanes(alloc, &mut self.ready, stops)?;
-        make_lanes(alloc, &mut self.before, stops)?;
-        make_falls(alloc, &mut self.falls, stops)?;
-        make_marks(alloc, &mut self.marked, stops)?;
-        make_marks(alloc, &mut self.fallen, stops)?;
-        make_kept(alloc, &mut self.bound_ride, stops)?;
-        make_kept(alloc, &mut self.bound_ready, stops)?;
-        make_places(alloc, &mut self.due, lines.count())?;
-        make_lanes(alloc, &mut self.aboard, longest(lines))?;
-        run_window(
+        let query = Query {
             network,
-            lines,
+            lines: network.lines(),
             origin,
             window,
             rides,
-            &mut labels,
-            &mut self.bound_ride,
-            &mut self.bound_ready,
-            &mut self.ride,
-            &mut self.ready,
-            &mut self.before,
-            &mut self.falls,
-            &mut self.due,
-            &mut self.aboard,
-            &mut self.marked,
-            &mut self.fallen,
-        );
+        };
+        let stops = network.stops() as usize;
+        let batches = (window.minutes as usize + 15) / 16;
+        let mut labels = vec![in alloc; [NEVER; 16]; stops * batches]?;
+        self.tables.fit(alloc, stops, query.lines)?;
+        run_window(query, &mut self.tables, &mut labels);
         Ok(labels)
     }
-}
-
-/// Makes a table of labels that has so many places, unless it has.
-fn make_lanes(alloc: Global, table: &mut Vec<Lanes>, places: usize) -> Result<(), AllocError>
-    ensures { OnOk result (length table.new.items ≡ places) }
-{
-    if table.len() != places {
-        *table = vec![in alloc; [NEVER; 16]; places]?;
-    }
-    Ok(())
-}
-
-/// Makes a table of bounds that has so many places, unless it has.
-fn make_kept(alloc: Global, table: &mut Vec<Kept>, places: usize) -> Result<(), AllocError>
-    ensures { OnOk result (length table.new.items ≡ places) }
-{
-    if table.len() != places {
-        *table = vec![in alloc; [NEVER; 9]; places]?;
-    }
-    Ok(())
-}
-
-/// Makes a table of falls that has so many places, unless it has.
-fn make_falls(alloc: Global, table: &mut Vec<Fall>, places: usize) -> Result<(), AllocError>
-    ensures { OnOk result (length table.new.items ≡ places) }
-{
-    if table.len() != places {
-        *table = vec![in alloc; UNFALLEN; places]?;
-    }
-    Ok(())
-}
-
-/// Makes a table of marks that has so many places, unless it has.
-fn make_marks(alloc: Global, table: &mut Vec<bool>, places: usize) -> Result<(), AllocError>
-    ensures { OnOk result (length table.new.items ≡ places) }
-{
-    if table.len() != places {
-        *table = vec![in alloc; false; places]?;
-    }
-    Ok(())
-}
-
-/// Makes a table of places that has so many lines, unless it has.
-fn make_places(alloc: Global, table: &mut Vec<u32>, lines: usize) -> Result<(), AllocError>
-    ensures { OnOk result (length table.new.items ≡ lines) }
-{
-    if table.len() != lines {
-        *table = vec![in alloc; NEVER; lines]?;
-    }
-    Ok(())
 }

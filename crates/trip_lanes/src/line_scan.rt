@@ -21,6 +21,8 @@ use timetable::{Call, NEVER, Times};
 pub struct LineView<'a> {
     pub calls: &'a [Call],
     pub times: &'a [Times],
+    /// How many trips it has.
+    pub trips: usize,
 }
 
 /// For each stop, from which second one may board there now and could before, and how far this fell.
@@ -31,22 +33,28 @@ pub struct Labels<'a> {
     pub ready: &'a [Lanes],
 }
 
+/// Of one stop, from which second one may board in each lane now and could before.
+#[derive(Clone, Copy)]
+struct Readiness {
+    before: Lanes,
+    ready: Lanes,
+}
+
 /// Carries travellers along the trips of a line, from a place on: in each lane whoever is ready by a departure, and was
 /// not before it. Stops where a label fell are marked.
 ///
-/// `trips` is how many trips the line has; `aboard` is scratch with room for each.
+/// `aboard` is scratch with room for each trip.
 pub fn scan_line(
     line: LineView<'_>,
-    trips: usize,
     from: usize,
     labels: Labels<'_>,
     aboard: &mut [Lanes],
     ride: &mut [Lanes],
     marked: &mut [bool],
 )
-    requires times { length line.times.now ≡ trips * length line.calls.now }
+    requires times { length line.times.now ≡ line.trips * length line.calls.now }
     requires stops { All (λ c. c.stop.0 < length ride.old) line.calls.now }
-    requires aboard { trips ≤ length aboard.old }
+    requires aboard { line.trips ≤ length aboard.old }
     requires before { length labels.before.now ≡ length ride.old }
     requires ready { length labels.ready.now ≡ length ride.old }
     requires falls { length labels.falls.now ≡ length ride.old }
@@ -55,14 +63,14 @@ pub fn scan_line(
     requires fits { (l p : ℕ) → l < 16 → slice_index (lane l ride.old) p ≤ NEVER }
     ensures same { length aboard.new ≡ length aboard.old }
     ensures marks { MarksFallen ride.old ride.new marked.old marked.new }
-    ensures lanes { (rows : List (List Event)) → IsViewOf rows line.entry.calls.now line.entry.times.now → length rows ≡ trips → NoneOvertakes rows →
+    ensures lanes { (rows : List (List Event)) → IsViewOf rows line.entry.calls.now line.entry.times.now → length rows ≡ line.entry.trips → NoneOvertakes rows →
         (l : ℕ) → l < 16 → FallsTo (CarriesRow (lane l labels.entry.ready.now) rows) (lane l ride.old) (lane l ride.new) }
-    ensures caught { (rows : List (List Event)) → IsViewOf rows line.entry.calls.now line.entry.times.now → length rows ≡ trips → NoneOvertakes rows →
+    ensures caught { (rows : List (List Event)) → IsViewOf rows line.entry.calls.now line.entry.times.now → length rows ≡ line.entry.trips → NoneOvertakes rows →
         (l r j : ℕ) → l < 16 → from ≤ j → IsCaught (lane l labels.entry.before.now) (lane l labels.entry.ready.now) rows r j → IsPast rows (lane l ride.new) r j }
 {
     let places = line.calls.len();
     let mut span = Span { first: 0, end: 0 };
-    let mut near = trips;
+    let mut near = line.trips;
     for place in from..places {
         let call = line.calls[place];
         let stop = call.stop.0 as usize;
@@ -70,7 +78,7 @@ pub fn scan_line(
             times: line.times,
             places,
             place,
-            trips,
+            trips: line.trips,
         };
         if call.alight && span.first < span.end {
             let best = earliest(column, aboard, span);
@@ -80,15 +88,11 @@ pub fn scan_line(
         if call.board && fall.low < fall.top {
             let first = first_from(column, fall.low, near);
             near = first;
-            let boarded = board_place(
-                column,
-                first,
-                fall,
-                labels.before[stop],
-                labels.ready[stop],
-                aboard,
-                span,
-            );
+            let at = Readiness {
+                before: labels.before[stop],
+                ready: labels.ready[stop],
+            };
+            let boarded = board_place(column, first, fall, at, aboard, span);
             span = boarded;
         }
     }
@@ -178,8 +182,7 @@ fn board_place(
     column: Column<'_>,
     first: usize,
     fall: Fall,
-    before: Lanes,
-    ready: Lanes,
+    at: Readiness,
     aboard: &mut [Lanes],
     span: Span,
 ) -> Span
@@ -192,15 +195,15 @@ fn board_place(
     ensures same { length aboard.new ≡ length aboard.old }
     ensures riders { AreRiders aboard.new result }
     ensures end { result.end ≤ column.entry.trips }
-    ensures sound { (l r : ℕ) → l < 16 → Rides aboard.new result l r → Rides aboard.old span l r ⊎ Catches (slice_index before l) (slice_index ready l) (departs column.entry r) }
+    ensures sound { (l r : ℕ) → l < 16 → Rides aboard.new result l r → Rides aboard.old span l r ⊎ Catches (slice_index at.before l) (slice_index at.ready l) (departs column.entry r) }
     ensures kept { (l r : ℕ) → l < 16 → Rides aboard.old span l r → RidesBy aboard.new result l r }
-    ensures caught { (l r : ℕ) → l < 16 → Ascend (departs column.entry) column.entry.trips → HasFallen (slice_index before l) (slice_index ready l) fall → r < column.entry.trips → Catches (slice_index before l) (slice_index ready l) (departs column.entry r) → RidesBy aboard.new result l r }
+    ensures caught { (l r : ℕ) → l < 16 → Ascend (departs column.entry) column.entry.trips → HasFallen (slice_index at.before l) (slice_index at.ready l) fall → r < column.entry.trips → Catches (slice_index at.before l) (slice_index at.ready l) (departs column.entry r) → RidesBy aboard.new result l r }
 {
     let end = end_of(column, first, fall);
     if end == first {
         return span;
     }
-    let boarded = board_ranks(column, first, end, before, ready, aboard, span);
+    let boarded = board_ranks(column, first, end, at, aboard, span);
     trim(aboard, boarded)
 }
 
@@ -209,8 +212,7 @@ fn board_ranks(
     column: Column<'_>,
     first: usize,
     end: usize,
-    before: Lanes,
-    ready: Lanes,
+    at: Readiness,
     aboard: &mut [Lanes],
     span: Span,
 ) -> Span
@@ -223,14 +225,14 @@ fn board_ranks(
     ensures same { length aboard.new ≡ length aboard.old }
     ensures riders { AreRiders aboard.new result }
     ensures end { result.end ≤ column.entry.trips }
-    ensures sound { (l r : ℕ) → l < 16 → Rides aboard.new result l r → Rides aboard.old span l r ⊎ Catches (slice_index before l) (slice_index ready l) (departs column.entry r) }
+    ensures sound { (l r : ℕ) → l < 16 → Rides aboard.new result l r → Rides aboard.old span l r ⊎ Catches (slice_index at.before l) (slice_index at.ready l) (departs column.entry r) }
     ensures kept { (l r : ℕ) → l < 16 → Rides aboard.old span l r → RidesBy aboard.new result l r }
-    ensures caught { (l r : ℕ) → l < 16 → first ≤ r → r < end → Catches (slice_index before l) (slice_index ready l) (departs column.entry r) → RidesBy aboard.new result l r }
+    ensures caught { (l r : ℕ) → l < 16 → first ≤ r → r < end → Catches (slice_index at.before l) (slice_index at.ready l) (departs column.entry r) → RidesBy aboard.new result l r }
 {
     let mut now = span;
     let mut riding = riding_before(aboard, span, first);
     for rank in first..end {
-        let caught = catching(before, ready, riding, departure(column, rank));
+        let caught = catching(at.before, at.ready, riding, departure(column, rank));
         if fell(caught, [NEVER; 16]) {
             let wide = widen(aboard, now, rank);
             board_rank(aboard, wide, rank, caught);

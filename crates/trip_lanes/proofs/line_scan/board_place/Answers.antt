@@ -14,8 +14,8 @@ returns-clause-kept c l r h on =
 
 pub returns-clause-caught : goal.returns-clause-caught
 returns-clause-caught c l r h up fall below catches =
-    let lower : slice_index c.args.ready l < slice_index c.args.before l = omega (arith, catches.in_time, catches.fresh) in
-    let aboard : (q : ℕ) → c.args.first ≤ q → q < c.end_of-end.result → q ≤ r → Catches (slice_index c.args.before l) (slice_index c.args.ready l) (departs c.args.column q) → RidesBy c.board_ranks-boarded.new.aboard c.trim.result l r = λ q low lt le k.
+    let lower : slice_index c.args.at.ready l < slice_index c.args.at.before l = omega (arith, catches.in_time, catches.fresh) in
+    let aboard : (q : ℕ) → c.args.first ≤ q → q < c.end_of-end.result → q ≤ r → Catches (slice_index c.args.at.before l) (slice_index c.args.at.ready l) (departs c.args.column q) → RidesBy c.board_ranks-boarded.new.aboard c.trim.result l r = λ q low lt le k.
     let o = c.board_ranks-boarded.ensures.caught l q h low lt k in
     (o.0, omega (arith, o.1), c.trim.ensures.kept l o.0 h o.2) in
     elim (cases_lt r c.args.first) [

@@ -9,8 +9,8 @@ invariant-loop-rank l =
       same : length l.aboard ≡ length l.initial.aboard;
       riders : AreRiders l.aboard l.now;
       ends : l.now.end ≤ l.column.trips;
-      sound : (k r : ℕ) → k < 16 → Rides l.aboard l.now k r → Rides l.initial.aboard l.fn.span k r ⊎ Catches (slice_index l.before k) (slice_index l.ready k) (departs l.column r);
+      sound : (k r : ℕ) → k < 16 → Rides l.aboard l.now k r → Rides l.initial.aboard l.fn.span k r ⊎ Catches (slice_index l.at.before k) (slice_index l.at.ready k) (departs l.column r);
       kept : (k r : ℕ) → k < 16 → Rides l.initial.aboard l.fn.span k r → RidesBy l.aboard l.now k r;
-      caught : (k r : ℕ) → k < 16 → l.fn.first ≤ r → r < l.rank → Catches (slice_index l.before k) (slice_index l.ready k) (departs l.column r) → RidesBy l.aboard l.now k r;
+      caught : (k r : ℕ) → k < 16 → l.fn.first ≤ r → r < l.rank → Catches (slice_index l.at.before k) (slice_index l.at.ready k) (departs l.column r) → RidesBy l.aboard l.now k r;
       rides : (k : ℕ) → k < 16 → slice_index l.riding k ≡ 0 → (q : ℕ) × (q < l.rank) × Rides l.aboard l.now k q;
     }

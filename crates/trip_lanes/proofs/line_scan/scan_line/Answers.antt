@@ -36,7 +36,7 @@ loop-place-preserved c =
     let at_fall : slice_get c.args.labels.falls.now here.stop.0 ≡ Some fall = slice_get-get_or c.args.labels.falls.now here.stop.0 no_fall (omega (arith, c.requires.falls)) in
     let read_ready : (k : ℕ) → slice_index (lane k c.args.labels.ready.now) here.stop.0 ≡ slice_index (get_or c.args.labels.ready.now here.stop.0 []) k = λ k. lane_old c.args.labels.ready.now here.stop.0 k (omega (arith, c.requires.ready)) in
     let read_before : (k : ℕ) → slice_index (lane k c.args.labels.before.now) here.stop.0 ≡ slice_index (get_or c.args.labels.before.now here.stop.0 []) k = λ k. lane_old c.args.labels.before.now here.stop.0 k (omega (arith, c.requires.before)) in
-    let got_off : (rows : List (List Event)) → IsViewOf rows calls times → length rows ≡ c.args.trips → NoneOvertakes rows → (k : ℕ) → k < 16 → LineAt (lane k c.args.labels.before.now) (lane k c.args.labels.ready.now) rows c.args.from x (x + 1) (lane k c.args.ride.now) (lane k c.if-call.ride) (Rides c.loop-place.aboard c.loop-place.span k) =
+    let got_off : (rows : List (List Event)) → IsViewOf rows calls times → length rows ≡ c.args.line.trips → NoneOvertakes rows → (k : ℕ) → k < 16 → LineAt (lane k c.args.labels.before.now) (lane k c.args.labels.ready.now) rows c.args.from x (x + 1) (lane k c.args.ride.now) (lane k c.if-call.ride) (Rides c.loop-place.aboard c.loop-place.span k) =
     λ rows view size order k h.
     let before = lane k c.args.labels.before.now in
     let ready = lane k c.args.labels.ready.now in
@@ -102,7 +102,7 @@ loop-place-preserved c =
           elim c.if-call-2.branch [
             | then-call-2+then-fall w ↦
                 let event : (r : ℕ) → r < length rows → (e : Event) × IsAt rows r x e = λ r below. at_place rows calls times view r x below c.loop-place-test.true in
-                let up : Ascend (λ r. slice_index (departures_in times) (r * length calls + x)) c.args.trips = λ r s le below.
+                let up : Ascend (λ r. slice_index (departures_in times) (r * length calls + x)) c.args.line.trips = λ r s le below.
                 let e = event r (omega (arith, size)) in
                 let f = event s (omega (arith, size)) in
                 let d = view.departure r x e.0 e.1 in

@@ -12,9 +12,9 @@ invariant-loop-place l =
       same : length l.aboard ≡ length l.initial.aboard;
       stops : length l.ride ≡ length l.initial.ride;
       riders : AreRiders l.aboard l.span;
-      ends : l.span.end ≤ l.trips;
+      ends : l.span.end ≤ l.line.trips;
       fell : (k p : ℕ) → k < 16 → slice_index (lane k l.ride) p ≤ slice_index (lane k l.initial.ride) p;
       marks : MarksFallen l.initial.ride l.ride l.initial.marked l.marked;
-      lanes : (rows : List (List Event)) → IsViewOf rows l.line.calls.now l.line.times.now → length rows ≡ l.trips → NoneOvertakes rows →
+      lanes : (rows : List (List Event)) → IsViewOf rows l.line.calls.now l.line.times.now → length rows ≡ l.line.trips → NoneOvertakes rows →
           (k : ℕ) → k < 16 → LineAt (lane k l.labels.before.now) (lane k l.labels.ready.now) rows l.fn.from l.place l.place (lane k l.initial.ride) (lane k l.ride) (Rides l.aboard l.span k);
     }

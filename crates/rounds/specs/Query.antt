@@ -1,0 +1,26 @@
+-- What is asked of a search, and the tables that it takes.
+use Rattle.std.specs.Prelude.{◌≡◌, ℕ, ◌<◌, ◌≤◌, length, All}
+use Rattle.timetable.specs.Lines.{LineTable, AreLinesOf}
+use Rattle.rounds.specs.declared.query.Query.{Query}
+use Rattle.rounds.specs.declared.tables.Tables.{Tables}
+use Rattle.rounds.specs.Window.{Fits}
+
+-- a stop, a window and the lines of a network, and at most eight rides
+pub record IsAsked (q : Query) : Type 0 where
+  pub origin : q.origin.0 < q.network.now.stops
+  pub fits : Fits q.window
+  pub rides : q.rides ≤ 8
+  pub lines : AreLinesOf q.network.now.stops q.network.now.trips q.lines.now
+
+-- the tables have a place for each stop and line, and for each trip of any line
+pub record AreTablesFor (stops : ℕ) (lines : LineTable) (t : Tables) : Type 0 where
+  pub ride : length t.ride.items ≡ stops
+  pub ready : length t.ready.items ≡ stops
+  pub before : length t.before.items ≡ stops
+  pub falls : length t.falls.items ≡ stops
+  pub marked : length t.marked.items ≡ stops
+  pub fallen : length t.fallen.items ≡ stops
+  pub bound_ride : length t.bound_ride.items ≡ stops
+  pub bound_ready : length t.bound_ready.items ≡ stops
+  pub due : length t.due.items ≡ length lines.lines
+  pub aboard : All (λ row. length row ≤ length t.aboard.items) lines.lines

@@ -1,0 +1,14 @@
+//! What is asked of a search.
+use crate::window::Window;
+use timetable::{Lines, Network, StopNo};
+
+/// The least durations from a stop, for each departure of a window and journeys of at most so many rides.
+#[derive(Clone, Copy)]
+pub(crate) struct Query<'a> {
+    pub network: &'a Network,
+    /// The lines of the network.
+    pub lines: &'a Lines,
+    pub origin: StopNo,
+    pub window: Window,
+    pub rides: u32,
+}

@@ -1,0 +1,125 @@
+//! The tables of a search.
+ghost use Rattle.std.specs.Prelude.{◌≡◌, ◌≤◌, length, OnOk};
+ghost use Rattle.timetable.specs.declared.limits.TheConstants.{MOST_TRIPS};
+ghost use Rattle.rounds.specs.Query.{AreTablesFor};
+
+use crate::bounded::Kept;
+use crate::window::longest;
+use std::alloc::{AllocError, Global};
+use timetable::{Lines, NEVER};
+use trip_lanes::{Fall, Lanes, UNFALLEN};
+
+/// Labels, bounds and marks, of each stop, line or trip of a line. What they hold from before a search doesn't matter.
+#[derive(Drop)]
+pub(crate) struct Tables {
+    /// By when each stop is reached by a ride, for sixteen departures.
+    pub ride: Vec<Lanes>,
+    /// From when one may board at each stop.
+    pub ready: Vec<Lanes>,
+    /// The same, when lines were scanned last.
+    pub before: Vec<Lanes>,
+    /// How far the labels of each stop fell since then.
+    pub falls: Vec<Fall>,
+    /// Whether a ride reached the stop earlier in this round.
+    pub marked: Vec<bool>,
+    /// Whether a label of who is ready there fell.
+    pub fallen: Vec<bool>,
+    /// The labels of the earliest departure of the batch after this one, for each number of rides: they bound those of
+    /// this one, and become its own.
+    pub bound_ride: Vec<Kept>,
+    pub bound_ready: Vec<Kept>,
+    /// From which place on a line is scanned in this round, or `NEVER`.
+    pub due: Vec<u32>,
+    /// Who rides which trip of the line that is scanned.
+    pub aboard: Vec<Lanes>,
+}
+
+impl Tables {
+    /// Empty tables.
+    pub(crate) fn new(alloc: Global) -> Self {
+        Tables {
+            ride: Vec::new(alloc),
+            ready: Vec::new(alloc),
+            before: Vec::new(alloc),
+            falls: Vec::new(alloc),
+            marked: Vec::new(alloc),
+            fallen: Vec::new(alloc),
+            bound_ride: Vec::new(alloc),
+            bound_ready: Vec::new(alloc),
+            due: Vec::new(alloc),
+            aboard: Vec::new(alloc),
+        }
+    }
+
+    /// Makes the tables that have another size than the stops and lines of a network anew.
+    pub(crate) fn fit(
+        &mut self,
+        alloc: Global,
+        stops: usize,
+        lines: &Lines,
+    ) -> Result<(), AllocError>
+        requires few { length lines.now.lines ≤ MOST_TRIPS }
+        ensures { OnOk result (AreTablesFor stops lines.now self.new) }
+    {
+        make_lanes(alloc, &mut self.ride, stops)?;
+        make_lanes(alloc, &mut self.ready, stops)?;
+        make_lanes(alloc, &mut self.before, stops)?;
+        make_falls(alloc, &mut self.falls, stops)?;
+        make_marks(alloc, &mut self.marked, stops)?;
+        make_marks(alloc, &mut self.fallen, stops)?;
+        make_kept(alloc, &mut self.bound_ride, stops)?;
+        make_kept(alloc, &mut self.bound_ready, stops)?;
+        make_places(alloc, &mut self.due, lines.count())?;
+        make_lanes(alloc, &mut self.aboard, longest(lines))
+    }
+}
+
+/// Makes a table of labels that has so many places, unless it has.
+fn make_lanes(alloc: Global, table: &mut Vec<Lanes>, places: usize) -> Result<(), AllocError>
+    ensures { OnOk result (length table.new.items ≡ places) }
+{
+    if table.len() != places {
+        *table = vec![in alloc; [NEVER; 16]; places]?;
+    }
+    Ok(())
+}
+
+/// Makes a table of bounds that has so many places, unless it has.
+fn make_kept(alloc: Global, table: &mut Vec<Kept>, places: usize) -> Result<(), AllocError>
+    ensures { OnOk result (length table.new.items ≡ places) }
+{
+    if table.len() != places {
+        *table = vec![in alloc; [NEVER; 9]; places]?;
+    }
+    Ok(())
+}
+
+/// Makes a table of falls that has so many places, unless it has.
+fn make_falls(alloc: Global, table: &mut Vec<Fall>, places: usize) -> Result<(), AllocError>
+    ensures { OnOk result (length table.new.items ≡ places) }
+{
+    if table.len() != places {
+        *table = vec![in alloc; UNFALLEN; places]?;
+    }
+    Ok(())
+}
+
+/// Makes a table of marks that has so many places, unless it has.
+fn make_marks(alloc: Global, table: &mut Vec<bool>, places: usize) -> Result<(), AllocError>
+    ensures { OnOk result (length table.new.items ≡ places) }
+{
+    if table.len() != places {
+        *table = vec![in alloc; false; places]?;
+    }
+    Ok(())
+}
+
+/// Makes a table of places that has so many lines, unless it has.
+fn make_places(alloc: Global, table: &mut Vec<u32>, lines: usize) -> Result<(), AllocError>
+    ensures { OnOk result (length table.new.items ≡ lines) }
+{
+    if table.len() != lines {
+        *table = vec![in alloc; NEVER; lines]?;
+    }
+    Ok(())
+}
