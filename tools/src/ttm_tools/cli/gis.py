@@ -45,6 +45,6 @@ def run(words: argparse.Namespace) -> int:
     else:
         with output(words.out) as file:
             write_geojson(file, features)
-    lost = len(matrix.stops) - len(features.stops.identifiers)
-    print(f"{words.out}: {len(features.stops.identifiers)} stops; {lost} have no coordinates", file=sys.stderr)
+    told = f"{len(features.stops.identifiers)} stops; {features.lost} have no coordinates"
+    print(f"{words.out}: {told}", file=sys.stderr)
     return 0

@@ -24,6 +24,7 @@ class Features:
 
     stops: Stops
     columns: dict[str, Any]  # arrays of numbers
+    lost: int  # how many stops have no place
 
     def properties(self, place: int) -> dict[str, Any]:
         """What is told of one stop."""
@@ -41,21 +42,25 @@ def named(scenario: str, share: Share, what: str) -> str:
 def features_of(
     matrix: Matrix, stops: Stops, scenarios: Sequence[str], shares: Sequence[Share], origin: str | None
 ) -> Features:
-    """The stops with what is asked for."""
-    columns: dict[str, Any] = {}
+    """The stops with what is asked for: those that have a column, and other origins."""
+    origins = [name for scenario in scenarios for share in shares for name in matrix.origins(scenario, share)]
+    names = list(dict.fromkeys([*matrix.stops, *origins]))
+    place_of, columns = {name: place for place, name in enumerate(names)}, dict[str, Any]()
     for scenario in scenarios:
         for share in shares:
-            places = np.array([matrix.places[name] for name in matrix.origins(scenario, share)], dtype=np.intp)
+            places = np.array([place_of[name] for name in matrix.origins(scenario, share)], dtype=np.intp)
             for limit, access in zip(matrix.layout.limits, matrix.access(scenario, share).T):
-                column = np.full(len(matrix.stops), np.nan)
+                column = np.full(len(names), np.nan)
                 column[places] = access
                 columns[named(scenario, share, "access" if limit is None else f"access_{limit}")] = column
             if origin is not None:
-                columns[named(scenario, share, "seconds")] = matrix.seconds(scenario, share, origin)
-    found = stops.of(matrix.stops)
+                column = np.full(len(names), np.nan)
+                column[: len(matrix.stops)] = matrix.seconds(scenario, share, origin)
+                columns[named(scenario, share, "seconds")] = column
+    found = stops.of(names)
     kept = np.flatnonzero(found.placed)
     there = found.of([found.identifiers[place] for place in kept.tolist()])
-    return Features(there, {name: numbers[kept] for name, numbers in columns.items()})
+    return Features(there, {name: numbers[kept] for name, numbers in columns.items()}, len(names) - len(kept))
 
 
 def write_geojson(out: BinaryIO, features: Features) -> None:
