@@ -6,8 +6,8 @@ must be the same, byte for byte.
 
 The feeds have what GTFS allows and hand-made examples forget: overnight trips, loops, times left out, headways that
 overlap, exceptions, stations, change times, forbidden boarding, identifiers with commas and quotes; and footpaths,
-origins, opportunities, destinations and scenarios of the analyst's own. One to three shares and one to three limits of access are
-asked for. Where the two differ, or the program gives no matrix, the feed is printed. Standard library only.
+origins, opportunities, destinations and scenarios of the analyst's own. One to three shares and one to three limits of
+access are asked for. Where the two differ, or the program gives no matrix, the feed is printed. Standard library only.
 """
 
 from __future__ import annotations

@@ -43,7 +43,8 @@ pub fn status(fault: &StudyFault) -> u8
 {
     match fault {
         StudyFault::Scenarios | StudyFault::Name(_) => REFUSED,
-        StudyFault::Feed(fault) | StudyFault::Destinations(fault) => feed_status(fault.what),
+        StudyFault::Feed(fault) => feed_status(fault.what),
+        StudyFault::Destinations(fault) => feed_status(fault.what),
         StudyFault::Scenario(_, fault) => edit_status(fault.what),
         StudyFault::Days(DayFault::Memory) => NO_ROOM,
         StudyFault::Days(_) => REFUSED,

@@ -36,7 +36,7 @@ refused_meaningless none i s fault.Scenarios study r m = let few = m.made.walked
 refused_meaningless none i s (fault.Name k) study r m = no_first k (name_faults i.scenarios) m.made.walked.dated.edited.read.named.names r.1
 refused_meaningless none i s (fault.Feed e) study r m = no_first e (table_faults i) m.made.walked.dated.edited.read.tables r.1
 refused_meaningless none i s (fault.Destinations e) study r m =
-    no_first e (destination_faults i (feed_in i)) m.made.walked.dated.edited.read.destinations r.1.1
+    no_first e (destination_faults i (feed_in i)) m.made.walked.dated.edited.read.destinations r.2
 refused_meaningless none i s (fault.Scenario k e) study r m = no_first (k, e) (edit_faults (feed_in i) 0 i.scenarios) m.made.walked.dated.edited.edits r.1
 refused_meaningless none i s (fault.Days e) study r m = no_first e (day_faults i s) m.made.walked.dated.days r.1
 refused_meaningless none i s (fault.Feet e) study r m = none (direct_in i) s.walk m.made.feet r.2 m.made.walked.walks

@@ -207,8 +207,9 @@ def matrix(
     """Runs `ttm` on the folder of a feed, and gives its matrix.
 
     The window is the first and the last departure, as ("08:00", "08:59"). Scenarios are scenario files. Origins are a
-    file or identifiers of stops, and so are destinations, the stops that have a column; opportunities a file or a number
-    for each stop; footpaths a file or walks between two stops with their seconds. Faults of the inputs are raised as `EngineFault`, with file and record.
+    file or identifiers of stops, and so are destinations, the stops that have a column; opportunities a file or a
+    number for each stop; footpaths a file or walks between two stops with their seconds. Faults of the inputs are
+    raised as `EngineFault`, with file and record.
     """
     rounded = Rounded()
     with tempfile.TemporaryDirectory(prefix="ttm-matrix-") as made:

@@ -6,15 +6,15 @@ use Rattle.workers.proofs.Shares.{row_is}
 use Rattle.workers.proofs.Wide.{stops_of}
 use Rattle.workers.proofs.rows.row_with.Goals as goal
 
-pub cells_of-lists-requires-clause-stops : goal.cells_of-lists-requires-clause-stops
-cells_of-lists-requires-clause-stops c =
+pub cells_of-requires-clause-stops : goal.cells_of-requires-clause-stops
+cells_of-requires-clause-stops c =
     let s = study_of c.args.study.now in
     let of = c.in_ok-durations.ensures in
     let same = of.durations.stops ∙ stops_of s c.args.scenario of.network c.requires.fits of.network_is in
     subst (λ (n : ℕ). All (λ (d : StopNo). d.0 < n) s.query.destinations) (sym same) c.requires.fits.destinations
 
-pub with_access-shares-requires-clause-stops : goal.with_access-shares-requires-clause-stops
-with_access-shares-requires-clause-stops c =
+pub with_access-requires-clause-stops : goal.with_access-requires-clause-stops
+with_access-requires-clause-stops c =
     let s = study_of c.args.study.now in
     let of = c.in_ok-durations.ensures in
     of.durations.stops ∙ stops_of s c.args.scenario of.network c.requires.fits of.network_is
