@@ -43,6 +43,9 @@ OWN = {
     "walks.csv": "from_stop_id,to_stop_id,seconds\nC,B,120\n",
     "chances.csv": "stop_id,opportunities\nB,10\nC,5\n",
     "origins.csv": "stop_id\nC\nA\n",
+    "to.csv": "stop_id\nC\nA\n",
+    "none_named.csv": "stop_id\n",
+    "b.csv": "stop_id\nB\n",
     "a.csv": "stop_id\nA\n",
     "cut.csv": "action,id,seconds\nremove_route,R2,\n",
     "late.csv": "action,id,seconds\nshift_trip,T1,300\n",
@@ -167,6 +170,29 @@ RUNS = [
         f"{FOUR} --share 050 --within 00700,1800",
         TWO_LIMITS + "base,A,50,2,2,0,660,1860\n",
     ),
+    Run(
+        "destinations in their own order",
+        f"--feed feed {ASKED} 300 {OWN_WORDS} --destinations to.csv cut.csv",
+        "scenario,origin,share,access_1800,C,A\nbase,C,50,15,0,\nbase,A,50,15,1800,0\ncut,C,50,15,0,\ncut,A,50,10,,0\n",
+    ),
+    Run(
+        "access alone",
+        f"{FOUR} --share 25,50 --within 700,1800 --destinations none_named.csv",
+        "scenario,origin,share,access_700,access_1800\nbase,A,25,2,3\nbase,A,50,2,2\n",
+    ),
+    refused(
+        "destinations that no stop has",
+        f"--feed feed {ASKED} 0 --destinations to.csv cut.csv",
+        "destinations: record 2: unknown stop",
+        Text("to.csv", "stop_id\nZ\n"),
+        Text("cut.csv", "action,id,seconds\nremove_trip,T9,\n"),
+    ),
+    refused(
+        "opportunities before destinations",
+        f"--feed feed {ASKED} 0 --destinations to.csv --opportunities walks.csv",
+        "opportunities: record 1: missing column",
+        Text("to.csv", "stop_id\nZ\n"),
+    ),
     refused("a bad setting", f"--feed feed {ASKED} 7201 {OWN_WORDS}", "bad walk"),
     refused("shares that don't ascend", f"{FOUR} --share 50,25 --within 1800,1800", "bad share"),
     refused("a share of nothing", f"{FOUR} --share 0 --within 1800", "bad share"),
@@ -199,6 +225,7 @@ RUNS = [
         Gone("feed/trips.txt"),
     ),
     unread("an own file that isn't there", f"--feed feed {ASKED} 0 --origins none.csv", "none.csv"),
+    unread("destinations that aren't there", f"--feed feed {ASKED} 0 --destinations none.csv cut.csv", "none.csv"),
     unread("a scenario that isn't there", f"--feed feed {ASKED} 0 none.csv", "none.csv"),
     unread(
         "a file of the feed without permission",
@@ -252,20 +279,29 @@ REPORTS = [
     Report(
         "all own files and two scenarios",
         f"--feed feed {ASKED} 300 {OWN_WORDS} cut.csv late.csv",
-        TABLES_READ + "ttm: direct footpaths: 1\nttm: origins: 2\nttm: closed footpaths: 1\n"
+        TABLES_READ + "ttm: direct footpaths: 1\nttm: origins: 2\nttm: destinations: 3\nttm: closed footpaths: 1\n"
         "ttm: runs on 2026-05-03: 0\nttm: runs on 2026-05-04: 2\nttm: runs on 2026-05-05: 0\n"
         "ttm: runs in scenario base: 2\nttm: runs in scenario cut: 1\nttm: runs in scenario late: 2\n"
-        + rows_done(6, 18, 252),
+        + rows_done(6, 18, 336),
     ),
     Report(
         "a date on which nothing runs",
         f"--feed feed {ASKED} 0 --origins a.csv".replace("20260504", "20260505"),
         TABLES_READ
-        + "ttm: direct footpaths: 0\nttm: origins: 1\nttm: closed footpaths: 0\n"
+        + "ttm: direct footpaths: 0\nttm: origins: 1\nttm: destinations: 3\nttm: closed footpaths: 0\n"
         + NO_WALKS
         + "ttm: runs on 2026-05-04: 2\nttm: runs on 2026-05-05: 0\n"
         "ttm: warning: no trip runs on the date itself; is it a date of the feed's calendar?\n"
-        "ttm: runs on 2026-05-06: 0\nttm: runs in scenario base: 2\n" + rows_done(1, 3, 42),
+        "ttm: runs on 2026-05-06: 0\nttm: runs in scenario base: 2\n" + rows_done(1, 3, 56),
+    ),
+    Report(
+        "one destination",
+        f"--feed feed {ASKED} 0 --origins a.csv --destinations b.csv",
+        TABLES_READ
+        + "ttm: direct footpaths: 0\nttm: origins: 1\nttm: destinations: 1\nttm: closed footpaths: 0\n"
+        + NO_WALKS
+        + "ttm: runs on 2026-05-03: 0\nttm: runs on 2026-05-04: 2\nttm: runs on 2026-05-05: 0\n"
+        "ttm: runs in scenario base: 2\n" + rows_done(1, 1, 28),
     ),
     Report("a feed that isn't there", f"--feed nowhere {ASKED} 0", "ttm: stops.txt: missing file\n"),
     Report("a file for the folder", f"--feed cut.csv {ASKED} 0", "ttm: cut.csv/stops.txt: read fault\n"),

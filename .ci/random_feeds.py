@@ -6,8 +6,8 @@ must be the same, byte for byte.
 
 The feeds have what GTFS allows and hand-made examples forget: overnight trips, loops, times left out, headways that
 overlap, exceptions, stations, change times, forbidden boarding, identifiers with commas and quotes; and footpaths,
-origins, opportunities and scenarios of the analyst's own. One to three shares and one to three limits of access are
-asked for. Where the two differ, or the program gives no matrix, the feed is printed. Standard library only.
+origins, opportunities, destinations and scenarios of the analyst's own. One to three shares and one to three limits of
+access are asked for. Where the two differ, or the program gives no matrix, the feed is printed. Standard library only.
 """
 
 from __future__ import annotations
@@ -177,6 +177,8 @@ class Drawn:
             ["stop_id", "opportunities"],
             [[stop, str(self.random.randint(0, 9))] for stop in stops],
         )
+        columns = self.random.sample(self.stops, self.random.randint(0, len(self.stops)))
+        self.write("destinations.csv", ["stop_id"], [[stop] for stop in columns])
         for name in ("cut", "late"):
             self.write(
                 name + ".csv", ["action", "id", "seconds"], [self.edit() for _ in range(self.random.randint(0, 3))]
@@ -207,9 +209,8 @@ class Drawn:
             "tries": 2,
         }
         asked.update({name: self.random.randint(0, 2) for name in ("back", "ahead") if self.chance(0.5)})
-        asked.update(
-            {name: folder / (name + ".csv") for name in ("footpaths", "origins", "opportunities") if self.chance(0.6)}
-        )
+        own = ("footpaths", "origins", "opportunities", "destinations")
+        asked.update({name: folder / (name + ".csv") for name in own if self.chance(0.6)})
         scenarios = [folder / (name + ".csv") for name in ("cut", "late") if self.chance(0.4)]
         return [str(word) for name, value in asked.items() for word in ("--" + name, value)] + [
             str(it) for it in scenarios

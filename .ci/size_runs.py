@@ -189,6 +189,16 @@ def past_500_megabytes(room: Path) -> Run:
     return Run("a file past 500 MB", words, EXAMPLE.replace("1800\n", "77\n"))
 
 
+def access_alone(room: Path) -> Run:
+    """A row of many stops of which none is a destination."""
+    count = 41_000
+    line_of_stops(room, count)
+    (room / "o.csv").write_text("stop_id\n0\n")
+    (room / "d.csv").write_text("stop_id\n")
+    words = ["--feed", "feed", *ASKED, "--origins", "o.csv", "--destinations", "d.csv"]
+    return Run(f"{count} stops, and no destination", words, "scenario,origin,share,access_1800\nbase,0,50,2\n")
+
+
 def stops(room: Path, count: int) -> Run:
     """A row of so many cells."""
     line_of_stops(room, count)
@@ -212,6 +222,7 @@ RUNS = [
     over_an_hour,
     a_whole_day,
     great_sums,
+    access_alone,
     long_path,
     long_line,
     past_a_mebibyte,

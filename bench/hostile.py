@@ -37,11 +37,12 @@ FILES = {
     "walks.csv": "from_stop_id,to_stop_id,seconds\nC,B,120\n",
     "chances.csv": "stop_id,opportunities\nB,10\nC,5\n",
     "origins.csv": "stop_id\nC\nA\n",
+    "to.csv": "stop_id\nC\nB\n",
     "cut.csv": "action,id,seconds\nremove_route,R2,\n",
     "late.csv": "action,id,seconds\nshift_trip,T1,300\n",
 }
 ASKED = "--feed . --date 20260504 --from 08:00 --to 08:00 --trips 2 --walk 300 --share 50 --within 1800 --tries 2"
-OWN = "--footpaths walks.csv --opportunities chances.csv --origins origins.csv"
+OWN = "--footpaths walks.csv --opportunities chances.csv --origins origins.csv --destinations to.csv"
 SHARES = ASKED.replace("--share 50 --within 1800", "--share 1,25,50,75,100 --within 700,1800")
 SEVERAL = SHARES.replace("--from 08:00 --to 08:00", "--from 07:58 --to 08:01")
 # the words of each study

@@ -257,7 +257,7 @@ def access_of(
 def options(words: Sequence[str]) -> argparse.Namespace:
     parser = argparse.ArgumentParser(usage=__doc__)
     names = ["feed", "date", "from", "to", "trips", "walk", "share", "within", "workers", "tries", "back", "ahead"]
-    for name in names + ["origins", "opportunities", "footpaths"]:
+    for name in names + ["origins", "opportunities", "destinations", "footpaths"]:
         parser.add_argument("--" + name, default="1" if name in ("back", "ahead") else None)
     parser.add_argument("scenario", nargs="*")
     chosen = parser.parse_args(words)
@@ -279,8 +279,9 @@ def write_matrix(words: Sequence[str], file: TextIO) -> None:
     changes = feed.change_times()
     origins = [r["stop_id"] for r in rows(asked.origins)] if asked.origins else feed.stops
     counts = {r["stop_id"]: int(r["opportunities"]) for r in rows(asked.opportunities)} if asked.opportunities else None
+    columns = [r["stop_id"] for r in rows(asked.destinations)] if asked.destinations else feed.stops
     out = csv.writer(file, lineterminator="\n")
-    out.writerow(["scenario", "origin", "share"] + ["access_%d" % limit for limit in asked.within] + feed.stops)
+    out.writerow(["scenario", "origin", "share"] + ["access_%d" % limit for limit in asked.within] + columns)
     for scenario in [None] + asked.scenario:
         name = os.path.basename(scenario).removesuffix(".csv") if scenario else "base"
         runs = network(feed, asked, scenario)
@@ -289,7 +290,8 @@ def write_matrix(words: Sequence[str], file: TextIO) -> None:
             for share in asked.share:
                 cells = [cell([times[stop] for times in table], share) for stop in range(len(feed.stops))]
                 access = [access_of(cells, feed.stops, counts, limit) for limit in asked.within]
-                out.writerow([name, origin, share] + access + ["" if c is None else c for c in cells])
+                told = ["" if cells[feed.stop_no[stop]] is None else cells[feed.stop_no[stop]] for stop in columns]
+                out.writerow([name, origin, share] + access + told)
 
 
 if __name__ == "__main__":

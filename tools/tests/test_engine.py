@@ -32,7 +32,7 @@ def test_each_block_of_the_page_runs(room: Room, program: str, monkeypatch: pyte
         pytest.skip("without docs/PYTHON.md")
     monkeypatch.setenv("TTM_PROGRAM", program)
     blocks = re.findall(r"^```python\n(.*?)^```$", PAGE.read_text(), re.MULTILINE | re.DOTALL)
-    assert len(blocks) == 8
+    assert len(blocks) == 9
     names: dict[str, object] = {}
     with standing_in(room.folder):
         for block in blocks:

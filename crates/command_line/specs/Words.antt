@@ -65,7 +65,7 @@ abbrev pub option_rules : List Rule
 option_rules =
     needed (codes "feed") ∷ needed (codes "date") ∷ needed (codes "from") ∷ needed (codes "to") ∷ needed (codes "trips") ∷ needed (codes "walk")
     ∷ needed (codes "share") ∷ needed (codes "within") ∷ needed (codes "workers") ∷ needed (codes "tries") ∷ optional (codes "back")
-    ∷ optional (codes "ahead") ∷ optional (codes "origins") ∷ optional (codes "opportunities") ∷ optional (codes "footpaths") ∷ []
+    ∷ optional (codes "ahead") ∷ optional (codes "origins") ∷ optional (codes "opportunities") ∷ optional (codes "destinations") ∷ optional (codes "footpaths") ∷ []
 
 abbrev pub study_app : App
 study_app = with_rule (with_rule (with_rules (with_version (new_app (codes "ttm"))) option_rules) report_rule) scenario_rule
@@ -168,6 +168,7 @@ pub record NamesFiles (rows : List Row) (t : Task) : Type 0 where
   pub footpaths : text_at rows (codes "footpaths") ≡ option_map string_bytes t.footpaths
   pub origins : text_at rows (codes "origins") ≡ option_map string_bytes t.origins
   pub opportunities : text_at rows (codes "opportunities") ≡ option_map string_bytes t.opportunities
+  pub destinations : text_at rows (codes "destinations") ≡ option_map string_bytes t.destinations
   pub scenarios : scenarios_at rows ≡ map string_bytes t.scenarios.items
 
 -- ---- what is wrong

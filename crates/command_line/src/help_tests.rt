@@ -28,6 +28,7 @@ Options:
       --ahead <N>          Service days after the date that count, 0 to 6; 0 where the network is too large [default: 1]
       --origins <F>        File of the stops where journeys begin [default: all stops]
       --opportunities <F>  File of the opportunities at stops [default: 1 at each]
+      --destinations <F>   File of the stops that have a column of travel times [default: all stops]
       --footpaths <F>      File of further footpaths, in seconds [default: none]
       --report             Tell on standard error what was read, what seems wrong, and how far the rows are
   -h, --help               Print help

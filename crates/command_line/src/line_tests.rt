@@ -37,6 +37,7 @@ fn line(alloc: Global, fault: StudyFault) -> Result<Vec<u8>, AllocError> {
         footpaths: None,
         origins: None,
         opportunities: None,
+        destinations: None,
         scenarios: files.as_slice(),
     };
     fault_line(alloc, &fault, &inputs)
@@ -158,6 +159,29 @@ fn tells_each_file_of_an_analyst(rt: HostRuntime) {
         alloc,
         FileName::Opportunities,
         b"opportunities: record 9: bad date\n",
+    );
+    let fault = FeedFault {
+        file: FileName::Origins,
+        at: 9,
+        what: What::BadDate,
+    };
+    expect_words(
+        &rt,
+        alloc,
+        StudyFault::Destinations(fault),
+        b"ttm: ",
+        b"destinations: record 9: bad date\n",
+    );
+    let short = FeedFault {
+        what: What::Memory,
+        ..fault
+    };
+    expect_line(
+        &rt,
+        alloc,
+        StudyFault::Destinations(short),
+        b"ttm: out of memory\n",
+        3,
     );
 }
 

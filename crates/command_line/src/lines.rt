@@ -22,7 +22,7 @@ const OUT_OF_MEMORY: &[u8] = b"out of memory";
 
 /// The line that tells why a study isn't made: `ttm: `, what is wrong and where, and LF.
 ///
-/// Files of the feed are told by their names, the analyst's own as `origins`, `opportunities` and `footpaths.csv`;
+/// Files of the feed are told by their names, the analyst's own as `origins`, `opportunities`, `destinations` and `footpaths.csv`;
 /// records count from 1 with the header. A network that can't be made is always told as too large: the other two
 /// faults of a network can't come from a feed that was read. A name is told as it is.
 pub fn fault_line(
@@ -44,6 +44,7 @@ pub fn status(fault: &StudyFault) -> u8
     match fault {
         StudyFault::Scenarios | StudyFault::Name(_) => REFUSED,
         StudyFault::Feed(fault) => feed_status(fault.what),
+        StudyFault::Destinations(fault) => feed_status(fault.what),
         StudyFault::Scenario(_, fault) => edit_status(fault.what),
         StudyFault::Days(DayFault::Memory) => NO_ROOM,
         StudyFault::Days(_) => REFUSED,
@@ -136,6 +137,7 @@ fn rest(alloc: Global, fault: &StudyFault, files: &[NamedFile]) -> Result<Vec<u8
         StudyFault::Scenarios => Vec::from_slice(alloc, b"too many scenarios"),
         StudyFault::Name(k) => two(alloc, b"scenario name: ", file_name(files, k)),
         StudyFault::Feed(fault) => feed_text(alloc, fault),
+        StudyFault::Destinations(fault) => destinations_text(alloc, fault),
         StudyFault::Scenario(k, fault) => scenario_text(alloc, file_name(files, k), fault),
         StudyFault::Days(fault) => Vec::from_slice(alloc, fault.words().as_bytes()),
         StudyFault::Feet(fault) => Vec::from_slice(alloc, fault.words().as_bytes()),
@@ -187,6 +189,16 @@ fn feed_text(alloc: Global, fault: FeedFault) -> Result<Vec<u8>, AllocError>
         What::MissingFile => two(alloc, file_text(fault.file), b": missing file"),
         What::Memory => Vec::from_slice(alloc, OUT_OF_MEMORY),
         what => at_record(alloc, file_text(fault.file), fault.at, what_text(what)),
+    }
+}
+
+/// What is wrong with the file of destinations.
+fn destinations_text(alloc: Global, fault: FeedFault) -> Result<Vec<u8>, AllocError>
+    ensures { IfOk result (λ text. text.items ≡ spec.destinations_text fault.at fault.what) }
+{
+    match fault.what {
+        What::Memory => Vec::from_slice(alloc, OUT_OF_MEMORY),
+        what => at_record(alloc, b"destinations", fault.at, what_text(what)),
     }
 }
 

@@ -103,6 +103,12 @@ const OPTIONS: &[OptionText] = &[
         is_needed: false,
     },
     OptionText {
+        name: "destinations",
+        value: "F",
+        help: "File of the stops that have a column of travel times [default: all stops]",
+        is_needed: false,
+    },
+    OptionText {
         name: "footpaths",
         value: "F",
         help: "File of further footpaths, in seconds [default: none]",

@@ -27,6 +27,7 @@ pub struct Task {
     pub footpaths: Option<String>,
     pub origins: Option<String>,
     pub opportunities: Option<String>,
+    pub destinations: Option<String>,
     /// The scenario files, in their order.
     pub scenarios: Vec<String>,
     /// Whether the standard error is to tell what was read and how far the rows are. The matrix doesn't depend on it.

@@ -317,6 +317,7 @@ fn with_paths(
         footpaths: path_at(alloc, matches, "footpaths")?,
         origins: path_at(alloc, matches, "origins")?,
         opportunities: path_at(alloc, matches, "opportunities")?,
+        destinations: path_at(alloc, matches, "destinations")?,
         scenarios: scenarios_at(alloc, matches)?,
         report: report_at(matches),
     })

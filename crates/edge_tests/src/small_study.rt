@@ -82,6 +82,7 @@ pub(crate) fn small_inputs() -> Inputs<'static> {
         footpaths: Some(WALKS),
         origins: Some(FROM_A),
         opportunities: None,
+        destinations: None,
         scenarios: &[],
     }
 }

@@ -307,6 +307,34 @@ fn numbers_that_are_none(rt: HostRuntime) {
 }
 
 #[test]
+fn destinations_that_are_refused(rt: HostRuntime) {
+    let alloc = rt.alloc();
+    let unknown = Inputs {
+        origins: Some(b"stop_id\nA\n"),
+        destinations: Some(b"name,stop_id\nx,C\ny,Z\n"),
+        ..small_inputs()
+    };
+    expect(
+        &rt,
+        alloc,
+        &unknown,
+        MONDAY,
+        "ttm: column stop_id is \"Z\"; stops.txt has to name it, as a stop (location_type 0 or empty)\n",
+    );
+    let lacking = Inputs {
+        destinations: Some(b"stop\nC\n"),
+        ..small_inputs()
+    };
+    expect(
+        &rt,
+        alloc,
+        &lacking,
+        MONDAY,
+        "ttm: the header lacks column stop_id; it has stop\n",
+    );
+}
+
+#[test]
 fn stop_times_that_are_refused(rt: HostRuntime) {
     let alloc = rt.alloc();
     let inputs = Inputs {

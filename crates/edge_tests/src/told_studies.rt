@@ -91,6 +91,7 @@ ttm: trips set aside: 0
 ttm: transfers not used: 0
 ttm: direct footpaths: 2
 ttm: origins: 1
+ttm: destinations: 3
 ttm: closed footpaths: 3
 ttm: runs on 2026-05-03: 0
 ttm: runs on 2026-05-04: 2
@@ -98,7 +99,7 @@ ttm: runs on 2026-05-05: 0
 ttm: runs in scenario base: 2
 ttm: rows: 1
 ttm: cells: 3
-ttm: bytes of the matrix and its text, about: 42
+ttm: bytes of the matrix and its text, about: 56
 ttm: bytes that the machine has free: 1000
 ttm: rows done: 1 of 1, 100 percent, about 0:00:00 left
 ttm: rows done: 1 of 1
@@ -133,6 +134,7 @@ ttm: trips set aside: 0
 ttm: transfers not used: 0
 ttm: direct footpaths: 0
 ttm: origins: 1
+ttm: destinations: 3
 ttm: closed footpaths: 0
 ttm: warning: no walk leads anywhere, so changes are at one stop alone; ttm-tools walks makes a file for --footpaths, and --walk says how long a walk may be
 ttm: runs on 2026-05-05: 0
@@ -140,7 +142,7 @@ ttm: warning: no trip runs on the date itself; is it a date of the feed's calend
 ttm: runs in scenario base: 0
 ttm: rows: 1
 ttm: cells: 3
-ttm: bytes of the matrix and its text, about: 42
+ttm: bytes of the matrix and its text, about: 56
 ttm: bytes that the machine has free: 41
 ttm: warning: the machine may not have memory for the matrix; ttm-tools split makes parts of the origins, and ttm-tools join joins their matrices
 ttm: rows done: 1 of 1, 100 percent, about 0:00:00 left
@@ -191,6 +193,7 @@ ttm: trips set aside: 0
 ttm: transfers not used: 0
 ttm: direct footpaths: 2
 ttm: origins: 1
+ttm: destinations: 3
 ttm: closed footpaths: 3
 ttm: runs on 2026-05-04: 2
 ttm: runs in scenario base: 2
@@ -199,7 +202,7 @@ ttm: runs in scenario same: 2
 ttm: warning: this scenario changes nothing on the days of the study
 ttm: rows: 3
 ttm: cells: 9
-ttm: bytes of the matrix and its text, about: 126
+ttm: bytes of the matrix and its text, about: 168
 ttm: bytes that the machine has free: 1000
 ttm: rows done: 2 of 3, 66 percent, about 0:00:00 left\r
 ttm: rows done: 3 of 3
@@ -242,7 +245,7 @@ const LONG_RUN: Asked = Asked {
     shares: &[25, 50],
     start: 7_000_000,
     step: 1_000_000,
-    free: 336,
+    free: 448,
     ..MONDAY
 };
 
@@ -278,6 +281,7 @@ ttm: trips set aside: 1
 ttm: transfers not used: 2
 ttm: direct footpaths: 2
 ttm: origins: 2
+ttm: destinations: 3
 ttm: closed footpaths: 3
 ttm: runs on 2026-05-02: 0
 ttm: runs on 2026-05-03: 0
@@ -287,8 +291,8 @@ ttm: runs in scenario base: 2
 ttm: runs in scenario late: 2
 ttm: rows: 4
 ttm: cells: 24
-ttm: bytes of the matrix and its text, about: 336
-ttm: bytes that the machine has free: 336
+ttm: bytes of the matrix and its text, about: 448
+ttm: bytes that the machine has free: 448
 ttm: rows done: 1 of 4, 25 percent, about 0:50:00 left
 ttm: rows done: 2 of 4, 50 percent, about 0:33:20 left
 ttm: rows done: 3 of 4, 75 percent, about 0:16:40 left

@@ -150,7 +150,13 @@ impl Gate for Ledger {
 }
 
 impl Watch for Ledger {
-    fn tables_read(&self, _feed: &Feed, _direct: &Direct, _origins: &[StopNo]) {
+    fn tables_read(
+        &self,
+        _feed: &Feed,
+        _direct: &Direct,
+        _origins: &[StopNo],
+        _destinations: &[StopNo],
+    ) {
         self.stage(0);
     }
 

@@ -67,6 +67,7 @@ fn study_of(networks: &[Network]) -> Study<'_> {
             rides: 2,
             shares: &[50],
             limits: &[1_800],
+            destinations: &[StopNo(0), StopNo(1), StopNo(2)],
         },
     }
 }

@@ -59,6 +59,7 @@ fn labels_of<'a>(feed: &'a Feed, names: &'a [Vec<u8>]) -> Labels<'a> {
         origins: &[StopNo(0)],
         shares: &[50],
         limits: &[1_800],
+        destinations: &[StopNo(0), StopNo(1), StopNo(2)],
         feed,
     }
 }
@@ -118,6 +119,7 @@ fn is_memory(fault: StudyFault) -> bool {
     match fault {
         StudyFault::Memory => true,
         StudyFault::Feed(fault) => fault.what == What::Memory,
+        StudyFault::Destinations(fault) => fault.what == What::Memory,
         StudyFault::Scenario(_, fault) => fault.what == ScenarioWhat::Memory,
         StudyFault::Days(fault) => fault == DayFault::Memory,
         StudyFault::Feet(fault) => fault == FootFault::Memory,
@@ -135,6 +137,7 @@ pub(crate) struct StudyCase {
     minutes: u32,
     shares: &'static [u32],
     limits: &'static [u32],
+    destinations: Option<&'static [u8]>,
     workers: u32,
     text: &'static [u8],
 }
@@ -145,10 +148,27 @@ pub(crate) const ONE_SHARE: StudyCase = StudyCase {
     minutes: 1,
     shares: &[50],
     limits: &[1_800],
+    destinations: None,
     workers: 1,
     text: b"scenario,origin,share,access_1800,A,B,C
 base,A,50,3,0,600,1800
 cut,A,50,2,0,600,
+",
+};
+
+/// Two shares, and C and A as the only destinations; access counts B too.
+pub(crate) const TWO_DESTINATIONS: StudyCase = StudyCase {
+    first: 478,
+    minutes: 4,
+    shares: &[25, 50],
+    limits: &[1_800],
+    destinations: Some(b"stop_id\nC\nA\n"),
+    workers: 1,
+    text: b"scenario,origin,share,access_1800,C,A
+base,A,25,3,1800,0
+base,A,50,2,1860,0
+cut,A,25,2,,0
+cut,A,50,2,,0
 ",
 };
 
@@ -158,6 +178,7 @@ pub(crate) const FIVE_SHARES: StudyCase = StudyCase {
     minutes: 4,
     shares: &[1, 25, 50, 75, 100],
     limits: &[700, 1_800],
+    destinations: None,
     workers: 2,
     text: b"scenario,origin,share,access_700,access_1800,A,B,C
 base,A,1,2,3,0,600,1800
@@ -180,7 +201,7 @@ pub(crate) fn try_study<R: Threads + Wait + Sync>(
     case: StudyCase,
 ) -> Outcome {
     match (scenarios(alloc), settings(alloc, case)) {
-        (Ok(scenarios), Some(settings)) => try_inputs(rt, alloc, &scenarios, &settings, case.text),
+        (Ok(scenarios), Some(settings)) => try_inputs(rt, alloc, &scenarios, &settings, case),
         _ => Outcome::Inputs,
     }
 }
@@ -215,18 +236,19 @@ fn try_inputs<R: Threads + Wait + Sync>(
     alloc: Global,
     scenarios: &[NamedFile],
     settings: &Settings,
-    text: &[u8],
+    case: StudyCase,
 ) -> Outcome {
     let inputs = Inputs {
         feed: small_files(),
         footpaths: None,
         origins: Some(FROM_A),
         opportunities: None,
+        destinations: case.destinations,
         scenarios,
     };
-    match runs_study(rt, alloc, &inputs, settings, text) {
+    match runs_study(rt, alloc, &inputs, settings, case.text) {
         Ok(is_right) => Outcome::at_once(is_right),
-        Err(_) => Outcome::again(runs_study(rt, alloc, &inputs, settings, text)),
+        Err(_) => Outcome::again(runs_study(rt, alloc, &inputs, settings, case.text)),
     }
 }
 

@@ -2,7 +2,7 @@
 
 use crate::networks::{BACK_IN_TIME, FAR_WALK, FeetCase, NetCase, TOO_FAR, TWO_TRIPS, WALK};
 use crate::outcomes::Outcome;
-use crate::texts::{FIVE_SHARES, ONE_SHARE, StudyCase};
+use crate::texts::{FIVE_SHARES, ONE_SHARE, StudyCase, TWO_DESTINATIONS};
 use crate::{books, networks, rows, searches, tables, texts, words};
 use std::alloc::Global;
 use std::sync::Wait;
@@ -34,7 +34,7 @@ pub(crate) enum Trial {
 }
 
 /// Each trial by its name, which begins with that of the call.
-pub(crate) const TRIALS: [(&str, Trial); 42] = [
+pub(crate) const TRIALS: [(&str, Trial); 43] = [
     ("Feet::new", Trial::Feet(WALK)),
     ("Feet::new, stop out of range", Trial::Feet(FAR_WALK)),
     ("Network::new", Trial::Network(TWO_TRIPS)),
@@ -72,6 +72,10 @@ pub(crate) const TRIALS: [(&str, Trial); 42] = [
     ("minute_line", Trial::MinuteLine),
     ("run_study", Trial::RunStudy(ONE_SHARE)),
     ("run_study, five shares", Trial::RunStudy(FIVE_SHARES)),
+    (
+        "run_study, two destinations",
+        Trial::RunStudy(TWO_DESTINATIONS),
+    ),
     ("numbers_of", Trial::Word(words::Call::NumbersOf)),
     ("task_of", Trial::TaskOf(words::Asked::Study)),
     ("task_of, help", Trial::TaskOf(words::Asked::Help)),

@@ -84,6 +84,7 @@ fn tells_fault(alloc: Global) -> Result<bool, AllocError> {
         footpaths: None,
         origins: None,
         opportunities: None,
+        destinations: None,
         scenarios: &[],
     };
     let fault = StudyFault::Feed(FeedFault {
@@ -149,6 +150,7 @@ fn is_study(task: &Task) -> bool {
     let has_no_files = task.footpaths.is_none()
         && task.origins.is_none()
         && task.opportunities.is_none()
+        && task.destinations.is_none()
         && task.scenarios.is_empty();
     task.feed.as_str() == "town" && has_no_files && are_asked(&task.settings)
 }

@@ -1,10 +1,28 @@
 //! Worked examples of cells and access.
 
-use crate::small_networks::{SmallNetwork, a_line, of_window, two_trips};
+ghost use Rattle.std.specs.Prelude.{◌<◌, All, IsTrue};
+
+use crate::small_networks::{SmallNetwork, a_line, network_with, of_window, two_trips};
 use rounds::{Durations, Window};
 use shares::{access, cell, cells, cells_of};
-use std::alloc::Global;
+use std::alloc::{AllocError, Global};
 use timetable::{MOST_STOPS, StopNo};
+
+/// So many stops, in order.
+fn stops_below(alloc: Global, stops: u32) -> Result<Vec<StopNo>, AllocError> {
+    let mut all = Vec::with_capacity(alloc, stops as usize)?;
+    for stop in 0..stops {
+        all.push(StopNo(stop))?;
+    }
+    Ok(all)
+}
+
+/// Whether each of some stops is one of those that durations are of.
+fn are_of(found: &Durations, stops: &[StopNo]) -> bool
+    ensures { IsTrue result → All (λ stop. stop.0 < found.now.stops) stops.now }
+{
+    stops.iter().all(|stop| stop.0 < found.stops())
+}
 
 /// Whether these are the cells of a share, also one by one.
 fn are(alloc: Global, found: &Durations, share: u32, expected: &[Option<u32>]) -> bool {
@@ -16,7 +34,24 @@ fn are(alloc: Global, found: &Durations, share: u32, expected: &[Option<u32>]) -
             return false;
         }
     }
-    match cells(alloc, found, share) {
+    match stops_below(alloc, found.stops()) {
+        Ok(stops) => are_cells_of(alloc, found, &stops, share, expected),
+        Err(_) => false,
+    }
+}
+
+/// Whether these are the cells of some destinations.
+fn are_cells_of(
+    alloc: Global,
+    found: &Durations,
+    destinations: &[StopNo],
+    share: u32,
+    expected: &[Option<u32>],
+) -> bool {
+    if share > 100 || !are_of(found, destinations) {
+        return false;
+    }
+    match cells(alloc, found, destinations, share) {
         Ok(all) => all.as_slice() == expected,
         Err(_) => false,
     }
@@ -82,8 +117,9 @@ fn cells_of_shares(rt: HostRuntime) {
 fn has_cells_of(
     alloc: Global,
     window: Window,
+    destinations: &[StopNo],
     shares: [u32; 2],
-    expected: [[Option<u32>; 3]; 2],
+    expected: [&[Option<u32>]; 2],
 ) -> bool {
     if shares[0] > 100 || shares[1] > 100 {
         return false;
@@ -94,11 +130,14 @@ fn has_cells_of(
     let Ok(Some(found)) = of_window(alloc, &network, 0, window, 2) else {
         return false;
     };
-    match cells_of(alloc, &found, &shares) {
+    if !are_of(&found, destinations) {
+        return false;
+    }
+    match cells_of(alloc, &found, destinations, &shares) {
         Ok(lists) => {
             lists.len() == 2
-                && lists[0].as_slice() == expected[0].as_slice()
-                && lists[1].as_slice() == expected[1].as_slice()
+                && lists[0].as_slice() == expected[0]
+                && lists[1].as_slice() == expected[1]
         }
         Err(_) => false,
     }
@@ -110,38 +149,62 @@ fn cells_of_two_shares_at_once(rt: HostRuntime) {
         first: 28_680,
         minutes: 4,
     };
-    let expected = [
-        [Some(0), Some(660), Some(1_860)],
-        [Some(0), Some(720), Some(1_920)],
+    let all = [StopNo(0), StopNo(1), StopNo(2)];
+    let alloc = rt.alloc();
+    let expected: [&[Option<u32>]; 2] = [
+        &[Some(0), Some(660), Some(1_860)],
+        &[Some(0), Some(720), Some(1_920)],
     ];
-    assert!(rt; has_cells_of(rt.alloc(), four, [50, 75], expected));
+    assert!(rt; has_cells_of(alloc, four, &all, [50, 75], expected));
+    let turned: [&[Option<u32>]; 2] = [&[Some(1_860), Some(0)], &[Some(1_920), Some(0)]];
+    assert!(rt; has_cells_of(alloc, four, &[StopNo(2), StopNo(0)], [50, 75], turned));
+    assert!(rt; has_cells_of(alloc, four, &[], [50, 75], [&[], &[]]));
 }
 
-/// The access, where there are as many opportunities as cells.
-fn sum_within(cells: &[Option<u32>], opportunities: &[u32], within: u32) -> Option<u64> {
-    if cells.len() == opportunities.len() && cells.len() <= MOST_STOPS {
-        return Some(access(cells, opportunities, within));
+/// The access of a share, where there are as many opportunities as stops.
+fn sum_within(found: &Durations, opportunities: &[u32], share: u32, within: u32) -> Option<u64> {
+    if found.stops() as usize == opportunities.len() && share <= 100 {
+        return Some(access(found, opportunities, share, within));
     }
     None
 }
 
+/// From 07:58 to 08:01 the two trips' cells are 0, 600 and 1,800 for a quarter of the minutes, 0, 660 and 1,860 for half of them,
+/// and 0 alone for all: the share, the opportunities, the limit and the sum.
+const SUMS: [(u32, [u32; 3], u32, u64); 11] = [
+    (25, [0, 10, 5], 1_800, 15),
+    (25, [0, 10, 5], 1_799, 10),
+    (25, [0, 10, 5], 600, 10),
+    (25, [0, 10, 5], 599, 0),
+    (25, [1, 1, 1], 0, 1),
+    (50, [1, 1, 1], 1_800, 2),
+    (50, [1, 1, 1], 1_860, 3),
+    (25, [1, 1, 1], u32::MAX, 3),
+    (100, [1, 1, 1], u32::MAX, 1),
+    (0, [1, 1, 1], 0, 3),
+    (25, [u32::MAX, u32::MAX, u32::MAX], 1_800, 12_884_901_885),
+];
+
+/// Whether the two trips have these sums.
+fn two_trips_have_their_sums(alloc: Global) -> bool {
+    let four = Window {
+        first: 28_680,
+        minutes: 4,
+    };
+    let Ok(network) = two_trips(alloc, 29_700, true) else {
+        return false;
+    };
+    match of_window(alloc, &network, 0, four, 2) {
+        Ok(Some(found)) => SUMS.iter().all(|(share, opportunities, within, expected)| {
+            sum_within(&found, opportunities, *share, *within) == Some(*expected)
+        }),
+        _ => false,
+    }
+}
+
 #[test]
 fn opportunities_within_reach(rt: HostRuntime) {
-    let all = [Some(0), Some(600), Some(1_800)];
-    let most = u32::MAX;
-    for (cells, opportunities, within, expected) in [
-        (all, [0, 10, 5], 1_800, 15),
-        (all, [0, 10, 5], 1_799, 10),
-        (all, [0, 10, 5], 600, 10),
-        (all, [0, 10, 5], 599, 0),
-        (all, [1, 1, 1], 0, 1),
-        ([Some(0), Some(660), Some(1_860)], [1, 1, 1], 1_800, 2),
-        ([Some(0), None, None], [1, 1, 1], most, 1),
-        (all, [most, most, most], 1_800, 12_884_901_885),
-    ] {
-        let found = sum_within(cells.as_slice(), opportunities.as_slice(), within);
-        assert!(rt; found == Some(expected), "within {within}");
-    }
+    assert!(rt; two_trips_have_their_sums(rt.alloc()));
 }
 
 /// Whether the line's stops lie two minutes apart for every share of an hour.
@@ -163,26 +226,54 @@ fn an_hour_of_a_trip_every_minute(rt: HostRuntime) {
         rides[stop as usize] = Some(120 * stop);
     }
     assert!(rt; the_line_has_its_cells(rt.alloc(), &rides));
-    let ones = [1; 20];
-    assert!(rt; sum_within(&rides, &ones, 1_200) == Some(11));
-    assert!(rt; sum_within(&rides, &ones, 1_199) == Some(10));
+    assert!(rt; the_line_has_its_sums(rt.alloc()));
 }
 
-/// Whether the greatest opportunities at so many stops, all 7,200 seconds away, have this sum within a limit.
-fn greatest_sum(alloc: Global, stops: usize, within: u32, expected: u64) -> bool {
-    match (
-        vec![in alloc; Some(7_200); stops],
-        vec![in alloc; u32::MAX; stops],
-    ) {
-        (Ok(cells), Ok(opportunities)) => {
-            sum_within(&cells, &opportunities, within) == Some(expected)
+/// Whether eleven of the line's stops lie within 20 minutes, and ten within a second less.
+fn the_line_has_its_sums(alloc: Global) -> bool {
+    let hour = Window {
+        first: 21_600,
+        minutes: 60,
+    };
+    let Ok(network) = a_line(alloc) else {
+        return false;
+    };
+    match of_window(alloc, &network, 0, hour, 2) {
+        Ok(Some(found)) => {
+            sum_within(&found, &[1; 20], 50, 1_200) == Some(11)
+                && sum_within(&found, &[1; 20], 50, 1_199) == Some(10)
         }
+        _ => false,
+    }
+}
+
+/// The most stops, each a walk of 7,200 seconds from the first one.
+fn far_walks(alloc: Global) -> Result<SmallNetwork, AllocError> {
+    let mut walks = Vec::new(alloc);
+    for stop in 1..MOST_STOPS as u32 {
+        walks.push((0, stop, 7_200))?;
+    }
+    network_with(alloc, MOST_STOPS as u32, &walks, Vec::new(alloc))
+}
+
+/// Whether the greatest opportunities at the most stops, all but the first 7,200 seconds away, have this sum within a limit.
+fn greatest_sum(alloc: Global, within: u32, expected: u64) -> bool {
+    let minute = Window {
+        first: 28_800,
+        minutes: 1,
+    };
+    let (Ok(network), Ok(opportunities)) = (far_walks(alloc), vec![in alloc; u32::MAX; MOST_STOPS])
+    else {
+        return false;
+    };
+    match of_window(alloc, &network, 0, minute, 1) {
+        Ok(Some(found)) => sum_within(&found, &opportunities, 100, within) == Some(expected),
         _ => false,
     }
 }
 
 #[test]
 fn the_greatest_opportunities_at_the_most_stops(rt: HostRuntime) {
-    assert!(rt; greatest_sum(rt.alloc(), 65_535, 7_200, 281_470_681_677_825));
-    assert!(rt; greatest_sum(rt.alloc(), 65_535, 7_199, 0));
+    assert!(rt; greatest_sum(rt.alloc(), 7_200, 281_470_681_677_825));
+    assert!(rt; greatest_sum(rt.alloc(), 7_199, 4_294_967_295));
 }

@@ -70,6 +70,7 @@ fn asked() -> Asked<'static> {
         rides: 2,
         shares: &[50],
         limits: &[1_800],
+        destinations: &[StopNo(0), StopNo(1), StopNo(2)],
     }
 }
 
@@ -145,6 +146,7 @@ enum Wanted {
     Shares,
     SharesAtOnce,
     Reach,
+    Destinations,
     OneRide,
     EveryRow,
     OneRow,
@@ -171,6 +173,7 @@ fn give(alloc: Global, networks: &[Network], wanted: Wanted) -> bool {
         Wanted::Shares => give_the_nearest_rank(alloc, networks),
         Wanted::SharesAtOnce => give_each_share_and_limit(alloc, networks),
         Wanted::Reach => sum_the_opportunities(alloc, networks),
+        Wanted::Destinations => give_the_destinations(alloc, networks),
         Wanted::OneRide => count_rides(alloc, networks),
         Wanted::EveryRow => give_every_row(alloc, networks),
         Wanted::OneRow => give_one_row(alloc, networks),
@@ -285,6 +288,69 @@ fn sums_the_opportunities_within_reach(rt: HostRuntime) {
     assert!(rt; are_right(rt.alloc(), BASE, Wanted::Reach));
 }
 
+/// Whether the first row of a matrix has these access sums and cells for each of its shares.
+fn begins_with_some(matrix: &Matrix, given: &[(u64, &[Option<u32>])]) -> bool {
+    if matrix.scenarios() == 0 || matrix.origins() == 0 {
+        return false;
+    }
+    let row = matrix.row(0, 0);
+    for (found, (access, cells)) in row.shares.iter().zip(given.iter()) {
+        if found.access.as_slice() != [*access].as_slice() || found.cells.as_slice() != *cells {
+            return false;
+        }
+    }
+    row.shares.len() == given.len()
+}
+
+/// What the shares 50 and 75 of the minutes from 07:58 to 08:01 give from A for some destinations, with their cells.
+const TO: [(&[StopNo], [&[Option<u32>]; 2]); 4] = [
+    (
+        &[StopNo(2), StopNo(0)],
+        [&[Some(1_860), Some(0)], &[Some(1_920), Some(0)]],
+    ),
+    (&[StopNo(1)], [&[Some(660)], &[Some(720)]]),
+    (
+        &[StopNo(1), StopNo(1)],
+        [&[Some(660), Some(660)], &[Some(720), Some(720)]],
+    ),
+    (&[], [&[], &[]]),
+];
+
+/// The cells of the destinations alone, in their order, and the access of all stops.
+fn give_the_destinations(alloc: Global, networks: &[Network]) -> bool {
+    for (destinations, [half, more]) in TO {
+        let asked = Asked {
+            window: window(478, 4),
+            shares: &[50, 75],
+            destinations,
+            ..asked()
+        };
+        let study = Study {
+            opportunities: &[1, 10, 5],
+            ..asking(networks, asked)
+        };
+        if !study.fits() {
+            return false;
+        }
+        match one_thread(alloc, &study) {
+            Ok(matrix) => {
+                if matrix.width() as usize != destinations.len()
+                    || !begins_with_some(&matrix, &[(11, half), (11, more)])
+                {
+                    return false;
+                }
+            }
+            Err(_) => return false,
+        }
+    }
+    true
+}
+
+#[test]
+fn gives_the_cells_of_the_destinations_and_the_access_of_all_stops(rt: HostRuntime) {
+    assert!(rt; are_right(rt.alloc(), BASE, Wanted::Destinations));
+}
+
 /// One ride, where C wants two.
 fn count_rides(alloc: Global, networks: &[Network]) -> bool {
     let asked = Asked {
@@ -388,7 +454,7 @@ fn give_no_rows(alloc: Global, networks: &[Network]) -> bool {
         origins: &[],
         ..study_of(networks)
     };
-    gives(alloc, &from_nowhere, (1, 0, 3), &[]) && gives(alloc, &study_of(&[]), (0, 1, 0), &[])
+    gives(alloc, &from_nowhere, (1, 0, 3), &[]) && gives(alloc, &study_of(&[]), (0, 1, 3), &[])
 }
 
 #[test]
@@ -406,13 +472,23 @@ fn fits_with(networks: &[Network], minutes: u32, rides: u32) -> bool {
     asking(networks, asked).fits()
 }
 
-/// Rides, minutes and origins, at each limit and past it.
+/// Whether the study of some networks fits with these destinations.
+fn fits_to(networks: &[Network], destinations: &[StopNo]) -> bool {
+    let asked = Asked {
+        destinations,
+        ..asked()
+    };
+    asking(networks, asked).fits()
+}
+
+/// Rides, minutes, origins and destinations, at each limit and past it.
 fn fit_up_to_each_limit(networks: &[Network]) -> bool {
     let fits = |minutes, rides| fits_with(networks, minutes, rides);
     let rides = !fits(1, 0) && fits(1, 1) && fits(1, 8) && !fits(1, 9);
     let minutes = !fits(0, 1) && fits(1_440, 1) && !fits(1_441, 1);
     let origins = fits_from(networks, &[StopNo(2)]) && !fits_from(networks, &[StopNo(3)]);
-    rides && minutes && origins
+    let destinations = fits_to(networks, &[StopNo(2)]) && !fits_to(networks, &[StopNo(3)]);
+    rides && minutes && origins && destinations
 }
 
 #[test]

@@ -72,14 +72,18 @@ type Told<'a> = (u32, u32, &'a [u64], &'a [Option<u32>]);
 /// From A: B after ten minutes and C after thirty.
 const FROM_A: Told<'static> = (0, 0, &[3], &[Some(0), Some(600), Some(1_800)]);
 
-/// The names of scenarios, the stops of origins, and the shares and limits.
+/// The names of scenarios, the stops of origins, the shares and limits, and the stops of the columns.
 #[derive(Clone, Copy)]
 struct Named<'a> {
     scenarios: &'a [&'a [u8]],
     origins: &'a [StopNo],
     shares: &'a [u32],
     limits: &'a [u32],
+    destinations: &'a [StopNo],
 }
+
+/// The three stops of a feed, in order.
+const EVERY_STOP: [StopNo; 3] = [StopNo(0), StopNo(1), StopNo(2)];
 
 /// One scenario, and A as the only origin, at half of the minutes and within half an hour.
 const BASE_FROM_A: Named<'static> = Named {
@@ -87,6 +91,7 @@ const BASE_FROM_A: Named<'static> = Named {
     origins: &[StopNo(0)],
     shares: &[50],
     limits: &[1_800],
+    destinations: &EVERY_STOP,
 };
 
 /// The row of a scenario and an origin, of what each of its shares gives; want of memory is told too without shares.
@@ -160,6 +165,7 @@ fn write_over<W: Write>(
         origins: named.origins,
         shares: named.shares,
         limits: named.limits,
+        destinations: named.destinations,
         feed,
     };
     if !labels.fit(matrix) {
@@ -228,6 +234,7 @@ fn writes_scenarios_and_their_origins_in_order(rt: HostRuntime) {
         origins: &[StopNo(0), StopNo(1), StopNo(2)],
         shares: &[50],
         limits: &[1_800],
+        destinations: &EVERY_STOP,
     };
     let want = b"scenario,origin,share,access_1800,A,B,C
 base,A,50,3,0,600,1800
@@ -256,6 +263,7 @@ fn writes_a_line_for_each_share_and_a_sum_for_each_limit(rt: HostRuntime) {
         origins: &[StopNo(0), StopNo(1)],
         shares: &[50, 100],
         limits: &[700, 1_800],
+        destinations: &EVERY_STOP,
     };
     let want = b"scenario,origin,share,access_700,access_1800,A,B,C
 base,A,50,2,2,0,660,1860
@@ -315,6 +323,7 @@ fn gives_a_line_longer_than(alloc: Global, bytes: usize) -> Result<bool, AllocEr
         origins: &[StopNo(0)],
         shares: &[50],
         limits: &[1_800],
+        destinations: &EVERY_STOP,
     };
     Ok(gives(alloc, THREE_STOPS, &[FROM_A], named, &want))
 }
@@ -356,6 +365,7 @@ fn labels_fit(scenarios: &[Vec<u8>], named: Named<'_>, feed: &Feed, matrix: &Mat
         origins: named.origins,
         shares: named.shares,
         limits: named.limits,
+        destinations: named.destinations,
         feed,
     };
     labels.fit(matrix)
@@ -382,6 +392,7 @@ fn labels_are_told(alloc: Global) -> bool {
             origins,
             shares,
             limits,
+            destinations: &EVERY_STOP,
         };
         if fit(alloc, THREE_STOPS, named) != Some(*want) {
             return false;
@@ -394,6 +405,46 @@ fn labels_are_told(alloc: Global) -> bool {
 fn labels_fit_their_own_matrix_alone(rt: HostRuntime) {
     assert!(rt; labels_are_told(rt.alloc()));
     assert_eq!(rt; fit(rt.alloc(), TWO_STOPS, BASE_FROM_A), Some(false));
+}
+
+/// The labels of one scenario from A, with these columns.
+fn to(destinations: &[StopNo]) -> Named<'_> {
+    Named {
+        destinations,
+        ..BASE_FROM_A
+    }
+}
+
+#[test]
+fn a_matrix_has_as_many_columns_as_labels(rt: HostRuntime) {
+    let alloc = rt.alloc();
+    assert_eq!(rt;
+        fit(alloc, THREE_STOPS, to(&[StopNo(2), StopNo(0), StopNo(1)])),
+        Some(true)
+    );
+    assert_eq!(rt;
+        fit(alloc, THREE_STOPS, to(&[StopNo(2), StopNo(0)])),
+        Some(false)
+    );
+    assert_eq!(rt;
+        fit(alloc, THREE_STOPS, to(&[StopNo(0), StopNo(1), StopNo(3)])),
+        Some(false)
+    );
+}
+
+#[test]
+fn names_each_column_by_its_own_stop(rt: HostRuntime) {
+    let told: [Told<'_>; 1] = [(0, 0, &[3], &[Some(1_800), Some(0), Some(600)])];
+    let want = b"scenario,origin,share,access_1800,C,A,B\nbase,A,50,3,1800,0,600\n";
+    assert!(rt;
+        gives(
+            rt.alloc(),
+            THREE_STOPS,
+            &told,
+            to(&[StopNo(2), StopNo(0), StopNo(1)]),
+            want
+        )
+    );
 }
 
 /// Takes at most so many bytes at a call, and fails after so many calls.

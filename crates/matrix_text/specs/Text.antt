@@ -9,13 +9,14 @@ use Rattle.collector.specs.Row.{CellsData, RowData}
 use Rattle.collector.specs.Places.{MatrixData}
 use Rattle.matrix_text.specs.declared.labels.Labels.{Labels}
 
--- the names of the scenarios, the stop of each origin, the shares of the minutes, the limits of reach in seconds, and the
--- identifiers of all stops
+-- the names of the scenarios, the stop of each origin, the shares of the minutes, the limits of reach in seconds, the destinations, and
+-- the identifiers of all stops
 pub record LabelData : Type 0 where
   pub scenarios : List (List ℕ)
   pub origins : List StopNo
   pub shares : List ℕ
   pub limits : List ℕ
+  pub destinations : List StopNo
   pub stops : List (List ℕ)
 
 abbrev pub labels_of : Labels → LabelData
@@ -24,17 +25,20 @@ labels_of l = record {
   origins = l.origins.now;
   shares = l.shares.now;
   limits = l.limits.now;
+  destinations = l.destinations.now;
   stops = l.feed.now.stops;
 }
 
--- one name per scenario, one of the stops per origin, and as many shares, limits and stops as the matrix has shares, limits and columns
+-- one name per scenario, one of the stops per origin and per destination, and as many shares, limits and destinations as the matrix has
+-- shares, limits and columns
 pub record LabelsFit (l : LabelData) (m : MatrixData) : Type 0 where
   pub scenarios : length l.scenarios ≡ m.scenarios
   pub origins : length l.origins ≡ m.origins
   pub origins_are : All (λ o. o.0 < length l.stops) l.origins
   pub shares : length l.shares ≡ m.shares
   pub limits : length l.limits ≡ m.limits
-  pub columns : length l.stops ≡ m.width
+  pub destinations_are : All (λ o. o.0 < length l.stops) l.destinations
+  pub columns : length l.destinations ≡ m.width
 
 -- the text of a record, quoted where needed, ended by LF
 unfoldable pub line_text : List (List ℕ) → List ℕ
@@ -44,9 +48,14 @@ line_text fields = row_text default_writer fields
 abbrev pub limit_field : ℕ → List ℕ
 limit_field limit = codes "access_" ++ decimal limit
 
--- the fields of the header
-abbrev pub header_fields : List ℕ → List (List ℕ) → List (List ℕ)
-header_fields limits stops = codes "scenario" ∷ codes "origin" ∷ codes "share" ∷ (map limit_field limits ++ stops)
+-- the element at a place, or an empty text
+abbrev pub text_at : List (List ℕ) → ℕ → List ℕ
+text_at texts k = option_map_or (λ (text : List ℕ). text) (slice_get texts k) []
+
+-- the fields of the header: behind the limits' the identifiers of the destinations, in their order
+abbrev pub header_fields : List ℕ → List StopNo → List (List ℕ) → List (List ℕ)
+header_fields limits destinations stops =
+    codes "scenario" ∷ codes "origin" ∷ codes "share" ∷ (map limit_field limits ++ map (λ (stop : StopNo). text_at stops stop.0) destinations)
 
 -- a cell's field: its digits, or nothing where it is absent
 abbrev pub cell_field : Option ℕ → List ℕ
@@ -64,10 +73,6 @@ share_line name stop (share, given) = line_text (share_fields name stop share gi
 -- the lines of a row, one for each share, in order
 abbrev pub row_lines : List ℕ → List ℕ → List ℕ → List CellsData → List ℕ
 row_lines name stop shares given = flat_map (share_line name stop) (zip shares given)
-
--- the element at a place, or an empty text
-abbrev pub text_at : List (List ℕ) → ℕ → List ℕ
-text_at texts k = option_map_or (λ (text : List ℕ). text) (slice_get texts k) []
 
 -- the identifier of an origin's stop
 abbrev pub origin_at : LabelData → ℕ → List ℕ
@@ -94,4 +99,4 @@ rows_text l m = texts_below (scenario_text l m) m.scenarios
 
 -- the header, and then all rows
 abbrev pub matrix_text : LabelData → MatrixData → List ℕ
-matrix_text l m = line_text (header_fields l.limits l.stops) ++ rows_text l m
+matrix_text l m = line_text (header_fields l.limits l.destinations l.stops) ++ rows_text l m

@@ -6,7 +6,7 @@ use collector::Matrix;
 use gtfs_tables::Feed;
 use timetable::StopNo;
 
-/// The names of a matrix's scenarios, its origins, its shares and limits, and the feed whose stops are its columns.
+/// The names of a matrix's scenarios, its origins, its shares and limits, and the stops of a feed that are its columns.
 #[derive(Clone, Copy)]
 pub struct Labels<'a> {
     /// The scenarios' names, in order.
@@ -17,13 +17,15 @@ pub struct Labels<'a> {
     pub shares: &'a [u32],
     /// The limits of reach in seconds, in the order of the access sums.
     pub limits: &'a [u32],
+    /// The stop of each column of cells, in order.
+    pub destinations: &'a [StopNo],
     /// The feed, for the identifiers of the stops.
     pub feed: &'a Feed,
 }
 
 impl Labels<'_> {
     /// Whether the labels fit a matrix: there is one name per scenario and one stop of the feed per origin, there are as
-    /// many shares and limits as the matrix has, and the feed has as many stops as it has columns.
+    /// many shares and limits as the matrix has, and one stop of the feed per column.
     pub fn fit(&self, matrix: &Matrix) -> bool
         ensures { IsTrue result ↔ LabelsFit (labels_of self.now) matrix.now }
     {
@@ -32,13 +34,14 @@ impl Labels<'_> {
             && are_stops(self.origins, self.feed.stop_count())
             && self.shares.len() == matrix.shares() as usize
             && self.limits.len() == matrix.limits() as usize
-            && self.feed.stop_count() == matrix.width()
+            && are_stops(self.destinations, self.feed.stop_count())
+            && self.destinations.len() == matrix.width() as usize
     }
 }
 
-/// Whether each origin is one of so many stops.
-fn are_stops(origins: &[StopNo], stops: u32) -> bool
-    ensures { IsTrue result ↔ All (λ o. o.0 < stops) origins.now }
+/// Whether each of these is one of so many stops.
+fn are_stops(named: &[StopNo], stops: u32) -> bool
+    ensures { IsTrue result ↔ All (λ o. o.0 < stops) named.now }
 {
-    origins.iter().all(|origin| origin.0 < stops)
+    named.iter().all(|stop| stop.0 < stops)
 }

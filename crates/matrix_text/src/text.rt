@@ -1,7 +1,7 @@
 //! The text of a matrix, line after line.
-ghost use Rattle.std.specs.Prelude.{◌≡◌, ◌<◌, ◌++◌, map, decimal, OnOk, OnErr};
+ghost use Rattle.std.specs.Prelude.{◌≡◌, ◌<◌, ◌++◌, ◌∷◌, [], All, length, map, decimal, OnOk, OnErr};
 ghost use Rattle.std.specs.Io.KnownBytes.{Appends};
-ghost use Rattle.matrix_text.specs.Text.{labels_of, LabelsFit, limit_field, header_fields, share_fields, cell_field, line_text, row_lines, lines_at, scenario_text, rows_text, matrix_text};
+ghost use Rattle.matrix_text.specs.Text.{labels_of, text_at, LabelsFit, limit_field, header_fields, share_fields, cell_field, line_text, row_lines, lines_at, scenario_text, rows_text, matrix_text};
 ghost use Rattle.matrix_text.specs.Prefixes.{PutsPrefix};
 
 use crate::faults::TextFault;
@@ -15,8 +15,8 @@ use timetable::StopNo;
 
 /// Writes the text of a matrix, where the labels fit it.
 ///
-/// The header has the fields `scenario`, `origin`, `share`, one for each limit, as `access_1800`, and the stops' identifiers
-/// in order. Records follow for each row, scenarios in order, and each scenario's origins in order; a row has one for each
+/// The header has the fields `scenario`, `origin`, `share`, one for each limit, as `access_1800`, and the destinations'
+/// identifiers in order. Records follow for each row, scenarios in order, and each scenario's origins in order; a row has one for each
 /// share, in order: the scenario's name, the identifier of the origin's stop, the share, an access for each limit, and the
 /// cells in seconds, an absent one as an empty field. Fields are quoted where commas, quotes or line ends in them ask for
 /// it (RFC 4180), and each line ends with LF.
@@ -37,7 +37,13 @@ pub fn write_matrix<W: Write>(
         (PutsPrefix (W.contents w.old) (W.contents w.new) (matrix_text (labels_of labels.now) matrix.now)) }
 {
     let mut line = Line::new(alloc);
-    write_header(&mut line, labels.limits, labels.feed, w)?;
+    write_header(
+        &mut line,
+        labels.limits,
+        labels.destinations,
+        labels.feed,
+        w,
+    )?;
     write_rows(&mut line, matrix, labels, w)
 }
 
@@ -45,28 +51,36 @@ pub fn write_matrix<W: Write>(
 fn write_header<W: Write>(
     line: &mut Line,
     limits: &[u32],
+    destinations: &[StopNo],
     feed: &Feed,
     w: &mut W,
 ) -> Result<(), TextFault>
+    requires { All (λ stop. stop.0 < length feed.now.stops) destinations.now }
     ensures ok { OnOk result
-        (Appends (W.contents w.old) (W.contents w.new) (line_text (header_fields limits.now feed.now.stops))) }
+        (Appends (W.contents w.old) (W.contents w.new) (line_text (header_fields limits.now destinations.now feed.now.stops))) }
     ensures err { OnErr result
-        (PutsPrefix (W.contents w.old) (W.contents w.new) (line_text (header_fields limits.now feed.now.stops))) }
+        (PutsPrefix (W.contents w.old) (W.contents w.new) (line_text (header_fields limits.now destinations.now feed.now.stops))) }
 {
-    fill_header(line, limits, feed)?;
+    fill_header(line, limits, destinations, feed)?;
     line.put(w)
 }
 
 /// Makes the line the header.
-fn fill_header(line: &mut Line, limits: &[u32], feed: &Feed) -> Result<(), TextFault>
-    ensures { OnOk result (line.new ≡ header_fields limits.now feed.now.stops) }
+fn fill_header(
+    line: &mut Line,
+    limits: &[u32],
+    destinations: &[StopNo],
+    feed: &Feed,
+) -> Result<(), TextFault>
+    requires { All (λ stop. stop.0 < length feed.now.stops) destinations.now }
+    ensures { OnOk result (line.new ≡ header_fields limits.now destinations.now feed.now.stops) }
 {
     line.clear();
     line.push(b"scenario")?;
     line.push(b"origin")?;
     line.push(b"share")?;
     push_limits(line, limits)?;
-    push_stops(line, feed)
+    push_stops(line, destinations, feed)
 }
 
 /// Puts the names of the limits' columns last.
@@ -79,14 +93,23 @@ fn push_limits(line: &mut Line, limits: &[u32]) -> Result<(), TextFault>
     Ok(())
 }
 
-/// Puts the stops' identifiers last.
-fn push_stops(line: &mut Line, feed: &Feed) -> Result<(), TextFault>
-    ensures { OnOk result (line.new ≡ line.old ++ feed.now.stops) }
+/// Puts the destinations' identifiers last.
+fn push_stops(line: &mut Line, destinations: &[StopNo], feed: &Feed) -> Result<(), TextFault>
+    requires { All (λ stop. stop.0 < length feed.now.stops) destinations.now }
+    ensures { OnOk result (line.new ≡ line.old ++ map (λ stop. text_at feed.now.stops stop.0) destinations.now) }
 {
-    for stop in 0..feed.stop_count() {
-        line.push(feed.stop_id(StopNo(stop)))?;
+    for stop in destinations {
+        push_stop(line, *stop, feed)?;
     }
     Ok(())
+}
+
+/// Puts a stop's identifier last.
+fn push_stop(line: &mut Line, stop: StopNo, feed: &Feed) -> Result<(), TextFault>
+    requires { stop.0 < length feed.now.stops }
+    ensures { OnOk result (line.new ≡ line.old ++ text_at feed.now.stops stop.0 ∷ []) }
+{
+    line.push(feed.stop_id(stop))
 }
 
 /// Writes all rows.

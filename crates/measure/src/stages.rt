@@ -206,6 +206,7 @@ fn time_durations(
         rides: asked.rides,
         shares: SHARES,
         limits: LIMITS,
+        destinations: tables.destinations.as_slice(),
     };
     time_query(rt, query, feed, tables, networks, &opportunities)
 }
@@ -259,6 +260,7 @@ fn time_text(
         origins: tables.origins.as_slice(),
         shares: SHARES,
         limits: LIMITS,
+        destinations: tables.destinations.as_slice(),
         feed,
     };
     time_writing(rt, &labels, matrix, start)

@@ -27,6 +27,8 @@ pub(crate) struct Tables {
     pub direct: Direct,
     /// The stops at which journeys begin.
     pub origins: Vec<StopNo>,
+    /// All stops: each has a column.
+    pub destinations: Vec<StopNo>,
     /// The scenarios, `base` first.
     pub scenarios: Vec<Scenario>,
 }
@@ -41,10 +43,12 @@ pub(crate) fn read_tables(
 ) -> Result<Tables, TableFault> {
     let direct = read_footpaths(alloc, feed, footpaths)?;
     let origins = origins_of(alloc, feed, origins)?;
+    let destinations = origins_of(alloc, feed, None)?;
     let scenarios = read_scenarios(alloc, feed, scenarios)?;
     Ok(Tables {
         direct,
         origins,
+        destinations,
         scenarios,
     })
 }

@@ -22,7 +22,8 @@ pub(crate) fn explanation(
     inputs: &Inputs<'_>,
 ) -> Option<String> {
     match fault {
-        StudyFault::Feed(fault) => of_feed(alloc, *fault, inputs),
+        StudyFault::Feed(fault) => of_feed(alloc, *fault, bytes_of(inputs, fault.file), inputs),
+        StudyFault::Destinations(fault) => of_feed(alloc, *fault, inputs.destinations, inputs),
         StudyFault::Scenario(number, fault) => {
             let file = inputs.scenarios.get(*number)?;
             of_scenario(alloc, *fault, &file.bytes)
@@ -36,12 +37,17 @@ fn plain_line(alloc: Global, words: &str) -> Option<String> {
     format!(in alloc; "ttm: {words}\n").ok()
 }
 
-/// More of a fault of a table.
-fn of_feed(alloc: Global, fault: FeedFault, inputs: &Inputs<'_>) -> Option<String> {
+/// More of a fault of a table, which has these bytes if it is there.
+fn of_feed(
+    alloc: Global,
+    fault: FeedFault,
+    bytes: Option<&[u8]>,
+    inputs: &Inputs<'_>,
+) -> Option<String> {
     if let Some(words) = limit_of(fault.file, fault.what) {
         return plain_line(alloc, words);
     }
-    let bytes = bytes_of(inputs, fault.file)?;
+    let bytes = bytes?;
     match fault.what {
         What::MissingColumn => lacking_line(alloc, bytes, required_of(fault.file)),
         What::TimesGoBack => back_line(alloc, &record_at(alloc, bytes, fault.at)?),

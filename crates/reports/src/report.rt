@@ -83,8 +83,22 @@ impl<'a, C: Console> Report<'a, C> {
 }
 
 impl<'a, C: Console> Watch for Report<'a, C> {
-    fn tables_read(&self, feed: &Feed, direct: &Direct, origins: &[StopNo]) {
-        tell_tables(self.console, self.alloc, self.routes, feed, direct, origins);
+    fn tables_read(
+        &self,
+        feed: &Feed,
+        direct: &Direct,
+        origins: &[StopNo],
+        destinations: &[StopNo],
+    ) {
+        tell_tables(
+            self.console,
+            self.alloc,
+            self.routes,
+            feed,
+            direct,
+            origins,
+            destinations,
+        );
     }
 
     fn days_listed(

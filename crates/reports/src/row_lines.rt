@@ -5,10 +5,10 @@ use crate::lines::{tell_count, warn};
 use std::alloc::Global;
 use workers::Study;
 
-/// The bytes that a cell takes among the rows.
+/// The bytes that a cell or a sum of access takes among the rows.
 const CELL_BYTES: u64 = 8;
 
-/// The bytes that a cell takes in the text, about: its digits and a comma.
+/// The bytes that one of them takes in the text, about: its digits and a comma.
 const TEXT_BYTES: u64 = 6;
 
 /// What is said where the matrix is larger than what the machine has free.
@@ -23,7 +23,14 @@ pub(crate) fn row_count(study: &Study<'_>) -> u64 {
 /// How many cells a study has.
 fn cell_count(study: &Study<'_>) -> u64 {
     row_count(study)
-        .saturating_mul(study.opportunities.len() as u64)
+        .saturating_mul(study.asked.destinations.len() as u64)
+        .saturating_mul(study.asked.shares.len() as u64)
+}
+
+/// How many sums of access a study has.
+fn sum_count(study: &Study<'_>) -> u64 {
+    row_count(study)
+        .saturating_mul(study.asked.limits.len() as u64)
         .saturating_mul(study.asked.shares.len() as u64)
 }
 
@@ -35,7 +42,9 @@ pub(crate) fn tell_rows<C: Console>(console: &C, alloc: Global, study: &Study<'_
     tell_room(
         console,
         alloc,
-        cells.saturating_mul(CELL_BYTES + TEXT_BYTES),
+        cells
+            .saturating_add(sum_count(study))
+            .saturating_mul(CELL_BYTES + TEXT_BYTES),
     );
 }
 

@@ -16,6 +16,7 @@ pub(crate) fn tell_tables<C: Console>(
     feed: &Feed,
     direct: &Direct,
     origins: &[StopNo],
+    destinations: &[StopNo],
 ) {
     tell_count(console, alloc, "stops", u64::from(feed.stop_count()));
     tell_routes(console, alloc, routes);
@@ -34,6 +35,7 @@ pub(crate) fn tell_tables<C: Console>(
         direct.pairs().len() as u64,
     );
     tell_count(console, alloc, "origins", origins.len() as u64);
+    tell_count(console, alloc, "destinations", destinations.len() as u64);
 }
 
 /// Tells how many routes there are: each record of `routes.txt` but its header is one.

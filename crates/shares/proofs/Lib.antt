@@ -5,4 +5,5 @@ mod Narrowing
 mod Ranking
 mod Planed
 mod Summing
+pub mod There
 pub mod Unique

@@ -6,10 +6,11 @@ use Rattle.std.proofs.Math.ListN.{set, drop}
 use Rattle.std.proofs.lemmas.List.{length-append, length-set}
 use Rattle.std.proofs.lemmas.Option.{slice_get_within, slice_get-get_or}
 use Rattle.std.proofs.lemmas.Bool.{cases_lt}
+use Rattle.timetable.specs.declared.trips.StopNo.{StopNo}
 use Rattle.rounds.specs.Table.{Times, at, known_of, label_in}
 use Rattle.shares.specs.Percentiles.{IsCell}
 use Rattle.shares.specs.Ranks.{IsLonger, AreLonger}
-use Rattle.shares.proofs.Attaining.{cell_alike, cells_more}
+use Rattle.shares.proofs.Attaining.{cell_alike, cells_at_more}
 
 -- the place of a share among n minutes, counted from 0
 pub record Rank (n share place : ℕ) : Type 0 where
@@ -26,12 +27,12 @@ rank_of n share few some =
       high = omega arith;
     }
 
--- the lists have the cells of the first n stops
-pub record AreBegun (t : Times) (shares : List ℕ) (n : ℕ) (lists : List (Vec (Option ℕ) Global)) : Type 0 where
+-- the lists have the cells of the first n destinations
+pub record AreBegun (t : Times) (destinations : List StopNo) (shares : List ℕ) (n : ℕ) (lists : List (Vec (Option ℕ) Global)) : Type 0 where
   pub count : length lists ≡ length shares
   pub stops : (k : ℕ) (cells : Vec (Option ℕ) Global) → slice_get lists k ≡ Some cells → length cells.items ≡ n
   pub each : (k share : ℕ) (cells : Vec (Option ℕ) Global) → slice_get shares k ≡ Some share → slice_get lists k ≡ Some cells →
-      (p : ℕ) → p < n → IsCell t share p (get_or cells.items p None)
+      (j : ℕ) (stop : StopNo) → j < n → slice_get destinations j ≡ Some stop → IsCell t share stop.0 (get_or cells.items j None)
 
 get_set_same : (xs : List (Vec (Option ℕ) Global)) (k : ℕ) (x : Vec (Option ℕ) Global) → k < length xs → slice_get (set xs k x) k ≡ Some x
 get_set_same [] k x h = absurd (omega (arith, h))
@@ -72,11 +73,11 @@ longer_next lanes minutes shares old lists k share was new below here of_share l
   rest = λ j above. get_set_other lists j k new (λ e. omega (arith, e, above)) ∙ below.rest j (omega (arith, above));
 }
 
--- a stop more
-pub begun_next : (t : Times) (shares : List ℕ) (lanes : List (List ℕ)) (n : ℕ) (lists longer : List (Vec (Option ℕ) Global))
-    → ((m : ℕ) → m < t.minutes → known_of (label_in lanes m) ≡ at t n m)
-    → AreBegun t shares n lists → AreLonger lanes t.minutes shares lists longer → AreBegun t shares (n + 1) longer
-begun_next t shares lanes n lists longer alike begun more = record {
+-- a destination more
+pub begun_next : (t : Times) (destinations : List StopNo) (shares : List ℕ) (lanes : List (List ℕ)) (n : ℕ) (stop : StopNo) (lists longer : List (Vec (Option ℕ) Global))
+    → slice_get destinations n ≡ Some stop → ((m : ℕ) → m < t.minutes → known_of (label_in lanes m) ≡ at t stop.0 m)
+    → AreBegun t destinations shares n lists → AreLonger lanes t.minutes shares lists longer → AreBegun t destinations shares (n + 1) longer
+begun_next t destinations shares lanes n stop lists longer at_n alike begun more = record {
   count = more.count ∙ begun.count;
   stops = λ k cells here.
       let share_there = slice_get-get_or shares k 0 (in_shares k cells here) in
@@ -86,13 +87,13 @@ begun_next t shares lanes n lists longer alike begun more = record {
       let len = ap (λ (xs : List (Option ℕ)). length xs) one.items in
       let app = length-append (get_or lists k cells).items (one.cell ∷ []) in
       omega (arith, len, app, before);
-  each = λ k share cells of_share here p below.
+  each = λ k share cells of_share here j other below at_j.
       let old_there = slice_get-get_or lists k cells (in_lists k cells here) in
       let old : Vec (Option ℕ) Global = get_or lists k cells in
       let one = more.each k share old cells of_share old_there here in
-      let is_cell : IsCell t share n one.cell = cell_alike (λ m. known_of (label_in lanes m)) (λ m. at t n m) t.minutes share one.cell alike one.is_cell in
-      subst (λ (xs : List (Option ℕ)). IsCell t share p (get_or xs p None)) (sym one.items)
-      (cells_more t share old.items one.cell n (begun.stops k old old_there) (begun.each k share old of_share old_there) is_cell p below);
+      let is_cell : IsCell t share stop.0 one.cell = cell_alike (λ m. known_of (label_in lanes m)) (λ m. at t stop.0 m) t.minutes share one.cell alike one.is_cell in
+      subst (λ (xs : List (Option ℕ)). IsCell t share other.0 (get_or xs j None)) (sym one.items)
+      (cells_at_more t share destinations old.items one.cell n stop (begun.stops k old old_there) (begun.each k share old of_share old_there) at_n is_cell j other below at_j);
 }
   where
     in_lists : (k : ℕ) (cells : Vec (Option ℕ) Global) → slice_get longer k ≡ Some cells → k < length lists

@@ -10,3 +10,7 @@ CellIsUnique = (t : Times) (share p : ℕ) (some other : Option ℕ) → IsCell 
 -- a law: so all stops have one list of cells
 abbrev pub CellsAreUnique : Type 0
 CellsAreUnique = (t : Times) (share : ℕ) (some others : List (Option ℕ)) → AreCells t share some → AreCells t share others → some ≡ others
+
+-- a law: and there is such a list
+abbrev pub CellsAreThere : Type 0
+CellsAreThere = (t : Times) (share : ℕ) → (cells : List (Option ℕ)) × AreCells t share cells

@@ -1,10 +1,10 @@
-//! Shares: what a window's durations come to, as one cell per stop and as one sum of opportunities.
+//! Shares: what a window's durations come to, as one cell per destination and as one sum of opportunities.
 //! A cell is the least duration that a share of the minutes attains; access is the sum of the opportunities
-//! at the stops whose cell is within a limit.
+//! at the stops whose cell is within a limit: at all stops, whichever are destinations.
 //!
 //! - `percentiles`: [`cell`] and [`cells`].
 //! - `ranks`: [`cells_of`], the cells of several shares at once; `planes` finds the label of a rank, bit by bit.
-//! - `opportunities`: [`access`], over the cells of all stops.
+//! - `opportunities`: [`access`], over all stops, by counts of minutes: no cell is looked for.
 //! - `laws`: [`cells_are_unique`], that a share of durations has one list of cells.
 //!
 //! What a share attains, and what counts as access, stands in `specs/` (`Percentiles`, `Opportunities`).

@@ -1,7 +1,7 @@
 //! Cells: the least duration that a share of a window's minutes attains.
-ghost use Rattle.std.specs.Prelude.{◌≡◌, ◌≢◌, ◌<◌, ◌≤◌, ◌*◌, ℕ, length, max, slice_index, IfOk, IsTrue, ◌↔◌};
-ghost use Rattle.rounds.specs.Table.{known_of, label_in, IsLeastOrNone};
-ghost use Rattle.shares.specs.Percentiles.{minutes_within, Attains, IsCell, AreCells, HoldMinutes, IsTop, known_label};
+ghost use Rattle.std.specs.Prelude.{◌≡◌, ◌≢◌, ◌<◌, ◌≤◌, ◌*◌, ℕ, All, Some, length, max, slice_index, IfOk, IsTrue, ◌↔◌};
+ghost use Rattle.rounds.specs.Table.{at, known_of, label_in, IsLeastOrNone};
+ghost use Rattle.shares.specs.Percentiles.{minutes_within, Attains, IsCell, AreCellsAt, HoldMinutes, IsTop, known_label};
 
 use rounds::Durations;
 use std::alloc::{AllocError, Global};
@@ -21,20 +21,47 @@ pub fn cell(durations: &Durations, stop: StopNo, share: u32) -> Option<u32>
     least_attained(durations.lanes_of(stop), durations.minutes(), share)
 }
 
-/// The cell of each stop. Want of memory is the only refusal.
+/// The cell of each destination, in their order. Want of memory is the only refusal.
 pub fn cells(
     alloc: Global,
     durations: &Durations,
+    destinations: &[StopNo],
     share: u32,
 ) -> Result<Vec<Option<u32>>, AllocError>
-    requires { share ≤ 100 }
-    ensures { IfOk result (λ cells. AreCells durations.now share cells.items) }
+    requires stops { All (λ stop. stop.0 < durations.now.stops) destinations.now }
+    requires share { share ≤ 100 }
+    ensures { IfOk result (λ cells. AreCellsAt durations.now destinations.now share cells.items) }
 {
-    let mut cells = Vec::with_capacity(alloc, durations.stops() as usize)?;
-    for stop in 0..durations.stops() {
-        cells.push(cell(durations, StopNo(stop), share))?;
+    let mut cells = Vec::with_capacity(alloc, destinations.len())?;
+    for k in 0..destinations.len() {
+        cells.push(cell(durations, destinations[k], share))?;
     }
     Ok(cells)
+}
+
+/// Whether so many of a hundred minutes have a duration to a stop of at most a limit: then the stop's cell is within it, and
+/// else it isn't.
+pub(crate) fn is_reached(durations: &Durations, stop: StopNo, share: u32, within: u32) -> bool
+    requires stop { stop.0 < durations.now.stops }
+    requires share { share ≤ 100 }
+    ensures { IsTrue result ↔ Attains (λ m. at durations.now stop.0 m) durations.now.minutes share within }
+{
+    durations.known();
+    let lanes = durations.lanes_of(stop);
+    attains(lanes, durations.minutes(), share, reach_of(lanes, within))
+}
+
+/// A limit that no dead lane is within, and that keeps out none of the durations within the other one.
+fn reach_of(lanes: &[Lanes], within: u32) -> u32
+    ensures below { result < NEVER }
+    ensures upto { result ≤ within }
+    ensures all { (m d : ℕ) → m < 16 * length lanes.now → known_of (label_in lanes.now m) ≡ Some d → d ≤ within → d ≤ result }
+{
+    if within < NEVER {
+        within
+    } else {
+        greatest(lanes)
+    }
 }
 
 /// The least duration that the share of so many minutes attains, by halving the range in which it lies, which ends with the

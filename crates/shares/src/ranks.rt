@@ -13,21 +13,24 @@ use std::alloc::{AllocError, Global};
 use timetable::{NEVER, StopNo};
 use trip_lanes::Lanes;
 
-/// The cells of all stops for each of some shares, in the shares' order: one list per share, with one cell per stop.
+/// The cells of the destinations for each of some shares, in the shares' order: one list per share, with one cell per
+/// destination.
 ///
-/// Of several shares each stop's labels are laid out bit by bit once, whatever their number. Want of memory is the only
+/// Of several shares each destination's labels are laid out bit by bit once, whatever their number. Want of memory is the only
 /// refusal.
 pub fn cells_of(
     alloc: Global,
     durations: &Durations,
+    destinations: &[StopNo],
     shares: &[u32],
 ) -> Result<Vec<Vec<Option<u32>>>, AllocError>
-    requires { All (λ share. share ≤ 100) shares.now }
-    ensures { IfOk result (λ lists. AreCellsOf durations.now shares.now lists.items) }
+    requires stops { All (λ stop. stop.0 < durations.now.stops) destinations.now }
+    requires shares { All (λ share. share ≤ 100) shares.now }
+    ensures { IfOk result (λ lists. AreCellsOf durations.now destinations.now shares.now lists.items) }
 {
     match shares {
-        [share] => cells_of_one(alloc, durations, *share),
-        _ => cells_of_many(alloc, durations, shares),
+        [share] => cells_of_one(alloc, durations, destinations, *share),
+        _ => cells_of_many(alloc, durations, destinations, shares),
     }
 }
 
@@ -35,47 +38,51 @@ pub fn cells_of(
 fn cells_of_one(
     alloc: Global,
     durations: &Durations,
+    destinations: &[StopNo],
     share: u32,
 ) -> Result<Vec<Vec<Option<u32>>>, AllocError>
-    requires { share ≤ 100 }
-    ensures { IfOk result (λ lists. AreCellsOf durations.now (share ∷ []) lists.items) }
+    requires stops { All (λ stop. stop.0 < durations.now.stops) destinations.now }
+    requires share { share ≤ 100 }
+    ensures { IfOk result (λ lists. AreCellsOf durations.now destinations.now (share ∷ []) lists.items) }
 {
     let mut lists = Vec::with_capacity(alloc, 1)?;
-    lists.push(cells(alloc, durations, share)?)?;
+    lists.push(cells(alloc, durations, destinations, share)?)?;
     Ok(lists)
 }
 
-/// The cells of several shares: a stop's labels are looked at bit by bit once, for all of them.
+/// The cells of several shares: a destination's labels are looked at bit by bit once, for all of them.
 fn cells_of_many(
     alloc: Global,
     durations: &Durations,
+    destinations: &[StopNo],
     shares: &[u32],
 ) -> Result<Vec<Vec<Option<u32>>>, AllocError>
-    requires { All (λ share. share ≤ 100) shares.now }
-    ensures { IfOk result (λ lists. AreCellsOf durations.now shares.now lists.items) }
+    requires stops { All (λ stop. stop.0 < durations.now.stops) destinations.now }
+    requires shares { All (λ share. share ≤ 100) shares.now }
+    ensures { IfOk result (λ lists. AreCellsOf durations.now destinations.now shares.now lists.items) }
 {
     durations.known();
     let minutes = durations.minutes();
-    let mut lists = empty_lists(alloc, shares.len(), durations.stops() as usize)?;
+    let mut lists = empty_lists(alloc, shares.len(), destinations.len())?;
     let mut planes = vec![in alloc; [0; 23]; PLANES]?;
-    for stop in 0..durations.stops() {
-        let lanes = durations.lanes_of(StopNo(stop));
+    for n in 0..destinations.len() {
+        let lanes = durations.lanes_of(destinations[n]);
         push_cells(&mut lists, lanes, minutes, &mut planes, shares)?;
     }
     Ok(lists)
 }
 
-/// So many lists without cells, with room for one cell per stop.
+/// So many lists without cells, with room for one cell per destination.
 fn empty_lists(
     alloc: Global,
     count: usize,
-    stops: usize,
+    destinations: usize,
 ) -> Result<Vec<Vec<Option<u32>>>, AllocError>
     ensures { IfOk result (λ lists. AreEmpty count lists.items) }
 {
     let mut lists = Vec::with_capacity(alloc, count)?;
     for _ in 0..count {
-        lists.push(Vec::with_capacity(alloc, stops)?)?;
+        lists.push(Vec::with_capacity(alloc, destinations)?)?;
     }
     Ok(lists)
 }

@@ -10,5 +10,6 @@ pub mod NetworkFaults
 pub mod FewOrigins
 pub mod StudyFacts
 pub mod OneMeaning
+mod OtherColumns
 pub mod AnyGate
 pub mod Saw

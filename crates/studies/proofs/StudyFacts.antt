@@ -36,7 +36,7 @@ use Rattle.studies.specs.declared.parts.Tables.{Tables}
 use Rattle.studies.specs.NamedFile.{NamedBytes}
 use Rattle.studies.specs.Names.{names_of}
 use Rattle.studies.specs.Settings.{SettingsData, SettingsFit, query_of, window_of}
-use Rattle.studies.specs.Parts.{direct_in, edit_faults, feed_in, labels_in, network_faults, networks_of, opportunities_in, origins_in, own_faults, runs_in, scenarios_in, study_in}
+use Rattle.studies.specs.Parts.{destination_faults, destinations_in, direct_in, edit_faults, feed_in, labels_in, network_faults, networks_of, opportunities_in, origins_in, own_faults, runs_in, scenarios_in, study_in, table_faults}
 use Rattle.work_book.specs.declared.rule.View.{View}
 use Rattle.work_book.specs.declared.shared.Board.{Board}
 use Rattle.work_book.specs.Views.{first_view}
@@ -44,7 +44,7 @@ use Rattle.workers.specs.Held.{Decides, WasTold}
 use Rattle.workers.specs.Jobs.{jobs_of}
 use Rattle.workers.specs.Outcomes.{IsFaultOf, IsFaultOfNew}
 use Rattle.workers.specs.declared.faults.RunFault.{RunFault}
-use Rattle.studies.specs.Stages.{AreTables, IsFeedOf, TellsEdits, TellsNames, TellsNetworks, TellsText}
+use Rattle.studies.specs.Stages.{AreTables, IsFeedOf, TellsEdits, TellsNames, TellsNetworks, TellsTables, TellsText}
 use Rattle.studies.specs.Study.{AreDated, AreEdited, AreNamed, AreNetworks, AreRead, AreWalked, IsFaultOfRun, IsStudyText, Tells, TellsBy}
 use Rattle.studies.proofs.Firsts.{first_left, first_right, none_of_both}
 
@@ -69,6 +69,7 @@ module _ (i : InputFiles) (s : SettingsData) where
   names_told fault.Scenarios h = inr h
   names_told (fault.Name k) h = inr h
   names_told (fault.Feed e) h = absurd h
+  names_told (fault.Destinations e) h = absurd h
   names_told (fault.Scenario k e) h = absurd h
   names_told (fault.Days e) h = absurd h
   names_told (fault.Feet e) h = absurd h
@@ -91,16 +92,39 @@ module _ (i : InputFiles) (s : SettingsData) where
         )
       ]
 
-  pub are_read : (feed : FeedData) → AreNamed i → IsFeedOf i feed → own_faults i feed ≡ [] → AreRead i
-  are_read feed named is none = record {
+  no_table_faults : (feed : FeedData) → IsFeedOf i feed → own_faults i feed ≡ [] → table_faults i ≡ []
+  no_table_faults feed is none =
+      none_of_both (feed_faults i.feed) (own_faults i (feed_in i)) is.faultless (subst (λ (d : FeedData). own_faults i d ≡ []) is.feed_is none)
+
+  pub are_read : (feed : FeedData) → AreNamed i → IsFeedOf i feed → own_faults i feed ≡ [] → destination_faults i feed ≡ [] → AreRead i
+  are_read feed named is none known = record {
     named = named;
-    tables = none_of_both (feed_faults i.feed) (own_faults i (feed_in i)) is.faultless (subst (λ (d : FeedData). own_faults i d ≡ []) is.feed_is none);
+    tables = no_table_faults feed is none;
+    destinations = subst (λ (d : FeedData). destination_faults i d ≡ []) is.feed_is known;
   }
+
+  pub tables_told : (decides : Decides) (was_told : WasTold) (e : StudyFault) (feed : FeedData) → AreNamed i → IsFeedOf i feed → TellsTables e i feed → TellsBy decides was_told e i s
+  tables_told decides was_told fault.Scenarios feed named is h = absurd h
+  tables_told decides was_told (fault.Name k) feed named is h = absurd h
+  tables_told decides was_told (fault.Feed e) feed named is h = own_told e feed named is h
+  tables_told decides was_told (fault.Destinations e) feed named is h =
+      elim h.1 [
+        | inl m ↦ inl m
+        | inr f ↦ inr (named, no_table_faults feed is h.0, subst (λ (d : FeedData). IsFirst e (destination_faults i d)) is.feed_is f)
+      ]
+  tables_told decides was_told (fault.Scenario k e) feed named is h = absurd h
+  tables_told decides was_told (fault.Days e) feed named is h = absurd h
+  tables_told decides was_told (fault.Feet e) feed named is h = absurd h
+  tables_told decides was_told (fault.Net k e) feed named is h = absurd h
+  tables_told decides was_told (fault.Run e) feed named is h = absurd h
+  tables_told decides was_told (fault.Text e) feed named is h = absurd h
+  tables_told decides was_told fault.Memory feed named is h = absurd h
 
   pub edits_told : (e : StudyFault) (feed : FeedData) → AreRead i → feed ≡ feed_in i → TellsEdits e feed i.scenarios → Tells e i s
   edits_told fault.Scenarios feed read is h = absurd h
   edits_told (fault.Name k) feed read is h = absurd h
   edits_told (fault.Feed e) feed read is h = absurd h
+  edits_told (fault.Destinations e) feed read is h = absurd h
   edits_told (fault.Scenario k e) feed read is h =
       elim h [ inl m ↦ inl m | inr f ↦ inr (read, subst (λ (d : FeedData). IsFirst (k, e) (edit_faults d 0 i.scenarios)) is f) ]
   edits_told (fault.Days e) feed read is h = absurd h
@@ -136,6 +160,7 @@ module _ (i : InputFiles) (s : SettingsData) where
   text_told decides was_told (Err fault.Scenarios) h = absurd h
   text_told decides was_told (Err (fault.Name k)) h = absurd h
   text_told decides was_told (Err (fault.Feed e)) h = absurd h
+  text_told decides was_told (Err (fault.Destinations e)) h = absurd h
   text_told decides was_told (Err (fault.Scenario k e)) h = absurd h
   text_told decides was_told (Err (fault.Days e)) h = absurd h
   text_told decides was_told (Err (fault.Feet e)) h = absurd h
@@ -168,6 +193,7 @@ module _ (i : InputFiles) (s : SettingsData) (feed : FeedData) (runs : List Run)
   networks_told (Err fault.Scenarios) h = absurd h
   networks_told (Err (fault.Name k)) h = absurd h
   networks_told (Err (fault.Feed e)) h = absurd h
+  networks_told (Err (fault.Destinations e)) h = absurd h
   networks_told (Err (fault.Scenario k e)) h = absurd h
   networks_told (Err (fault.Days e)) h = absurd h
   networks_told (Err (fault.Feet e)) h = absurd h
@@ -193,7 +219,7 @@ study_with query networks origins opportunities = record {
 
 -- the study that is computed is the one that the files mean
 pub study_is : (i : InputFiles) (s : SettingsData) (networks : List Net) (origins : List StopNo) (opportunities : List ℕ) (query : Query)
-    → origins ≡ origins_in i → opportunities ≡ opportunities_in i → query ≡ query_of s → study_with query networks origins opportunities ≡ study_in i s networks
+    → origins ≡ origins_in i → opportunities ≡ opportunities_in i → query ≡ query_of s (destinations_in i) → study_with query networks origins opportunities ≡ study_in i s networks
 study_is i s networks origins opportunities query p q asked =
     ap (λ (x : List StopNo). study_with query networks x opportunities) p
     ∙ ap (λ (x : List ℕ). study_with query networks (origins_in i) x) q
@@ -241,7 +267,8 @@ window_fits s fits = record {
 
 -- the study is within the limits
 pub study_fits : (i : InputFiles) (s : SettingsData) (feed : FeedData) (t : Tables) (networks : List Net) (origins : List StopNo) (opportunities : List ℕ) (query : Query)
-    → SettingsFit s → IsFeed feed → feed ≡ feed_in i → AreTables i feed t → AreNetworks i s networks → origins ≡ t.origins.items → opportunities ≡ t.opportunities.items → query ≡ query_of s
+    → SettingsFit s → IsFeed feed → feed ≡ feed_in i → AreTables i feed t → AreNetworks i s networks → origins ≡ t.origins.items → opportunities ≡ t.opportunities.items
+    → query ≡ query_of s t.destinations.items
     → StudyFits (study_with query networks origins opportunities)
 study_fits i s feed t networks origins opportunities query fits is_feed is tables made p q asked =
     let count : length networks ≡ length i.scenarios + 1 = network_count i s networks made in
@@ -250,6 +277,7 @@ study_fits i s feed t networks origins opportunities query fits is_feed is table
     let same : length opportunities ≡ length (feed_in i).stops = stops ∙ ap (λ (d : FeedData). length d.stops) is in
     let some : length origins ≡ length t.origins.items = ap length p in
     let few : length t.origins.items ≤ length feed.stops = tables.few_origins in
+    let few_named : length t.destinations.items ≤ length feed.stops = tables.few_destinations in
     let limit : length feed.stops ≤ 65535 = is_feed.few_stops in
     subst (λ (x : Query). StudyFits (study_with x networks origins opportunities)) (sym asked)
     (record {
@@ -258,6 +286,8 @@ study_fits i s feed t networks origins opportunities query fits is_feed is table
       few_origins = omega (arith, some, few, limit);
       origins = subst (λ (n : ℕ). All (λ (o : StopNo). o.0 < n) origins) (sym stops)
           (subst (λ (l : List StopNo). All (λ (o : StopNo). o.0 < length feed.stops) l) (sym p) tables.in_range);
+      few_destinations = omega (arith, few_named, limit);
+      destinations = subst (λ (n : ℕ). All (λ (o : StopNo). o.0 < n) t.destinations.items) (sym stops) tables.destinations_in_range;
       window = window_fits s fits;
       some_rides = fits.some_rides;
       few_rides = fits.few_rides;
@@ -266,19 +296,21 @@ study_fits i s feed t networks origins opportunities query fits is_feed is table
     })
 
 -- labels of these parts
-abbrev pub labels_with : List (List ℕ) → List StopNo → List ℕ → List ℕ → List (List ℕ) → LabelData
-labels_with names origins shares limits stops = record { scenarios = names; origins = origins; shares = shares; limits = limits; stops = stops }
+abbrev pub labels_with : List (List ℕ) → List StopNo → List ℕ → List ℕ → List StopNo → List (List ℕ) → LabelData
+labels_with names origins shares limits destinations stops =
+    record { scenarios = names; origins = origins; shares = shares; limits = limits; destinations = destinations; stops = stops }
 
 -- the labels are those of the files and the settings
-pub labels_are : (i : InputFiles) (s : SettingsData) (names : List (List ℕ)) (origins : List StopNo) (shares limits : List ℕ) (stops : List (List ℕ))
-    → names ≡ names_of i.scenarios → origins ≡ origins_in i → shares ≡ s.shares → limits ≡ s.withins → stops ≡ (feed_in i).stops
-    → labels_with names origins shares limits stops ≡ labels_in i s
-labels_are i s names origins shares limits stops p q r t u =
-    ap (λ (x : List (List ℕ)). labels_with x origins shares limits stops) p
-    ∙ ap (λ (x : List StopNo). labels_with (names_of i.scenarios) x shares limits stops) q
-    ∙ ap (λ (x : List ℕ). labels_with (names_of i.scenarios) (origins_in i) x limits stops) r
-    ∙ ap (λ (x : List ℕ). labels_with (names_of i.scenarios) (origins_in i) s.shares x stops) t
-    ∙ ap (λ (x : List (List ℕ)). labels_with (names_of i.scenarios) (origins_in i) s.shares s.withins x) u
+pub labels_are : (i : InputFiles) (s : SettingsData) (names : List (List ℕ)) (origins : List StopNo) (shares limits : List ℕ) (destinations : List StopNo) (stops : List (List ℕ))
+    → names ≡ names_of i.scenarios → origins ≡ origins_in i → shares ≡ s.shares → limits ≡ s.withins → destinations ≡ destinations_in i → stops ≡ (feed_in i).stops
+    → labels_with names origins shares limits destinations stops ≡ labels_in i s
+labels_are i s names origins shares limits destinations stops p q r t v u =
+    ap (λ (x : List (List ℕ)). labels_with x origins shares limits destinations stops) p
+    ∙ ap (λ (x : List StopNo). labels_with (names_of i.scenarios) x shares limits destinations stops) q
+    ∙ ap (λ (x : List ℕ). labels_with (names_of i.scenarios) (origins_in i) x limits destinations stops) r
+    ∙ ap (λ (x : List ℕ). labels_with (names_of i.scenarios) (origins_in i) s.shares x destinations stops) t
+    ∙ ap (λ (x : List StopNo). labels_with (names_of i.scenarios) (origins_in i) s.shares s.withins x stops) v
+    ∙ ap (λ (x : List (List ℕ)). labels_with (names_of i.scenarios) (origins_in i) s.shares s.withins (destinations_in i) x) u
 
 -- there is a name for each scenario
 pub name_count : (files : List NamedBytes) → length (names_of files) ≡ length files + 1

@@ -10,6 +10,7 @@ pub record InputFiles : Type 0 where
   pub footpaths : Option files.Bytes
   pub origins : Option files.Bytes
   pub opportunities : Option files.Bytes
+  pub destinations : Option files.Bytes
   pub scenarios : List NamedBytes
 
 -- the files as a program holds them
@@ -19,6 +20,7 @@ inputs_of i = record {
   footpaths = files.bytes_of i.footpaths;
   origins = files.bytes_of i.origins;
   opportunities = files.bytes_of i.opportunities;
+  destinations = files.bytes_of i.destinations;
   scenarios = i.scenarios.now;
 }
 
@@ -28,4 +30,5 @@ pub record AreWithinLimit (i : InputFiles) : Type 0 where
   pub footpaths : files.IsWithinLimit i.footpaths
   pub origins : files.IsWithinLimit i.origins
   pub opportunities : files.IsWithinLimit i.opportunities
+  pub destinations : files.IsWithinLimit i.destinations
   pub scenarios : All (λ f. length f.bytes ≤ 1073741824) i.scenarios

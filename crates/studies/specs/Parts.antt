@@ -41,11 +41,19 @@ origins_in i = origins_of i.origins (feed_in i)
 abbrev pub opportunities_in : InputFiles → List ℕ
 opportunities_in i = opportunities_of i.opportunities (feed_in i)
 
+-- the stops that a row has cells for: the file that names them is read as that of origins is
+abbrev pub destinations_in : InputFiles → List StopNo
+destinations_in i = origins_of i.destinations (feed_in i)
+
+-- the faults of that file, which are those that a file of origins would have
+abbrev pub destination_faults : InputFiles → FeedData → List FeedFault
+destination_faults i feed = origins_faults i.destinations feed
+
 -- the faults of the analyst's own tables: those of footpaths, of origins, and of opportunities
 abbrev pub own_faults : InputFiles → FeedData → List FeedFault
 own_faults i feed = direct_faults feed i.footpaths ++ (origins_faults i.origins feed ++ opportunities_faults i.opportunities feed)
 
--- the faults of all files but the scenarios: the feed's, and then those of the analyst's own tables
+-- the faults of all files but that of destinations and the scenarios: the feed's, and then those of the analyst's own tables
 abbrev pub table_faults : InputFiles → List FeedFault
 table_faults i = feed_faults i.feed ++ own_faults i (feed_in i)
 
@@ -89,7 +97,7 @@ study_in i s networks = record {
   networks = networks;
   origins = origins_in i;
   opportunities = opportunities_in i;
-  query = query_of s;
+  query = query_of s (destinations_in i);
 }
 
 -- what names the rows and the columns
@@ -99,5 +107,6 @@ labels_in i s = record {
   origins = origins_in i;
   shares = s.shares;
   limits = s.withins;
+  destinations = destinations_in i;
   stops = (feed_in i).stops;
 }

@@ -2,6 +2,7 @@
 use Rattle.std.specs.Prelude.{ℕ, List, ◌+◌, ◌*◌, ◌≤◌}
 use Rattle.jiff_core.specs.declared.civil.date.Date.{Date}
 use Rattle.rounds.specs.declared.window.Window.{Window}
+use Rattle.timetable.specs.declared.trips.StopNo.{StopNo}
 use Rattle.workers.specs.Study.{LimitsFit, Query, SharesFit}
 
 -- settings as plain data
@@ -38,6 +39,6 @@ pub record SettingsFit (s : SettingsData) : Type 0 where
 abbrev pub window_of : SettingsData → Window
 window_of s = record { first = 86400 * s.back + 60 * s.first; minutes = s.minutes }
 
--- what is asked of every network
-abbrev pub query_of : SettingsData → Query
-query_of s = record { window = window_of s; rides = s.rides; shares = s.shares; limits = s.withins }
+-- what is asked of every network, with these destinations
+abbrev pub query_of : SettingsData → List StopNo → Query
+query_of s destinations = record { window = window_of s; rides = s.rides; shares = s.shares; limits = s.withins; destinations = destinations }

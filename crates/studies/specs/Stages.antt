@@ -1,6 +1,6 @@
 -- What each stage of a study tells of the parts that it makes.
 use Rattle.std.specs.Prelude.{◌≡◌, ◌⊎◌, ◌<◌, ◌≤◌, List, [], length, ⊤, All}
-use Rattle.table_records.specs.Faults.{IsFirst}
+use Rattle.table_records.specs.Faults.{IsFirst, Tells}
 use Rattle.timetable.specs.declared.faults.NetFault.TheVariants as net
 use Rattle.gtfs_tables.specs.Feed.{FeedData}
 use Rattle.gtfs_tables.specs.Files.{feed_faults}
@@ -17,14 +17,14 @@ use Rattle.studies.specs.declared.parts.Tables.{Tables}
 use Rattle.studies.specs.Inputs.{InputFiles}
 use Rattle.studies.specs.NamedFile.{NamedBytes}
 use Rattle.studies.specs.Names.{name_faults}
-use Rattle.studies.specs.Parts.{feed_in, edit_faults, network_faults}
+use Rattle.studies.specs.Parts.{destination_faults, feed_in, edit_faults, network_faults, own_faults}
 
 -- the feed is what its files state, without a fault
 pub record IsFeedOf (i : InputFiles) (feed : FeedData) : Type 0 where
   pub faultless : feed_faults i.feed ≡ []
   pub feed_is : feed ≡ feed_in i
 
--- the analyst's own tables for a feed: the origins are stops, each once, and each stop has its opportunities
+-- the analyst's own tables for a feed: the origins and destinations are stops, each once, and each stop has its opportunities
 pub record AreTables (i : InputFiles) (feed : FeedData) (t : Tables) : Type 0 where
   pub direct_is : t.direct ≡ direct_of feed i.footpaths
   pub origins_are : t.origins.items ≡ origins_of i.origins feed
@@ -32,6 +32,15 @@ pub record AreTables (i : InputFiles) (feed : FeedData) (t : Tables) : Type 0 wh
   pub in_range : All (λ o. o.0 < length feed.stops) t.origins.items
   pub few_origins : length t.origins.items ≤ length feed.stops
   pub count : length t.opportunities.items ≡ length feed.stops
+  pub destinations_are : t.destinations.items ≡ origins_of i.destinations feed
+  pub destinations_in_range : All (λ o. o.0 < length feed.stops) t.destinations.items
+  pub few_destinations : length t.destinations.items ≤ length feed.stops
+
+-- the first fault of the analyst's own tables, or, where they have none, of the destinations; or want of memory
+abbrev pub TellsTables : StudyFault → InputFiles → FeedData → Type 0
+TellsTables (fault.Feed e) i feed = Tells e (own_faults i feed)
+TellsTables (fault.Destinations e) i feed = (own_faults i feed ≡ []) × Tells e (destination_faults i feed)
+TellsTables _ i feed = ⊥
 
 -- too many files, or the first name that is refused
 abbrev pub TellsNames : StudyFault → List NamedBytes → Type 0

@@ -16,6 +16,8 @@ pub struct Inputs<'a> {
     pub origins: Option<&'a [u8]>,
     /// What each stop counts for in the access of a row; without a file it is one.
     pub opportunities: Option<&'a [u8]>,
+    /// The stops that a row has cells for, in the order of its columns; without a file they are all stops.
+    pub destinations: Option<&'a [u8]>,
     /// One file for each scenario beside `base`.
     pub scenarios: &'a [NamedFile],
 }
@@ -29,6 +31,7 @@ impl Inputs<'_> {
             && file_fits(self.footpaths)
             && file_fits(self.origins)
             && file_fits(self.opportunities)
+            && file_fits(self.destinations)
             && have_room(self.scenarios)
     }
 }

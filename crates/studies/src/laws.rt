@@ -1,8 +1,8 @@
 //! Laws of studies of files.
-ghost use Rattle.studies.specs.Laws.{RefusedHaveNoMeaning, TextsAreUnique};
+ghost use Rattle.studies.specs.Laws.{RefusedHaveNoMeaning, TextsAreUnique, TextsHaveTheirColumns};
 
 use footpaths::{closures_are_unique, too_many_have_no_closure};
-use workers::matrices_are_unique;
+use workers::{matrices_are_unique, rows_have_their_columns};
 
 /// A law: the same files and settings have one text, whatever computes it.
 pub fn texts_are_unique()
@@ -10,6 +10,16 @@ pub fn texts_are_unique()
 {
     closures_are_unique();
     matrices_are_unique();
+}
+
+/// A law: the text of a study with destinations is that of the same study without them, with the other columns left out.
+///
+/// So no number depends on which columns are asked for, and neither do the sums of access.
+pub fn texts_have_their_columns()
+    ensures { TextsHaveTheirColumns }
+{
+    closures_are_unique();
+    rows_have_their_columns();
 }
 
 /// A law: no files are both refused and accepted.

@@ -5,7 +5,8 @@
 //!   `networks`, `matrix`.
 //! - `watch`: [`watch_study`] is [`run_study`] with a [`Watch`], who is told what each stage has made.
 //! - `inputs`, `named_file`, `settings`: what a study is made of; `fault`: why there is none.
-//! - `laws`: a study has one text, and no files are both refused and accepted.
+//! - `laws`: a study has one text, which with destinations has some of the columns of the text without; and no files are both refused
+//!   and accepted.
 //! - `feed_files`: [`FeedFiles`], the files of a feed as a program holds them.
 //! - `minute`: [`minute_line`], the durations of one minute over each trip of a feed once (`once`, `line`).
 //!
@@ -33,7 +34,7 @@ mod watch;
 pub use fault::StudyFault;
 pub use feed_files::{FeedFiles, bytes_of};
 pub use inputs::Inputs;
-pub use laws::{refused_have_no_meaning, texts_are_unique};
+pub use laws::{refused_have_no_meaning, texts_are_unique, texts_have_their_columns};
 pub use minute::minute_line;
 pub use named_file::NamedFile;
 pub use settings::Settings;

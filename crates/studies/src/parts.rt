@@ -12,4 +12,6 @@ pub(crate) struct Tables {
     pub origins: Vec<StopNo>,
     /// What each stop counts for.
     pub opportunities: Vec<u32>,
+    /// The stops that a row has cells for.
+    pub destinations: Vec<StopNo>,
 }

@@ -7,6 +7,7 @@ use footpaths::limit_fits;
 use jiff::civil::Date;
 use rounds::{MOST_MINUTES, Window};
 use std::marker::Model;
+use timetable::StopNo;
 use workers::{Asked, MOST_RIDES, limits_fit, shares_fit};
 
 /// The most service days of a study before that of its date, and the most after it.
@@ -79,16 +80,17 @@ impl Settings {
             && self.tries <= MOST_TRIES
     }
 
-    /// What is asked of every network.
-    pub fn asked(&self) -> Asked<'_>
+    /// What is asked of every network, with these destinations.
+    pub fn asked<'a>(&'a self, destinations: &'a [StopNo]) -> Asked<'a>
         requires { SettingsFit self.now }
-        ensures { study.query_of result ≡ query_of self.now }
+        ensures { study.query_of result ≡ query_of self.now destinations.now }
     {
         Asked {
             window: self.window(),
             rides: self.rides,
             shares: self.shares.as_slice(),
             limits: self.withins.as_slice(),
+            destinations,
         }
     }
 

@@ -123,9 +123,9 @@ fn text_of_feed<G: Gate + Sync, W: Watch, R: Threads + Wait + Sync>(
 {
     let tables = match read_tables(alloc, inputs, feed) {
         Ok(tables) => tables,
-        Err(fault) => return Err(StudyFault::Feed(fault)),
+        Err(fault) => return Err(fault),
     };
-    watch.tables_read(feed, &tables.direct, &tables.origins);
+    watch.tables_read(feed, &tables.direct, &tables.origins, &tables.destinations);
     text_of_tables(rt, alloc, inputs, settings, feed, &tables, gate, watch)
 }
 
@@ -186,7 +186,7 @@ fn text_of_networks<G: Gate + Sync, W: Watch, R: Threads + Wait + Sync>(
         networks,
         origins: tables.origins.as_slice(),
         opportunities: tables.opportunities.as_slice(),
-        asked: settings.asked(),
+        asked: settings.asked(tables.destinations.as_slice()),
     };
     let matrix = match matrix_of(rt, alloc, &study, settings, gate, watch) {
         Ok(matrix) => matrix,
@@ -208,7 +208,7 @@ fn text_of_matrix(
     requires tables { AreTables (inputs_of inputs.now) feed.now tables.now }
     requires scenarios { matrix.now.scenarios ≡ length inputs.now.scenarios.now + 1 }
     requires origins { matrix.now.origins ≡ length tables.now.origins.items }
-    requires width { matrix.now.width ≡ length feed.now.stops }
+    requires width { matrix.now.width ≡ length tables.now.destinations.items }
     requires shares { matrix.now.shares ≡ length settings.now.shares }
     requires limits { matrix.now.limits ≡ length settings.now.withins }
     ensures text { IfOk result (λ text. text.items ≡ matrix_text (labels_in (inputs_of inputs.now) settings.now) matrix.now) }
@@ -223,6 +223,7 @@ fn text_of_matrix(
         origins: tables.origins.as_slice(),
         shares: settings.shares.as_slice(),
         limits: settings.withins.as_slice(),
+        destinations: tables.destinations.as_slice(),
         feed,
     };
     let mut text = Vec::new(alloc);

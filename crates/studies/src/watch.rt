@@ -21,8 +21,9 @@ pub trait Watch {
     // that it was told these stages, one after the other
     ghost saw: { Self → List Stage → Type 0 } = { λ _ _. Unit {0} };
 
-    /// The feed and the analyst's own tables are read: the direct footpaths, and the stops at which journeys begin.
-    fn tables_read(&self, feed: &Feed, direct: &Direct, origins: &[StopNo])
+    /// The feed and the analyst's own tables are read: the direct footpaths, the stops at which journeys begin, and those that a
+    /// row has cells for.
+    fn tables_read(&self, feed: &Feed, direct: &Direct, origins: &[StopNo], destinations: &[StopNo])
         ensures told { saw self.now read };
 
     /// The scenario files are read, the runs of the study's days are listed, and the footpaths are closed; no network is made yet.
@@ -53,7 +54,13 @@ pub trait Watch {
 pub struct Unwatched;
 
 impl Watch for Unwatched {
-    fn tables_read(&self, _feed: &Feed, _direct: &Direct, _origins: &[StopNo]) {}
+    fn tables_read(
+        &self,
+        _feed: &Feed,
+        _direct: &Direct,
+        _origins: &[StopNo],
+        _destinations: &[StopNo],
+    ) {}
 
     fn days_listed(
         &self,

@@ -53,6 +53,7 @@ pub record AreNamed (finds : Finds) (task : Task) (i : InputFiles) : Type 0 wher
   pub footpaths : IsOwn finds (option_map string_bytes task.footpaths) i.footpaths
   pub origins : IsOwn finds (option_map string_bytes task.origins) i.origins
   pub opportunities : IsOwn finds (option_map string_bytes task.opportunities) i.opportunities
+  pub destinations : IsOwn finds (option_map string_bytes task.destinations) i.destinations
   pub scenarios : AreScenarios finds (map string_bytes task.scenarios.items) i.scenarios
 
 -- the files as the program holds them
@@ -62,6 +63,7 @@ files_of f = record {
   footpaths = option_map (λ bytes. bytes.items) f.footpaths;
   origins = option_map (λ bytes. bytes.items) f.origins;
   opportunities = option_map (λ bytes. bytes.items) f.opportunities;
+  destinations = option_map (λ bytes. bytes.items) f.destinations;
   scenarios = f.scenarios.items;
 }
 
@@ -97,7 +99,8 @@ scenario_asks paths = map Needed paths
 abbrev pub asks_of : Task → List Ask
 asks_of task =
     feed_asks (string_bytes task.feed) ++ (own_asks (option_map string_bytes task.footpaths) ++ (own_asks (option_map string_bytes task.origins)
-    ++ (own_asks (option_map string_bytes task.opportunities) ++ scenario_asks (map string_bytes task.scenarios.items))))
+    ++ (own_asks (option_map string_bytes task.opportunities) ++ (own_asks (option_map string_bytes task.destinations)
+    ++ scenario_asks (map string_bytes task.scenarios.items)))))
 
 -- the file of a path is read, or is absent where it may be
 abbrev pub IsRead : Finds → Ask → Type 0

@@ -105,6 +105,7 @@ fn example<T: Threads + Wait + Sync, O: Write, E: Write>(
         footpaths: None,
         origins: Some(EXAMPLE_ORIGINS),
         opportunities: None,
+        destinations: None,
         scenarios: &[],
     };
     match example_settings(alloc) {

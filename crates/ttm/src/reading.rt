@@ -43,6 +43,13 @@ pub(crate) fn read_files<D: Disk, E: Write>(
         &mut files.opportunities,
         err,
     )?;
+    own_file(
+        alloc,
+        disk,
+        &task.destinations,
+        &mut files.destinations,
+        err,
+    )?;
     scenario_files(
         alloc,
         disk,

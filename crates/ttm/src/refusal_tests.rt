@@ -59,6 +59,7 @@ fn inputs_of<'a>(feed: FeedBytes<'a>) -> Inputs<'a> {
         footpaths: None,
         origins: None,
         opportunities: None,
+        destinations: None,
         scenarios: &[],
     }
 }
@@ -264,6 +265,74 @@ fn faults_of_the_files_of_an_analysis(rt: HostRuntime) {
     );
 }
 
+// Whether the small feed with these destinations, and these opportunities, is refused by this line.
+fn destinations_tell<R: Threads + Wait + Sync + AllocGlobal>(
+    rt: &R,
+    destinations: &'static [u8],
+    opportunities: Option<&'static [u8]>,
+    line: &[u8],
+) -> bool {
+    let inputs = Inputs {
+        opportunities,
+        destinations: Some(destinations),
+        ..inputs_of(example_feed())
+    };
+    tells(rt, &inputs, b"20260504", line)
+}
+
+#[test]
+fn faults_of_destinations_come_after_those_of_opportunities(rt: HostRuntime) {
+    assert!(rt;
+        destinations_tell(
+            &rt,
+            b"stop_id\nZ\n",
+            None,
+            b"ttm: destinations: record 2: unknown stop\n"
+        )
+    );
+    assert!(rt;
+        destinations_tell(
+            &rt,
+            b"stop_id\nB\nB\n",
+            None,
+            b"ttm: destinations: record 3: duplicate id\n"
+        )
+    );
+    assert!(rt;
+        destinations_tell(
+            &rt,
+            b"stop_id\n\"\"\n",
+            None,
+            b"ttm: destinations: record 2: empty id\n"
+        )
+    );
+    assert!(rt;
+        destinations_tell(
+            &rt,
+            b"stop\nB\n",
+            None,
+            b"ttm: destinations: record 1: missing column\n"
+        )
+    );
+    assert!(rt;
+        destinations_tell(
+            &rt,
+            b"",
+            None,
+            b"ttm: destinations: record 1: missing column\n"
+        )
+    );
+    let bad = Some(b"stop_id,opportunities\nA,many\n".as_slice());
+    assert!(rt;
+        destinations_tell(
+            &rt,
+            b"stop_id\nZ\n",
+            bad,
+            b"ttm: opportunities: record 2: bad number\n"
+        )
+    );
+}
+
 // Scenario files with these names, all with the same bytes.
 fn named(alloc: Global, names: &[&[u8]], bytes: &[u8]) -> Result<Vec<NamedFile>, AllocError> {
     let mut files = Vec::new(alloc);
@@ -292,6 +361,30 @@ fn scenarios_tell<R: Threads + Wait + Sync + AllocGlobal>(
         ..inputs_of(example_feed())
     };
     Ok(tells(rt, &inputs, b"20260504", line))
+}
+
+// Whether unknown destinations are told where a scenario file is refused too.
+fn destinations_come_first<R: Threads + Wait + Sync + AllocGlobal>(
+    rt: &R,
+) -> Result<bool, AllocError> {
+    let files = named(rt.alloc(), &[b"cut"], b"action,id\nclose,R1\n")?;
+    let inputs = Inputs {
+        destinations: Some(b"stop_id\nA\nZ\n"),
+        scenarios: &files,
+        ..inputs_of(example_feed())
+    };
+    Ok(tells(
+        rt,
+        &inputs,
+        b"20260504",
+        b"ttm: destinations: record 3: unknown stop\n",
+    ))
+}
+
+#[test]
+fn faults_of_destinations_come_before_those_of_scenarios(rt: HostRuntime) -> Result<(), Fail> {
+    assert!(rt; destinations_come_first(&rt)?);
+    Ok(())
 }
 
 #[test]

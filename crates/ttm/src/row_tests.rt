@@ -91,6 +91,7 @@ pub(crate) fn inputs_of(feed: FeedBytes<'static>) -> Inputs<'static> {
         footpaths: None,
         origins: Some(FROM_A),
         opportunities: None,
+        destinations: None,
         scenarios: &[],
     }
 }
@@ -590,5 +591,59 @@ fn opportunities_count_where_the_cell_is_within(rt: HostRuntime) {
         &inputs,
         less,
         b"scenario,origin,share,access_1799,A,B,C\nbase,A,50,10,0,600,1800\n",
+    );
+}
+
+// The small feed from A with these destinations, ten opportunities at B and five at C.
+fn inputs_to(destinations: &'static [u8]) -> Inputs<'static> {
+    Inputs {
+        opportunities: Some(b"stop_id,opportunities\nB,10\nC,5\n"),
+        destinations: Some(destinations),
+        ..inputs_of(example_feed())
+    }
+}
+
+#[test]
+fn destinations_are_the_columns_in_their_order(rt: HostRuntime) {
+    expect(
+        &rt,
+        rt.alloc(),
+        &inputs_to(b"stop_id\nC\nA\n"),
+        EIGHT,
+        b"scenario,origin,share,access_1800,C,A\nbase,A,50,15,1800,0\n",
+    );
+    expect(
+        &rt,
+        rt.alloc(),
+        &inputs_to(b"stop_id\nB\n"),
+        EIGHT,
+        b"scenario,origin,share,access_1800,B\nbase,A,50,15,600\n",
+    );
+    let more = Asked {
+        shares: &[25, 50, 100],
+        withins: &[599, 600],
+        ..EIGHT
+    };
+    expect(
+        &rt,
+        rt.alloc(),
+        &inputs_to(b"stop_id\nC\nB\nA\n"),
+        more,
+        b"scenario,origin,share,access_599,access_600,C,B,A
+base,A,25,0,10,1800,600,0
+base,A,50,0,10,1800,600,0
+base,A,100,0,10,1800,600,0
+",
+    );
+}
+
+#[test]
+fn a_header_alone_asks_for_access_alone(rt: HostRuntime) {
+    expect(
+        &rt,
+        rt.alloc(),
+        &inputs_to(b"stop_id\n"),
+        EIGHT,
+        b"scenario,origin,share,access_1800\nbase,A,50,15\n",
     );
 }

@@ -16,6 +16,7 @@ pub struct StudyFiles {
     pub footpaths: Option<Vec<u8>>,
     pub origins: Option<Vec<u8>>,
     pub opportunities: Option<Vec<u8>>,
+    pub destinations: Option<Vec<u8>>,
     /// The scenario files, in their order.
     pub scenarios: Vec<NamedFile>,
 }
@@ -23,13 +24,14 @@ pub struct StudyFiles {
 impl StudyFiles {
     /// No file is there.
     pub fn none(alloc: Global) -> StudyFiles
-        ensures { files_of result ≡ record { feed = no_files; footpaths = None; origins = None; opportunities = None; scenarios = [] } }
+        ensures { files_of result ≡ record { feed = no_files; footpaths = None; origins = None; opportunities = None; destinations = None; scenarios = [] } }
     {
         StudyFiles {
             feed: FeedFiles::none(),
             footpaths: None,
             origins: None,
             opportunities: None,
+            destinations: None,
             scenarios: Vec::new(alloc),
         }
     }
@@ -43,6 +45,7 @@ impl StudyFiles {
             footpaths: bytes_of(&self.footpaths),
             origins: bytes_of(&self.origins),
             opportunities: bytes_of(&self.opportunities),
+            destinations: bytes_of(&self.destinations),
             scenarios: self.scenarios.as_slice(),
         }
     }

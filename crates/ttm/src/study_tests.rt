@@ -125,6 +125,7 @@ fn study_of<R: Threads + Wait + Sync + Abort>(
         footpaths: None,
         origins: Some(case.origins),
         opportunities: None,
+        destinations: None,
         scenarios: &files,
     };
     let settings = settings_of(rt, alloc, case);

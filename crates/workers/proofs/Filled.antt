@@ -12,7 +12,7 @@ use Rattle.workers.specs.Study.{StudyData, StudyFits}
 use Rattle.workers.specs.Rows.{IsRowOf}
 use Rattle.workers.specs.Matrices.{IsMatrix, HasShape}
 use Rattle.workers.specs.Jobs.{jobs_of, IsRowOfJob, AreFilled}
-use Rattle.workers.proofs.Wide.{cells_of, width_is}
+use Rattle.workers.proofs.Wide.{cells_of}
 
 -- no place is empty
 pub none_empty : (s : StudyData) (places : PlacesData) (scenario origin : ℕ) → AreFilled s places → IsFirstEmpty places scenario origin → ⊥
@@ -64,7 +64,7 @@ shape_of s places m fits full done =
     record {
       scenarios = matrix.scenarios;
       origins = matrix.origins;
-      width = λ some. matrix.width ∙ width_is s fits some;
+      width = matrix.width;
       shares = matrix.shares;
       limits = matrix.limits;
       count = matrix.count;

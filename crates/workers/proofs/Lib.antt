@@ -11,4 +11,5 @@ pub mod Joined
 pub mod Fills
 pub mod Ended
 pub mod Wholes
+pub mod Columns
 pub mod AnyGate

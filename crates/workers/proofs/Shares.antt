@@ -1,12 +1,16 @@
 -- What each share gives, in the shares' order.
-use Rattle.std.proofs.Common.{◌≡◌, ◌<◌, ℕ, zero, suc, List, [], ◌∷◌, ◌++◌, Option, Vec, Global, length, get_or, map, append_assoc, refl, sym, ap, ◌∙◌, subst, arith}
-use Rattle.std.specs.List.{All, AllZip}
+use Rattle.std.proofs.Common.{◌≡◌, ◌⊎◌, ◌<◌, ◌+◌, ℕ, zero, suc, List, [], ◌∷◌, ◌++◌, Option, Some, None, length, get_or, map, take, inl, inr, refl, sym, ap, ◌∙◌, arith}
+use Rattle.std.specs.List.{All, AllZip, slice_get}
+use Rattle.std.proofs.Math.Seq.{take-suc}
+use Rattle.std.proofs.lemmas.List.{ext_get_or, get_or-map, length-map, map-append}
 use Rattle.std.proofs.lemmas.Option.{slice_get-get_or}
+use Rattle.timetable.specs.declared.trips.StopNo.{StopNo}
 use Rattle.rounds.specs.Table.{Times}
-use Rattle.shares.specs.Percentiles.{AreCellsOf}
+use Rattle.shares.specs.Percentiles.{AreCells, AreCellsAt}
+use Rattle.shares.proofs.Unique.{cell_unique}
 use Rattle.collector.specs.Row.{CellsData}
 use Rattle.workers.specs.Study.{StudyData}
-use Rattle.workers.specs.Rows.{with_access, IsOfShare, AreDurationsOf, IsRowOf}
+use Rattle.workers.specs.Rows.{at_stops, AreDurationsOf, AreOfShares, IsRowOf}
 
 module _ {A B : Type 0} (R : A → B → Type 0) where
   pub zip_length : (xs : List A) (ys : List B) → AllZip R xs ys → length xs ≡ length ys
@@ -22,42 +26,43 @@ module _ {A B : Type 0} (R : A → B → Type 0) where
   zip_at (x ∷ xs) (y ∷ ys) zero a b h below = h.0
   zip_at (x ∷ xs) (y ∷ ys) (suc k) a b h below = zip_at xs ys k a b h.1 (omega arith)
 
--- one element of a list is taken, and its image put last
-pub moved_on : {A B : Type 0} (f : A → B) (old new : List B) (x : B) (v : A) (rest all from : List A) → new ≡ old ++ x ∷ [] → x ≡ f v → all ≡ v ∷ rest
-    → old ++ map f all ≡ map f from → new ++ map f rest ≡ map f from
-moved_on f old new x v rest all from pushed is split was =
-    ap (λ l. l ++ map f rest) pushed
-    ∙ append_assoc old (x ∷ []) (map f rest)
-    ∙ ap (λ y. old ++ y ∷ map f rest) is
-    ∙ ap (λ l. old ++ map f l) (sym split)
-    ∙ was
+  pub zip_from : (xs : List A) (ys : List B) → length xs ≡ length ys → ((k : ℕ) (x : A) (y : B) → slice_get xs k ≡ Some x → slice_get ys k ≡ Some y → R x y) → AllZip R xs ys
+  zip_from [] [] h each = tt
+  zip_from [] (y ∷ ys) h each = absurd (omega arith)
+  zip_from (x ∷ xs) [] h each = absurd (omega arith)
+  zip_from (x ∷ xs) (y ∷ ys) h each = (each zero x y refl refl, zip_from xs ys (omega arith) (λ k a b. each (suc k) a b))
 
--- the lists of cells are as long as there are stops
-pub each_wide : (times : Times) (shares : List ℕ) (lists : List (Vec (Option ℕ) Global)) (n : ℕ) → AreCellsOf times shares lists → times.stops ≡ n
-    → All (λ (cells : Vec (Option ℕ) Global). length cells.items ≡ n) lists
-each_wide times shares lists n are stops k d below =
-    let low : k < length shares = subst (λ m. k < m) are.count below in
-    (are.each k (get_or shares k 0) (get_or lists k d) (slice_get-get_or shares k 0 low) (slice_get-get_or lists k d below)).stops ∙ stops
+inner : {A : Type 0} (x y : A) → Some x ≡ Some y → x ≡ y
+inner x y e = cc
 
--- with their access they are what the shares give
-pub of_shares : (times : Times) (opportunities limits shares : List ℕ) (lists : List (Vec (Option ℕ) Global)) → AreCellsOf times shares lists
-    → AllZip (IsOfShare times opportunities limits) shares (map (λ (cells : Vec (Option ℕ) Global). with_access opportunities limits cells.items) lists)
-of_shares times opportunities limits [] [] are = tt
-of_shares times opportunities limits [] (l ∷ lists) are = absurd (let e = are.count in omega arith)
-of_shares times opportunities limits (share ∷ shares) [] are = absurd (let e = are.count in omega arith)
-of_shares times opportunities limits (share ∷ shares) (l ∷ lists) are = (
-  record { cells_are = are.each zero share l refl refl; access_is = refl },
-  of_shares times opportunities limits shares lists (record {
-    count = (let e = are.count in omega arith);
-    each = λ k other cells of_share of_list. are.each (suc k) other cells of_share of_list;
-  }),
-)
+-- what stands in a list with one more element stood there before, or is that element
+pub pushed_at : (xs : List CellsData) (x y : CellsData) (j : ℕ) → slice_get (xs ++ x ∷ []) j ≡ Some y → (slice_get xs j ≡ Some y) ⊎ ((j ≡ length xs) × (x ≡ y))
+pushed_at [] x y zero h = inr (refl, inner x y h)
+pushed_at [] x y (suc j) h = absurd (cc)
+pushed_at (z ∷ xs) x y zero h = inl h
+pushed_at (z ∷ xs) x y (suc j) h = elim (pushed_at xs x y j h) [ inl before ↦ inl before | inr last ↦ inr (ap suc last.0, last.1) ]
 
--- so they make the row of their scenario and origin
-pub row_is : (s : StudyData) (scenario origin : ℕ) (times : Times) (lists : List (Vec (Option ℕ) Global)) (shares : List CellsData) → AreDurationsOf s scenario origin times
-    → AreCellsOf times s.query.shares lists → shares ≡ map (λ (cells : Vec (Option ℕ) Global). with_access s.opportunities s.query.limits cells.items) lists
+-- the cells of the destinations are those that all stops have there
+pub at_all : (times : Times) (ds : List StopNo) (share : ℕ) (cells all : List (Option ℕ)) → All (λ (d : StopNo). d.0 < times.stops) ds → AreCellsAt times ds share cells
+    → AreCells times share all → cells ≡ at_stops ds all
+at_all times ds share cells all there are are_all =
+    ext_get_or None cells (at_stops ds all) (are.count ∙ sym (length-map ds (λ (s : StopNo). get_or all s.0 None))) (λ k below.
+    let none : StopNo = record { 0 = 0 } in
+    let low : k < length ds = omega (arith, below, are.count) in
+    let stop : StopNo = get_or ds k none in
+    cell_unique times share stop.0 (get_or cells k None) (get_or all stop.0 None) (are.each k stop (slice_get-get_or ds k none low)) (are_all.each stop.0 (there k none low))
+    ∙ sym (get_or-map (λ (s : StopNo). get_or all s.0 None) ds k none None low))
+
+-- one number more of those that are asked of
+pub mapped_next : (f : ℕ → ℕ) (xs : List ℕ) (k : ℕ) → k < length xs → map f (take (k + 1) xs) ≡ map f (take k xs) ++ f (get_or xs k 0) ∷ []
+mapped_next f xs k low =
+    let step : k + 1 ≡ suc k = omega arith in
+    ap (λ (n : ℕ). map f (take n xs)) step ∙ ap (λ (l : List ℕ). map f l) (take-suc xs k 0 low) ∙ map-append f (take k xs) (get_or xs k 0 ∷ [])
+
+-- what each share gives makes the row of a scenario and an origin
+pub row_is : (s : StudyData) (scenario origin : ℕ) (times : Times) (shares : List CellsData) → AreDurationsOf s scenario origin times → AreOfShares times s shares
     → IsRowOf s scenario origin (record { study = s.number; scenario = scenario; origin = origin; shares = shares })
-row_is s scenario origin times lists shares of are given = record {
+row_is s scenario origin times shares of given = record {
   study_is = refl;
   scenario_is = refl;
   origin_is = refl;
@@ -65,10 +70,5 @@ row_is s scenario origin times lists shares of are given = record {
   stop = of.stop;
   network_is = of.network_is;
   stop_is = of.stop_is;
-  is_row = record {
-    times = times;
-    durations = of.durations;
-    shares_are = subst (λ (l : List CellsData). AllZip (IsOfShare times s.opportunities s.query.limits) s.query.shares l) (sym given)
-        (of_shares times s.opportunities s.query.limits s.query.shares lists are);
-  };
+  is_row = record { times = times; durations = of.durations; shares_are = given };
 }

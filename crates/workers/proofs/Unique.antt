@@ -11,19 +11,20 @@ use Rattle.shares.proofs.Unique.{cells_unique}
 use Rattle.collector.specs.Row.{CellsData, RowData}
 use Rattle.collector.proofs.Divide.{scenario_below, origin_below, joined}
 use Rattle.workers.specs.Study.{Query, StudyData}
-use Rattle.workers.specs.Rows.{sums_of, IsOfShare, IsRow, IsRowOf}
+use Rattle.workers.specs.Rows.{at_stops, sums_of, IsOfShare, IsRow, IsRowOf}
 use Rattle.workers.specs.Laws.{RowsAreUnique, RowsDependOnTheirNetwork, MatricesAreUnique}
 
-module _ (times : Times) (opportunities limits : List ℕ) where
+module _ (times : Times) (opportunities limits : List ℕ) (destinations : List StopNo) where
   -- what a share gives is unique
-  share_unique : (share : ℕ) (some other : CellsData) → IsOfShare times opportunities limits share some → IsOfShare times opportunities limits share other → some ≡ other
+  share_unique : (share : ℕ) (some other : CellsData) → IsOfShare times opportunities limits destinations share some → IsOfShare times opportunities limits destinations share other → some ≡ other
   share_unique share some other h g =
-      let cells = cells_unique times share some.cells other.cells h.cells_are g.cells_are in
-      let access = h.access_is ∙ ap (λ (c : List (Option ℕ)). sums_of c opportunities limits) cells ∙ sym g.access_is in
+      let all = cells_unique times share h.all g.all h.all_are g.all_are in
+      let cells = h.cells_are ∙ ap (λ (c : List (Option ℕ)). at_stops destinations c) all ∙ sym g.cells_are in
+      let access = h.access_is ∙ ap (λ (c : List (Option ℕ)). sums_of c opportunities limits) all ∙ sym g.access_is in
       λ i. record { cells = cells i; access = access i }
 
-  shares_unique : (shares : List ℕ) (some others : List CellsData) → AllZip (IsOfShare times opportunities limits) shares some
-      → AllZip (IsOfShare times opportunities limits) shares others → some ≡ others
+  shares_unique : (shares : List ℕ) (some others : List CellsData) → AllZip (IsOfShare times opportunities limits destinations) shares some
+      → AllZip (IsOfShare times opportunities limits destinations) shares others → some ≡ others
   shares_unique [] [] [] h g = refl
   shares_unique [] [] (y ∷ ys) h g = absurd g
   shares_unique [] (x ∷ xs) ys h g = absurd h
@@ -38,8 +39,8 @@ module _ (times : Times) (opportunities limits : List ℕ) where
 pub row_unique : RowsAreUnique
 row_unique n origin opportunities q some other h g =
     let times : g.times ≡ h.times = durations_unique n origin q.window q.rides g.times h.times g.durations h.durations in
-    shares_unique h.times opportunities q.limits q.shares some other h.shares_are
-    (subst (λ (t : Times). AllZip (IsOfShare t opportunities q.limits) q.shares other) times g.shares_are)
+    shares_unique h.times opportunities q.limits q.destinations q.shares some other h.shares_are
+    (subst (λ (t : Times). AllZip (IsOfShare t opportunities q.limits q.destinations) q.shares other) times g.shares_are)
 
 inner : {A : Type 0} (x y : A) → Some x ≡ Some y → x ≡ y
 inner x y e = cc

@@ -1,10 +1,11 @@
--- Each row of a study that fits has a cell per stop and a sum per limit for each share.
-use Rattle.std.proofs.Common.{◌≡◌, ◌<◌, ◌==◌, ◌&&◌, ℕ, Bool, true, false, List, [], ◌∷◌, Some, length, get_or, sym, ap, ◌∙◌, subst, arith}
+-- Each row of a study that fits has a cell per destination and a sum per limit for each share.
+use Rattle.std.proofs.Common.{◌≡◌, ◌<◌, ◌==◌, ◌&&◌, ℕ, Bool, true, false, List, None, Some, length, get_or, sym, ap, ◌∙◌, subst, arith}
 use Rattle.std.specs.List.{slice_get}
 use Rattle.std.proofs.lemmas.List.{length-map}
 use Rattle.std.proofs.lemmas.List.Sums.{list_all-from_AllPass}
 use Rattle.std.proofs.lemmas.Option.{slice_get_within, get_or_from_slice_get}
 use Rattle.std.proofs.lemmas.Bool.Decides.{nat_tests}
+use Rattle.timetable.specs.declared.trips.StopNo.{StopNo}
 use Rattle.timetable.specs.Networks.{Net}
 use Rattle.shares.specs.Opportunities.{access_of}
 use Rattle.collector.specs.Row.{CellsData, RowData}
@@ -12,7 +13,7 @@ use Rattle.collector.specs.Places.{PlacesData}
 use Rattle.collector.specs.Offers.{is_whole, has_all_cells}
 use Rattle.workers.specs.Study.{StudyData, StudyFits}
 use Rattle.workers.specs.Rows.{IsOfShare, IsRowOf}
-use Rattle.workers.specs.Matrices.{width_of, HasAllCells}
+use Rattle.workers.specs.Matrices.{HasAllCells}
 use Rattle.workers.specs.Jobs.{ArePlaces}
 use Rattle.workers.proofs.Shares.{zip_length, zip_at}
 
@@ -28,30 +29,22 @@ pub stops_of : (s : StudyData) (k : ℕ) (n : Net) → StudyFits s → slice_get
 stops_of s k n fits at =
     subst (λ (m : Net). m.stops ≡ length s.opportunities) (get_or_from_slice_get s.networks k n n at) (fits.stops k n (slice_get_within s.networks k n at))
 
--- so where there are networks, there are as many columns
-pub width_is : (s : StudyData) → StudyFits s → 0 < length s.networks → width_of s.networks ≡ length s.opportunities
-width_is s fits some = go s.networks fits.stops some
-  where
-    go : (networks : List Net) → ((k : ℕ) (n : Net) → k < length networks → (get_or networks k n).stops ≡ length s.opportunities) → 0 < length networks
-        → width_of networks ≡ length s.opportunities
-    go [] all h = absurd (omega arith)
-    go (n ∷ ns) all h = all 0 n h
-
--- and as many cells of a row for each share
+-- a row has as many cells as there are destinations, for each share
 pub cells_of : (s : StudyData) (scenario origin : ℕ) (row : RowData) → StudyFits s → IsRowOf s scenario origin row
-    → HasAllCells (length s.query.shares) (width_of s.networks) (length s.query.limits) row
+    → HasAllCells (length s.query.shares) (length s.query.destinations) (length s.query.limits) row
 cells_of s scenario origin row fits is =
-    let within = slice_get_within s.networks scenario is.network is.network_is in
-    let some : 0 < length s.networks = omega arith in
-    let given = IsOfShare is.is_row.times s.opportunities s.query.limits in
+    let given = IsOfShare is.is_row.times s.opportunities s.query.limits s.query.destinations in
     let many : length s.query.shares ≡ length row.shares = zip_length given s.query.shares row.shares is.is_row.shares_are in
-    let wide = is.is_row.durations.stops ∙ stops_of s scenario is.network fits is.network_is ∙ sym (width_is s fits some) in
     let of_share : (k : ℕ) (d : CellsData) → k < length row.shares → given (get_or s.query.shares k 0) (get_or row.shares k d) =
     λ k d below. zip_at given s.query.shares row.shares k 0 d is.is_row.shares_are (subst (λ n. k < n) (sym many) below) in
     record {
       shares_are = sym many;
-      cells = λ k d below. (of_share k d below).cells_are.stops ∙ wide;
-      access = λ k d below. ap length (of_share k d below).access_is ∙ length-map s.query.limits (λ limit. access_of (get_or row.shares k d).cells s.opportunities limit);
+      cells = λ k d below.
+          let of = of_share k d below in
+          ap length of.cells_are ∙ length-map s.query.destinations (λ (stop : StopNo). get_or of.all stop.0 None);
+      access = λ k d below.
+          let of = of_share k d below in
+          ap length of.access_is ∙ length-map s.query.limits (λ limit. access_of of.all s.opportunities limit);
     }
 
 -- so such a row has all the cells that the places of the study ask for

@@ -10,7 +10,6 @@ use Rattle.collector.specs.Places.{PlacesData, empty_places, row_at}
 use Rattle.collector.specs.Offers.{after_offer}
 use Rattle.workers.specs.Study.{StudyData}
 use Rattle.workers.specs.Rows.{IsRowOf}
-use Rattle.workers.specs.Matrices.{width_of}
 
 -- one job per scenario and origin
 abbrev pub jobs_of : StudyData → ℕ
@@ -38,14 +37,14 @@ pub record HasNoJob (old new : BookState) (places offered : PlacesData) : Type 0
 -- the places of a study before its first row
 abbrev pub places_without_rows : StudyData → PlacesData
 places_without_rows s =
-    empty_places s.number (length s.networks) (length s.origins) (width_of s.networks) (length s.query.shares) (length s.query.limits)
+    empty_places s.number (length s.networks) (length s.origins) (length s.query.destinations) (length s.query.shares) (length s.query.limits)
 
 -- the places are those of a study, one per job
 pub record ArePlaces (s : StudyData) (places : PlacesData) : Type 0 where
   pub study : places.study ≡ s.number
   pub scenarios : places.scenarios ≡ length s.networks
   pub origins : places.origins ≡ length s.origins
-  pub width : places.width ≡ width_of s.networks
+  pub width : places.width ≡ length s.query.destinations
   pub shares : places.shares ≡ length s.query.shares
   pub limits : places.limits ≡ length s.query.limits
   pub count : length places.rows ≡ jobs_of s

@@ -1,21 +1,15 @@
 -- The matrix of a study: one row per scenario and origin, scenarios in the outer order.
-use Rattle.std.specs.Prelude.{◌≡◌, ℕ, ◌+◌, ◌*◌, ◌<◌, List, [], ◌∷◌, length, Some, slice_get, All}
-use Rattle.timetable.specs.Networks.{Net}
+use Rattle.std.specs.Prelude.{◌≡◌, ℕ, ◌+◌, ◌*◌, ◌<◌, length, Some, slice_get, All}
 use Rattle.collector.specs.Row.{CellsData, RowData}
 use Rattle.collector.specs.Places.{MatrixData}
 use Rattle.workers.specs.Study.{StudyData}
 use Rattle.workers.specs.Rows.{IsRowOf}
 
--- how many stops there are, by the first network; without networks none
-abbrev pub width_of : List Net → ℕ
-width_of [] = 0
-width_of (n ∷ networks) = n.stops
-
 -- each place has the row of its scenario and origin
 pub record IsMatrix (s : StudyData) (m : MatrixData) : Type 0 where
   pub scenarios : m.scenarios ≡ length s.networks
   pub origins : m.origins ≡ length s.origins
-  pub width : m.width ≡ width_of s.networks
+  pub width : m.width ≡ length s.query.destinations
   pub shares : m.shares ≡ length s.query.shares
   pub limits : m.limits ≡ length s.query.limits
   pub count : length m.rows ≡ m.scenarios * m.origins
@@ -28,11 +22,11 @@ pub record HasAllCells (shares width limits : ℕ) (row : RowData) : Type 0 wher
   pub cells : All (λ (given : CellsData). length given.cells ≡ width) row.shares
   pub access : All (λ (given : CellsData). length given.access ≡ limits) row.shares
 
--- a matrix has a row per scenario and origin, and each row has, for each share, a cell per stop and a sum per limit
+-- a matrix has a row per scenario and origin, and each row has, for each share, a cell per destination and a sum per limit
 pub record HasShape (s : StudyData) (m : MatrixData) : Type 0 where
   pub scenarios : m.scenarios ≡ length s.networks
   pub origins : m.origins ≡ length s.origins
-  pub width : 0 < length s.networks → m.width ≡ length s.opportunities
+  pub width : m.width ≡ length s.query.destinations
   pub shares : m.shares ≡ length s.query.shares
   pub limits : m.limits ≡ length s.query.limits
   pub count : length m.rows ≡ m.scenarios * m.origins

@@ -10,12 +10,14 @@ use Rattle.workers.specs.declared.study.Asked.{Asked}
 use Rattle.workers.specs.declared.study.Study.{Study}
 use Rattle.workers.specs.declared.study.TheConstants.{MOST_SCENARIOS, MOST_RIDES, MOST_SHARES, MOST_LIMITS}
 
--- what is asked of a network: the departures, the most rides, the shares of minutes, and the limits of reach
+-- what is asked of a network: the departures, the most rides, the shares of minutes, the limits of reach, and the destinations, whose
+-- cells a row has
 pub record Query : Type 0 where
   pub window : Window
   pub rides : ℕ
   pub shares : List ℕ
   pub limits : List ℕ
+  pub destinations : List StopNo
 
 -- a study as plain data
 pub record StudyData : Type 0 where
@@ -27,7 +29,7 @@ pub record StudyData : Type 0 where
 
 -- the data of what is asked
 abbrev pub query_of : Asked → Query
-query_of a = record { window = a.window; rides = a.rides; shares = a.shares.now; limits = a.limits.now }
+query_of a = record { window = a.window; rides = a.rides; shares = a.shares.now; limits = a.limits.now; destinations = a.destinations.now }
 
 -- the data of a study
 abbrev pub study_of : Study → StudyData
@@ -52,12 +54,14 @@ pub record LimitsFit (limits : List ℕ) : Type 0 where
   pub few : length limits ≤ MOST_LIMITS
   pub rising : IsStrictlyIncreasing limits
 
--- the study is within the limits, and its networks, origins and opportunities are of the same stops
+-- the study is within the limits, and its networks, origins, destinations and opportunities are of the same stops
 pub record StudyFits (s : StudyData) : Type 0 where
   pub few_networks : length s.networks ≤ MOST_SCENARIOS
   pub stops : All (λ n. n.stops ≡ length s.opportunities) s.networks
   pub few_origins : length s.origins ≤ MOST_STOPS
   pub origins : All (λ o. o.0 < length s.opportunities) s.origins
+  pub few_destinations : length s.query.destinations ≤ MOST_STOPS
+  pub destinations : All (λ o. o.0 < length s.opportunities) s.query.destinations
   pub window : Fits s.query.window
   pub some_rides : 1 ≤ s.query.rides
   pub few_rides : s.query.rides ≤ MOST_RIDES

@@ -1,7 +1,7 @@
 //! Jobs, one per scenario and origin: drawn, computed, settled and handed over, one after another.
 ghost use Rattle.std.specs.Prelude.{◌≡◌, ◌+◌, ◌<◌, ◌≤◌, ◌*◌, true, false, length, IfOk, IfErr, OnOk, OnErr};
 ghost use Rattle.workers.specs.Study.{study_of, StudyFits};
-ghost use Rattle.workers.specs.Matrices.{IsMatrix, HasShape, width_of};
+ghost use Rattle.workers.specs.Matrices.{IsMatrix, HasShape};
 ghost use Rattle.workers.specs.Jobs.{jobs_of, IsRowOfJob, DoesJob, HasNoJob, IsUnderWay, AreFilled, places_without_rows};
 
 use crate::faults::RunFault;
@@ -10,7 +10,6 @@ use crate::study::Study;
 use collector::{Collector, Matrix, Row};
 use rounds::Search;
 use std::alloc::{AllocError, Global};
-use timetable::Network;
 use work_book::{Answer, Book};
 
 /// The matrix of a study that fits, computed by the calling thread alone.
@@ -60,7 +59,7 @@ pub(crate) fn empty_places(alloc: Global, study: &Study) -> Result<Collector, Al
 {
     let scenarios = study.networks.len() as u32;
     let origins = study.origins.len() as u32;
-    let width = width_of(study.networks);
+    let width = study.asked.destinations.len() as u32;
     let shares = study.asked.shares.len() as u32;
     let limits = study.asked.limits.len() as u32;
     Collector::new(
@@ -72,16 +71,6 @@ pub(crate) fn empty_places(alloc: Global, study: &Study) -> Result<Collector, Al
         shares,
         limits,
     )
-}
-
-/// How many stops the networks have.
-fn width_of(networks: &[Network]) -> u32
-    ensures { result ≡ width_of networks.now }
-{
-    match networks.first() {
-        Some(network) => network.stops(),
-        None => 0,
-    }
 }
 
 /// Does the jobs that are left, all of them with one search.

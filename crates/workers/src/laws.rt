@@ -6,6 +6,8 @@ ghost use Rattle.workers.specs.Jobs.{jobs_of};
 ghost use Rattle.workers.specs.Laws.{
   RowsAreUnique,
   RowsDependOnTheirNetwork,
+  RowsHaveTheirColumns,
+  MatricesHaveTheirColumns,
   MatricesAreUnique,
   WholesHaveTheRowsOfTheirParts,
 };
@@ -32,6 +34,16 @@ pub fn rows_are_unique()
 /// reach, have the same cells and access sums in that scenario's rows, whatever their other scenarios are.
 pub fn rows_depend_on_their_network()
     ensures { RowsDependOnTheirNetwork }
+{}
+
+/// A law: which stops are destinations changes no number.
+///
+/// Beside the row of the same network, origin, opportunities and question with all stops as destinations, a row has the same
+/// access sums, and for each of its destinations the cell that the other one has at that stop. So the matrix of a study is that
+/// of the same study with all stops, with the other columns left out.
+pub fn rows_have_their_columns()
+    ensures rows { RowsHaveTheirColumns }
+    ensures matrices { MatricesHaveTheirColumns }
 {}
 
 /// A law: the rows of a study are those of its parts, each a study of some of the origins.

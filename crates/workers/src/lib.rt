@@ -29,7 +29,7 @@ pub use faults::RunFault;
 pub use gates::{Gate, Open, Verdict};
 pub use jobs::one_thread;
 pub use laws::{
-    matrices_are_unique, rows_are_unique, rows_depend_on_their_network,
+    matrices_are_unique, rows_are_unique, rows_depend_on_their_network, rows_have_their_columns,
     wholes_have_the_rows_of_their_parts, workers_give_the_matrix_of_one_thread,
 };
 pub use rows::row_of;

@@ -23,6 +23,7 @@ pub(crate) struct Promised<'a, 'b, G> {
     pub(crate) networks: &'a [Network],
     pub(crate) origins: &'a [StopNo],
     pub(crate) opportunities: &'a [u32],
+    pub(crate) destinations: &'a [StopNo],
     pub(crate) shares: &'a [u32],
     pub(crate) limits: &'a [u32],
     pub(crate) board: &'b Board,
@@ -34,5 +35,5 @@ impl<'a, 'b, G: Gate> Promise<Worked> for Promised<'a, 'b, G> {
     ghost use Rattle.workers.specs.Held.{WorkedFor};
 
     ghost kept_by = { λ p w.
-        WorkedFor p.board.now (study_by p.terms p.networks.now p.origins.now p.opportunities.now p.shares.now p.limits.now) (G.decides p.gate.now) (G.was_told p.gate.now) w };
+        WorkedFor p.board.now (study_by p.terms p.networks.now p.origins.now p.opportunities.now p.destinations.now p.shares.now p.limits.now) (G.decides p.gate.now) (G.was_told p.gate.now) w };
 }

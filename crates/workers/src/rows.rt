@@ -1,8 +1,8 @@
 //! Rows: what one scenario gives for one origin.
-ghost use Rattle.std.specs.Prelude.{◌≡◌, ◌<◌, ◌≤◌, All, length, map, IfOk};
-ghost use Rattle.timetable.specs.declared.limits.TheConstants.{MOST_STOPS};
+ghost use Rattle.std.specs.Prelude.{◌≡◌, ◌<◌, ◌≤◌, length, IfOk};
+ghost use Rattle.shares.specs.Percentiles.{AreCellsAt, AreCellsOf};
 ghost use Rattle.workers.specs.Study.{study_of, StudyFits};
-ghost use Rattle.workers.specs.Rows.{sums_of, with_access, AreDurationsOf, IsRowOf};
+ghost use Rattle.workers.specs.Rows.{AreDurationsOf, AreOfShares, AreSums, IsOfShare, IsRowOf};
 
 use crate::study::Study;
 use collector::{Cells, Row};
@@ -10,8 +10,8 @@ use rounds::{Durations, Search};
 use shares::{access, cells_of};
 use std::alloc::{AllocError, Global};
 
-/// The row of a scenario and an origin, by their positions from 0: for each share the travel time to each stop that so many of
-/// the window's minutes attain, and for each limit the opportunities at the stops within reach.
+/// The row of a scenario and an origin, by their positions from 0: for each share the travel time to each destination that so
+/// many of the window's minutes attain, and for each limit the opportunities at the stops within reach, of all stops.
 ///
 /// Want of memory is the only refusal.
 pub fn row_of(alloc: Global, study: &Study, scenario: u32, origin: u32) -> Result<Row, AllocError>
@@ -38,8 +38,13 @@ pub(crate) fn row_with(
     ensures { IfOk result (λ row. IsRowOf (study_of study.now) scenario origin row) }
 {
     let durations = durations_of(alloc, search, study, scenario, origin)?;
-    let lists = cells_of(alloc, &durations, study.asked.shares)?;
-    let shares = with_access(alloc, lists, study.opportunities, study.asked.limits)?;
+    let lists = cells_of(
+        alloc,
+        &durations,
+        study.asked.destinations,
+        study.asked.shares,
+    )?;
+    let shares = with_access(alloc, &durations, study, lists)?;
     Ok(Row {
         study: study.number,
         scenario,
@@ -66,39 +71,66 @@ fn durations_of(
     search.durations(alloc, network, stop, study.asked.window, study.asked.rides)
 }
 
-/// The cells of each share, with their access for each limit.
+/// What each share gives: the cells of the destinations, which these are, and the access for each limit.
 fn with_access(
     alloc: Global,
+    durations: &Durations,
+    study: &Study,
     lists: Vec<Vec<Option<u32>>>,
-    opportunities: &[u32],
-    limits: &[u32],
 ) -> Result<Vec<Cells>, AllocError>
-    requires wide { All (λ cells. length cells.items ≡ length opportunities.now) lists.items }
-    requires few { length opportunities.now ≤ MOST_STOPS }
-    ensures { IfOk result (λ shares.
-        shares.items ≡ map (λ cells. with_access opportunities.now limits.now cells.items) lists.items) }
+    requires fits { StudyFits (study_of study.now) }
+    requires stops { durations.now.stops ≡ length study.now.opportunities.now }
+    requires lists { AreCellsOf durations.now study.now.asked.destinations.now study.now.asked.shares.now lists.items }
+    ensures { IfOk result (λ shares. AreOfShares durations.now (study_of study.now) shares.items) }
 {
     let mut shares = Vec::with_capacity(alloc, lists.len())?;
     for cells in lists {
-        let access = sums_of(alloc, &cells, opportunities, limits)?;
-        shares.push(Cells { cells, access })?;
+        let share = study.asked.shares[shares.len()];
+        shares.push(given_of(alloc, durations, study, share, cells)?)?;
     }
     Ok(shares)
 }
 
-/// The access of some cells for each limit, in the limits' order.
+/// What a share gives, with these cells.
+fn given_of(
+    alloc: Global,
+    durations: &Durations,
+    study: &Study,
+    share: u32,
+    cells: Vec<Option<u32>>,
+) -> Result<Cells, AllocError>
+    requires fits { StudyFits (study_of study.now) }
+    requires stops { durations.now.stops ≡ length study.now.opportunities.now }
+    requires share { share ≤ 100 }
+    requires cells { AreCellsAt durations.now study.now.asked.destinations.now share cells.items }
+    ensures { IfOk result (λ given.
+        IsOfShare durations.now study.now.opportunities.now study.now.asked.limits.now study.now.asked.destinations.now share given) }
+{
+    let access = sums_of(
+        alloc,
+        durations,
+        study.opportunities,
+        share,
+        study.asked.limits,
+    )?;
+    Ok(Cells { cells, access })
+}
+
+/// The access of a share for each limit, in the limits' order.
 fn sums_of(
     alloc: Global,
-    cells: &[Option<u32>],
+    durations: &Durations,
     opportunities: &[u32],
+    share: u32,
     limits: &[u32],
 ) -> Result<Vec<u64>, AllocError>
-    requires same { length cells.now ≡ length opportunities.now }
-    requires few { length opportunities.now ≤ MOST_STOPS }
-    ensures { IfOk result (λ sums. sums.items ≡ sums_of cells.now opportunities.now limits.now) }
+    requires same { durations.now.stops ≡ length opportunities.now }
+    requires share { share ≤ 100 }
+    ensures { IfOk result (λ sums. AreSums durations.now share opportunities.now limits.now sums.items) }
 {
-    limits
-        .iter()
-        .map(|limit| access(cells, opportunities, *limit))
-        .collect(alloc)
+    let mut sums = Vec::with_capacity(alloc, limits.len())?;
+    for limit in limits {
+        sums.push(access(durations, opportunities, share, *limit))?;
+    }
+    Ok(sums)
 }

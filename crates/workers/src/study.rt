@@ -38,9 +38,12 @@ pub struct Asked<'a> {
     pub shares: &'a [u32],
     /// The longest travel times, in seconds, at which a stop counts for access; each limit has its own sum.
     pub limits: &'a [u32],
+    /// The stops that a row has cells for, in the order of its cells. Access counts all stops, whichever these are.
+    pub destinations: &'a [StopNo],
 }
 
-/// What is asked for: one row per scenario and origin, with, for each share, one cell per stop and one access sum per limit.
+/// What is asked for: one row per scenario and origin, with, for each share, one cell per destination and one access sum per
+/// limit.
 #[derive(Clone, Copy)]
 pub struct Study<'a> {
     /// The study's number, which each of its rows bears.
@@ -58,8 +61,8 @@ pub struct Study<'a> {
 impl Study<'_> {
     /// Whether the study is within the limits.
     ///
-    /// There are at most 16 networks, each with as many stops as there are opportunities; at most 65,535 origins,
-    /// each of them one of these stops; the window fits; there are 1 to 8 rides; and the shares and the limits fit.
+    /// There are at most 16 networks, each with as many stops as there are opportunities; at most 65,535 origins and as many
+    /// destinations, each of them one of these stops; the window fits; there are 1 to 8 rides; and the shares and the limits fit.
     pub fn fits(&self) -> bool
         ensures { IsTrue result ↔ StudyFits (study_of self.now) }
     {
@@ -67,6 +70,8 @@ impl Study<'_> {
             && have_stops(self.networks, self.opportunities.len())
             && self.origins.len() <= MOST_STOPS
             && are_stops(self.origins, self.opportunities.len())
+            && self.asked.destinations.len() <= MOST_STOPS
+            && are_stops(self.asked.destinations, self.opportunities.len())
             && self.asked.window.fits()
             && 1 <= self.asked.rides
             && self.asked.rides <= MOST_RIDES
@@ -113,9 +118,9 @@ fn have_stops(networks: &[Network], stops: usize) -> bool
         .all(|network| network.stops() as usize == stops)
 }
 
-/// Whether each origin is one of so many stops.
-fn are_stops(origins: &[StopNo], stops: usize) -> bool
-    ensures { IsTrue result ↔ All (λ o. o.0 < stops) origins.now }
+/// Whether each of these is one of so many stops.
+fn are_stops(named: &[StopNo], stops: usize) -> bool
+    ensures { IsTrue result ↔ All (λ o. o.0 < stops) named.now }
 {
-    origins.iter().all(|origin| (origin.0 as usize) < stops)
+    named.iter().all(|stop| (stop.0 as usize) < stops)
 }

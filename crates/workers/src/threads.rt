@@ -41,6 +41,7 @@ pub(crate) fn run_all<G: Gate + Sync, R: Threads + Wait + Sync>(
         rides,
         shares,
         limits,
+        destinations,
     } = asked;
     let terms = Terms {
         number,
@@ -51,11 +52,11 @@ pub(crate) fn run_all<G: Gate + Sync, R: Threads + Wait + Sync>(
         thread::scope_env(),
         rt,
         move |scope| -> Result<Vec<Worked>, AllocError>
-            requires { AreOfOneStudy board.now (study_by terms networks.now origins.now opportunities.now shares.now limits.now)
+            requires { AreOfOneStudy board.now (study_by terms networks.now origins.now opportunities.now destinations.now shares.now limits.now)
                 × AreReady board.now seats.items }
             ensures { IfOk result (λ all.
                 AreWorked board.entry.now
-                (study_by terms networks.entry.now origins.entry.now opportunities.entry.now shares.entry.now limits.entry.now)
+                (study_by terms networks.entry.now origins.entry.now opportunities.entry.now destinations.entry.now shares.entry.now limits.entry.now)
                 (G.decides gate.entry.now) (G.was_told gate.entry.now)
                 all.items) }
         {
@@ -66,6 +67,7 @@ pub(crate) fn run_all<G: Gate + Sync, R: Threads + Wait + Sync>(
                 networks,
                 origins,
                 opportunities,
+                destinations,
                 shares,
                 limits,
                 board,
@@ -75,10 +77,10 @@ pub(crate) fn run_all<G: Gate + Sync, R: Threads + Wait + Sync>(
                 match scope.spawn_with(
                     promised,
                     move || -> Worked
-                        requires { AreOfOneStudy board.now (study_by terms networks.now origins.now opportunities.now shares.now limits.now)
+                        requires { AreOfOneStudy board.now (study_by terms networks.now origins.now opportunities.now destinations.now shares.now limits.now)
                             × IsReady board.now seat }
                         ensures { WorkedFor board.entry.now
-                            (study_by terms networks.entry.now origins.entry.now opportunities.entry.now shares.entry.now limits.entry.now)
+                            (study_by terms networks.entry.now origins.entry.now opportunities.entry.now destinations.entry.now shares.entry.now limits.entry.now)
                             (G.decides gate.entry.now) (G.was_told gate.entry.now)
                             result }
                     {
@@ -88,6 +90,7 @@ pub(crate) fn run_all<G: Gate + Sync, R: Threads + Wait + Sync>(
                             networks,
                             origins,
                             opportunities,
+                            destinations,
                             shares,
                             limits,
                             board,
@@ -112,15 +115,16 @@ fn work_in_parts<G: Gate>(
     networks: &[Network],
     origins: &[StopNo],
     opportunities: &[u32],
+    destinations: &[StopNo],
     shares: &[u32],
     limits: &[u32],
     board: &Board,
     seat: WorkSeat,
     gate: &G,
 ) -> Worked
-    requires study { AreOfOneStudy board.now (study_by terms networks.now origins.now opportunities.now shares.now limits.now) }
+    requires study { AreOfOneStudy board.now (study_by terms networks.now origins.now opportunities.now destinations.now shares.now limits.now) }
     requires seat { IsReady board.now seat }
-    ensures { WorkedFor board.now (study_by terms networks.now origins.now opportunities.now shares.now limits.now) (G.decides gate.now) (G.was_told gate.now) result }
+    ensures { WorkedFor board.now (study_by terms networks.now origins.now opportunities.now destinations.now shares.now limits.now) (G.decides gate.now) (G.was_told gate.now) result }
 {
     let study = Study {
         number: terms.number,
@@ -132,6 +136,7 @@ fn work_in_parts<G: Gate>(
             rides: terms.rides,
             shares,
             limits,
+            destinations,
         },
     };
     work(alloc, &study, board, seat, gate)
@@ -149,7 +154,7 @@ fn join_all<'a, 'b, G: Gate, R: Threads>(
     requires promised { All (λ handle. handle.promise ≡ promised) handles.items }
     ensures worked { AreWorked promised.entry.board.now
         (study_by promised.entry.terms promised.entry.networks.now promised.entry.origins.now promised.entry.opportunities.now
-        promised.entry.shares.now promised.entry.limits.now)
+        promised.entry.destinations.now promised.entry.shares.now promised.entry.limits.now)
         (G.decides promised.entry.gate.now) (G.was_told promised.entry.gate.now)
         result.items }
     ensures len { vec_len result ≡ vec_len handles.entry }

@@ -48,7 +48,7 @@ class Run:
     tries: int = 1  # 1 to 8
     back: int = 1  # service days before the date, 0 to 6
     ahead: int = 1  # and after it
-    files: Mapping[str, Pathlike] = field(default_factory=dict)  # origins, opportunities, footpaths
+    files: Mapping[str, Pathlike] = field(default_factory=dict)  # origins, opportunities, destinations, footpaths
 
     def words(self) -> list[str]:
         """The words of the command line, without the program."""
@@ -148,11 +148,16 @@ def written(folder: Path, name: str, header: Sequence[str], rows: Iterable[Seque
     return folder / name
 
 
+def stops_file(folder: Path, name: str, stops: Pathlike | Sequence[str]) -> Pathlike:
+    """A file of stops as it is, or one of this name with these stops."""
+    if isinstance(stops, (str, os.PathLike)):
+        return stops
+    return written(folder, name, ["stop_id"], [[stop] for stop in stops])
+
+
 def origins_file(folder: Path, origins: Pathlike | Sequence[str]) -> Pathlike:
     """A file of origins as it is, or one of these stops."""
-    if isinstance(origins, (str, os.PathLike)):
-        return origins
-    return written(folder, "origins.csv", ["stop_id"], [[stop] for stop in origins])
+    return stops_file(folder, "origins.csv", origins)
 
 
 def opportunities_file(folder: Path, given: Pathlike | Mapping[str, float], rounded: Rounded) -> Pathlike:
@@ -191,6 +196,7 @@ def matrix(
     scenarios: Sequence[Pathlike] = (),
     origins: Pathlike | Sequence[str] | None = None,
     opportunities: Pathlike | Mapping[str, float] | None = None,
+    destinations: Pathlike | Sequence[str] | None = None,
     footpaths: Pathlike | Iterable[tuple[str, str, float]] | None = None,
     workers: int = 1,
     tries: int = 1,
@@ -201,8 +207,9 @@ def matrix(
     """Runs `ttm` on the folder of a feed, and gives its matrix.
 
     The window is the first and the last departure, as ("08:00", "08:59"). Scenarios are scenario files. Origins are a
-    file or identifiers of stops; opportunities a file or a number for each stop; footpaths a file or walks between two
-    stops with their seconds. Faults of the inputs are raised as `EngineFault`, with file and record.
+    file or identifiers of stops, and so are destinations, the stops that have a column; opportunities a file or a
+    number for each stop; footpaths a file or walks between two stops with their seconds. Faults of the inputs are
+    raised as `EngineFault`, with file and record.
     """
     rounded = Rounded()
     with tempfile.TemporaryDirectory(prefix="ttm-matrix-") as made:
@@ -211,6 +218,8 @@ def matrix(
             files["origins"] = origins_file(folder, origins)
         if opportunities is not None:
             files["opportunities"] = opportunities_file(folder, opportunities, rounded)
+        if destinations is not None:
+            files["destinations"] = stops_file(folder, "destinations.csv", destinations)
         if footpaths is not None:
             files["footpaths"] = footpaths_file(folder, footpaths, rounded)
         counts = {"trips": trips, "walk": walk, "workers": workers, "tries": tries, "back": back, "ahead": ahead}

@@ -11,7 +11,7 @@ if TYPE_CHECKING:
 
     from ..engine import Run
 
-UNUSED = ("within", "workers", "tries", "origins", "opportunities")
+UNUSED = ("within", "workers", "tries", "origins", "opportunities", "destinations")
 TOLD = "the journey behind a cell, leg by leg, and all departures"
 HELP = """\
 Tells the journey behind a cell of the matrix: of the first departure whose duration the cell is, leg by leg, with

@@ -121,6 +121,8 @@ class CsvMatrix(Matrix):
     def rows(self, scenario: str, share: Share, begin: int, end: int) -> Seconds:
         lines = self.of(scenario, share).lines[begin:end]
         made = np.empty((len(lines), len(self.stops)), np.float32)
+        if not self.stops:
+            return made
         with open(self.path, "rb", buffering=0) as file:
             for row, line in enumerate(lines):
                 cells = os.pread(file.fileno(), line.end - line.begin, line.begin)

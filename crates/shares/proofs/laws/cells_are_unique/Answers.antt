@@ -1,3 +1,4 @@
+use Rattle.shares.proofs.There.{cells_there}
 use Rattle.shares.proofs.Unique.{cell_unique, cells_unique}
 use Rattle.shares.proofs.laws.cells_are_unique.Goals as goal
 
@@ -6,3 +7,6 @@ returns-clause-cell c = cell_unique
 
 pub returns-clause-cells : goal.returns-clause-cells
 returns-clause-cells c = cells_unique
+
+pub returns-clause-there : goal.returns-clause-there
+returns-clause-there c = cells_there

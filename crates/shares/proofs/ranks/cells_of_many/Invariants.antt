@@ -2,8 +2,8 @@ use Rattle.std.proofs.Common.{◌≡◌, length}
 use Rattle.shares.proofs.Ranking.{AreBegun}
 use Rattle.shares.proofs.ranks.cells_of_many.Given as goal
 
-abbrev pub invariant-loop-stop : goal.invariant-loop-stop
-invariant-loop-stop l = record {
+abbrev pub invariant-loop-n : goal.invariant-loop-n
+invariant-loop-n l = record {
   rows : length l.planes.items ≡ 33;
-  begun : AreBegun l.durations l.shares l.stop l.lists.items;
+  begun : AreBegun l.durations l.destinations l.shares l.n l.lists.items;
 }

@@ -1,5 +1,5 @@
 use Rattle.studies.specs.Inputs.{inputs_of}
-use Rattle.studies.proofs.StudyFacts.{own_told, are_read}
+use Rattle.studies.proofs.StudyFacts.{are_read, tables_told}
 use Rattle.studies.proofs.study.text_of_feed.Goals as goal
 
 pub read_tables-requires : goal.read_tables-requires
@@ -7,10 +7,10 @@ read_tables-requires g c = c.requires.files
 
 pub returns-in-Err-clause-fault : goal.returns-in-Err-clause-fault
 returns-in-Err-clause-fault g c =
-    own_told (inputs_of c.args.inputs.now) c.args.settings.now c.in-Err.fault c.args.feed.now c.requires.named c.requires.feed c.in-Err.ensures.fault
+    tables_told (inputs_of c.args.inputs.now) c.args.settings.now (g.G.Gate.decides c.args.gate.now) (g.G.Gate.was_told c.args.gate.now) c.in-Err.fault c.args.feed.now c.requires.named c.requires.feed c.in-Err.ensures.fault
 
 pub text_of_tables-requires-clause-read : goal.text_of_tables-requires-clause-read
-text_of_tables-requires-clause-read g c = λ _ _. are_read (inputs_of c.args.inputs.now) c.args.settings.now c.args.feed.now c.requires.named c.requires.feed c.in-Ok.ensures.good
+text_of_tables-requires-clause-read g c = λ _ _. are_read (inputs_of c.args.inputs.now) c.args.settings.now c.args.feed.now c.requires.named c.requires.feed c.in-Ok.ensures.good c.in-Ok.ensures.named
 
 pub text_of_tables-requires-clause-feed : goal.text_of_tables-requires-clause-feed
 text_of_tables-requires-clause-feed g c = λ _ _. c.requires.feed.feed_is

@@ -20,7 +20,9 @@ write_matrix-requires c =
           subst (λ (l : List StopNo). All (λ (o : StopNo). o.0 < length c.args.feed.now.stops) l) (sym c.as_slice-2.ensures.value) c.requires.tables.in_range;
       shares = ap (λ (l : List ℕ). length l) (c.as_slice-3.ensures.value ∙ ap (λ (s : SettingsData). s.shares) c.settings.view_is) ∙ sym c.requires.shares;
       limits = ap (λ (l : List ℕ). length l) (c.as_slice-4.ensures.value ∙ ap (λ (s : SettingsData). s.withins) c.settings.view_is) ∙ sym c.requires.limits;
-      columns = sym c.requires.width;
+      destinations_are =
+          subst (λ (l : List StopNo). All (λ (o : StopNo). o.0 < length c.args.feed.now.stops) l) (sym c.as_slice-5.ensures.value) c.requires.tables.destinations_in_range;
+      columns = ap (λ (l : List StopNo). length l) c.as_slice-5.ensures.value ∙ sym c.requires.width;
     }
 
 pub returns-in-Ok-write_matrix-clause-text : goal.returns-in-Ok-write_matrix-clause-text
@@ -32,8 +34,9 @@ returns-in-Ok-write_matrix-clause-text c =
     let stops = ap (λ (d : FeedData). d.stops) c.requires.feed in
     let shares = c.as_slice-3.ensures.value ∙ ap (λ (s : SettingsData). s.shares) c.settings.view_is in
     let limits = c.as_slice-4.ensures.value ∙ ap (λ (s : SettingsData). s.withins) c.settings.view_is in
-    let labels = labels_are i c.args.settings.now (map (λ v. v.items) c.as_slice.result.now) c.as_slice-2.result.now c.as_slice-3.result.now c.as_slice-4.result.now c.args.feed.now.stops names origins shares limits stops in
-    let text : List ℕ = matrix_text (labels_with (map (λ v. v.items) c.as_slice.result.now) c.as_slice-2.result.now c.as_slice-3.result.now c.as_slice-4.result.now c.args.feed.now.stops) matrix in
+    let destinations = c.as_slice-5.ensures.value ∙ c.requires.tables.destinations_are ∙ ap (λ (d : FeedData). origins_of i.destinations d) c.requires.feed in
+    let labels = labels_are i c.args.settings.now (map (λ v. v.items) c.as_slice.result.now) c.as_slice-2.result.now c.as_slice-3.result.now c.as_slice-4.result.now c.as_slice-5.result.now c.args.feed.now.stops names origins shares limits destinations stops in
+    let text : List ℕ = matrix_text (labels_with (map (λ v. v.items) c.as_slice.result.now) c.as_slice-2.result.now c.as_slice-3.result.now c.as_slice-4.result.now c.as_slice-5.result.now c.args.feed.now.stops) matrix in
     c.in-Ok-write_matrix.ensures.ok
     ∙ ap (λ (l : List ℕ). l ++ text) c.new-text.ensures.items
     ∙ ap (λ (l : LabelData). matrix_text l matrix) labels

@@ -5,6 +5,7 @@ use Rattle.gtfs_tables.specs.Origins.{origins_of}
 use Rattle.timetable.specs.declared.trips.StopNo.{StopNo}
 use Rattle.workers.specs.Study.{Query, query_of}
 use Rattle.studies.specs.Inputs.{inputs_of}
+use Rattle.studies.specs.Settings.{query_of as asked_of}
 use Rattle.studies.proofs.Saw.{saw_all, told_ok}
 use Rattle.studies.proofs.StudyFacts.{network_count, run_told, study_fits, study_is, text_made, text_told}
 use Rattle.studies.proofs.study.text_of_networks.Goals as goal
@@ -15,15 +16,18 @@ asked-requires g c = c.requires.settings
 pub matrix_of-requires-clause-study : goal.matrix_of-requires-clause-study
 matrix_of-requires-clause-study g c = λ _ _.
     study_fits (inputs_of c.args.inputs.now) c.args.settings.now c.args.feed.now c.args.tables.now c.args.networks.now c.as_slice.result.now c.as_slice-2.result.now (query_of c.asked.result)
-    c.requires.settings c.known.ensures c.requires.feed c.requires.tables c.requires.networks c.as_slice.ensures.value c.as_slice-2.ensures.value c.asked.ensures
+    c.requires.settings c.known.ensures c.requires.feed c.requires.tables c.requires.networks c.as_slice.ensures.value c.as_slice-2.ensures.value
+    (c.asked.ensures ∙ ap (λ (l : List StopNo). asked_of c.args.settings.now l) c.as_slice-3.ensures.value)
 
 pub returns-in-Err-clause-fault : goal.returns-in-Err-clause-fault
 returns-in-Err-clause-fault g c =
     let i = inputs_of c.args.inputs.now in
     let origins = c.as_slice.ensures.value ∙ c.requires.tables.origins_are ∙ ap (λ (d : FeedData). origins_of i.origins d) c.requires.feed in
     let opportunities = c.as_slice-2.ensures.value ∙ c.requires.tables.opportunities_are ∙ ap (λ (d : FeedData). opportunities_of i.opportunities d) c.requires.feed in
+    let asked = c.asked.ensures ∙ ap (λ (l : List StopNo). asked_of c.args.settings.now l)
+    (c.as_slice-3.ensures.value ∙ c.requires.tables.destinations_are ∙ ap (λ (d : FeedData). origins_of i.destinations d) c.requires.feed) in
     inl (run_told (g.G.Gate.decides c.args.gate.now) (g.G.Gate.was_told c.args.gate.now) i c.args.settings.now c.args.networks.now _ c.in-Err.fault c.requires.networks
-    (study_is i c.args.settings.now c.args.networks.now c.as_slice.result.now c.as_slice-2.result.now (query_of c.asked.result) origins opportunities c.asked.ensures)
+    (study_is i c.args.settings.now c.args.networks.now c.as_slice.result.now c.as_slice-2.result.now (query_of c.asked.result) origins opportunities asked)
     c.in-Err.ensures.fault)
 
 pub text_of_matrix-requires-clause-feed : goal.text_of_matrix-requires-clause-feed
@@ -41,9 +45,7 @@ text_of_matrix-requires-clause-origins g c = c.in-Ok.ensures.shape.origins ∙ a
 
 pub text_of_matrix-requires-clause-width : goal.text_of_matrix-requires-clause-width
 text_of_matrix-requires-clause-width g c =
-    let count = network_count (inputs_of c.args.inputs.now) c.args.settings.now c.args.networks.now c.requires.networks in
-    let some : 0 < length c.args.networks.now = omega (arith, count) in
-    c.in-Ok.ensures.shape.width some ∙ ap length c.as_slice-2.ensures.value ∙ c.requires.tables.count
+    c.in-Ok.ensures.shape.width ∙ ap (λ (q : Query). length q.destinations) c.asked.ensures ∙ ap (λ (l : List StopNo). length l) c.as_slice-3.ensures.value
 
 pub text_of_matrix-requires-clause-shares : goal.text_of_matrix-requires-clause-shares
 text_of_matrix-requires-clause-shares g c = c.in-Ok.ensures.shape.shares ∙ ap (λ (q : Query). length q.shares) c.asked.ensures
@@ -56,8 +58,10 @@ returns-clause-text g c =
     let i = inputs_of c.args.inputs.now in
     let origins = c.as_slice.ensures.value ∙ c.requires.tables.origins_are ∙ ap (λ (d : FeedData). origins_of i.origins d) c.requires.feed in
     let opportunities = c.as_slice-2.ensures.value ∙ c.requires.tables.opportunities_are ∙ ap (λ (d : FeedData). opportunities_of i.opportunities d) c.requires.feed in
+    let asked = c.asked.ensures ∙ ap (λ (l : List StopNo). asked_of c.args.settings.now l)
+    (c.as_slice-3.ensures.value ∙ c.requires.tables.destinations_are ∙ ap (λ (d : FeedData). origins_of i.destinations d) c.requires.feed) in
     text_made (λ v. v.items) c.text_of_matrix.result i c.args.settings.now c.args.networks.now _ c.in-Ok.matrix c.requires.networks
-    (study_is i c.args.settings.now c.args.networks.now c.as_slice.result.now c.as_slice-2.result.now (query_of c.asked.result) origins opportunities c.asked.ensures)
+    (study_is i c.args.settings.now c.args.networks.now c.as_slice.result.now c.as_slice-2.result.now (query_of c.asked.result) origins opportunities asked)
     c.in-Ok.ensures.matrix c.text_of_matrix.ensures.text
 
 pub returns-clause-fault : goal.returns-clause-fault
@@ -69,6 +73,8 @@ returns-clause-told g c =
     let i = inputs_of c.args.inputs.now in
     let origins = c.as_slice.ensures.value ∙ c.requires.tables.origins_are ∙ ap (λ (d : FeedData). origins_of i.origins d) c.requires.feed in
     let opportunities = c.as_slice-2.ensures.value ∙ c.requires.tables.opportunities_are ∙ ap (λ (d : FeedData). opportunities_of i.opportunities d) c.requires.feed in
+    let asked = c.asked.ensures ∙ ap (λ (l : List StopNo). asked_of c.args.settings.now l)
+    (c.as_slice-3.ensures.value ∙ c.requires.tables.destinations_are ∙ ap (λ (d : FeedData). origins_of i.destinations d) c.requires.feed) in
     told_ok c.text_of_matrix.result (saw_all (g.W.Watch.saw c.args.watch.now) i c.args.settings.now c.args.networks.now _ c.in-Ok.matrix c.requires.networks
-    (study_is i c.args.settings.now c.args.networks.now c.as_slice.result.now c.as_slice-2.result.now (query_of c.asked.result) origins opportunities c.asked.ensures)
+    (study_is i c.args.settings.now c.args.networks.now c.as_slice.result.now c.as_slice-2.result.now (query_of c.asked.result) origins opportunities asked)
     c.in-Ok.ensures.matrix c.in-Ok.ensures.told)

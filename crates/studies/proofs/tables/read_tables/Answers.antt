@@ -55,4 +55,22 @@ returns-clause-tables c =
       in_range = c.in-Ok-read_origins.ensures.stops;
       few_origins = few_origins i.origins feed c.in-Ok-read_origins.origins.items c.in-Ok-read_origins.ensures.good.0 c.in-Ok-read_origins.ensures.good.1;
       count = c.in-Ok-read_opportunities.ensures.stops;
+      destinations_are = c.in-Ok-read_origins-2.ensures.good.1;
+      destinations_in_range = c.in-Ok-read_origins-2.ensures.stops;
+      few_destinations = few_origins i.destinations feed c.in-Ok-read_origins-2.destinations.items c.in-Ok-read_origins-2.ensures.good.0 c.in-Ok-read_origins-2.ensures.good.1;
     }
+
+pub read_origins-2-requires : goal.read_origins-2-requires
+read_origins-2-requires c = c.requires.destinations
+
+pub returns-in-Err-read_origins-2-clause-fault : goal.returns-in-Err-read_origins-2-clause-fault
+returns-in-Err-read_origins-2-clause-fault c =
+    let i = inputs_of c.args.inputs.now in
+    let feed = c.args.feed.now in (
+      none_of_both (direct_faults feed i.footpaths) (origins_faults i.origins feed ++ opportunities_faults i.opportunities feed) c.in-Ok.ensures.good.0
+          (none_of_both (origins_faults i.origins feed) (opportunities_faults i.opportunities feed) c.in-Ok-read_origins.ensures.good.0 c.in-Ok-read_opportunities.ensures.good.0),
+      c.in-Err-read_origins-2.ensures.fault,
+    )
+
+pub returns-clause-named : goal.returns-clause-named
+returns-clause-named c = c.in-Ok-read_origins-2.ensures.good.0

@@ -8,7 +8,7 @@ use Rattle.workers.proofs.threads.join_all.Goals as goal
 pub loop-handle-preserved : goal.loop-handle-preserved
 loop-handle-preserved g c =
     let p = c.args.promised in
-    let s = study_by p.terms p.networks.now p.origins.now p.opportunities.now p.shares.now p.limits.now in
+    let s = study_by p.terms p.networks.now p.origins.now p.opportunities.now p.destinations.now p.shares.now p.limits.now in
     let was = c.loop-handle.invariant in
     let steps = c.in-Some.ensures.steps in
     let all = into_iter_items c.loop-handle.handle-iterator in
@@ -20,5 +20,5 @@ loop-handle-preserved g c =
       promised = rest_of_all (λ h. h.promise ≡ p) c.in-Some.handle rest all steps.0 was.promised;
       worked =
           one_more_of_all (λ w. WorkedFor p.board.now s (g.G.Gate.decides p.gate.now) (g.G.Gate.was_told p.gate.now) w) (vec_items c.loop-handle.done) (vec_items c.push_reserved.new.self) c.join.result c.push_reserved.ensures.items was.worked
-          (subst (λ q. WorkedFor q.board.now (study_by q.terms q.networks.now q.origins.now q.opportunities.now q.shares.now q.limits.now) (g.G.Gate.decides q.gate.now) (g.G.Gate.was_told q.gate.now) c.join.result) mine c.join.ensures);
+          (subst (λ q. WorkedFor q.board.now (study_by q.terms q.networks.now q.origins.now q.opportunities.now q.destinations.now q.shares.now q.limits.now) (g.G.Gate.decides q.gate.now) (g.G.Gate.was_told q.gate.now) c.join.result) mine c.join.ensures);
     }

@@ -7,7 +7,7 @@ use Rattle.workers.proofs.threads.join_all.Given as goal
 abbrev pub invariant-loop-handle : goal.invariant-loop-handle
 invariant-loop-handle g l =
     let p = l.fn.promised in
-    let s = study_by p.terms p.networks.now p.origins.now p.opportunities.now p.shares.now p.limits.now in
+    let s = study_by p.terms p.networks.now p.origins.now p.opportunities.now p.destinations.now p.shares.now p.limits.now in
     record {
       room : vec_len l.done + into_iter_len l.handle-iterator ≤ vec_capacity l.done;
       count : vec_len l.done + into_iter_len l.handle-iterator ≡ vec_len l.fn.handles;

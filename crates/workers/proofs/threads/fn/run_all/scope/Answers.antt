@@ -16,7 +16,7 @@ loop-seat-preserved-in-Ok g c =
       none = was.none;
       ready = rest_of_all (λ z. IsReady b z) c.in-Some.seat (into_iter_items c.next.new.self) (into_iter_items c.loop-seat.seat-iterator) steps.0 was.ready;
       promised =
-          one_more_of_all (λ h. h.promise ≡ record { terms = c.captures.terms; networks = c.captures.networks; origins = c.captures.origins; opportunities = c.captures.opportunities; shares = c.captures.shares; limits = c.captures.limits; board = c.captures.board; gate = c.captures.gate }) (vec_items c.loop-seat.handles) (vec_items c.push_reserved.new.self) c.in-Ok.handle c.push_reserved.ensures.items was.promised e;
+          one_more_of_all (λ h. h.promise ≡ record { terms = c.captures.terms; networks = c.captures.networks; origins = c.captures.origins; opportunities = c.captures.opportunities; destinations = c.captures.destinations; shares = c.captures.shares; limits = c.captures.limits; board = c.captures.board; gate = c.captures.gate }) (vec_items c.loop-seat.handles) (vec_items c.push_reserved.new.self) c.in-Ok.handle c.push_reserved.ensures.items was.promised e;
     }
 
 pub loop-seat-preserved : goal.loop-seat-preserved
