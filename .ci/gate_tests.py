@@ -334,19 +334,65 @@ class Names(unittest.TestCase):
         "2. **Hopes.** `lower::bare`.\n\n## Else\n"
     )
     TABLE = (
-        "\n## Each promise\n\n| Crate | Function | Says |\n|---|---|---|\n"
-        "| `lower` | `bump` | more |\n| | `lost`, `bare` | |\n\n## Else\n"
+        "\n## Where is it decided\n\n| Crate | What | Words | On the way | Beside |\n|---|---|---|---|---|\n"
+        "| `lower`: counts | more | Sums, Hopes | `bump`, `Count::up` | `lost`, `bare` |\n"
+        "| | less | `src/lib.rt` | `bare`, `Count::down`, `MOST` | `Other::up` |\n\n## Else\n"
     )
+    COUNT = """
+pub const MOST: u32 = 9;
+pub struct Count {
+    number: u32,
+}
+impl Count {
+    // calls bare()
+    pub fn up(self) -> u32
+        ensures { result ≡ bare() }
+    {
+        let more = self.number;
+        bump(more)
+    }
+    pub fn down(self) -> u32 {
+        self.number
+    }
+}
+pub fn bare() {
+}
+"""
+    MAIN = "fn main() {\n    let count = lower::make();\n    count.up();\n}\nfn other() {\n    lower::bare();\n}\n"
 
-    def test_what_is_not_there_or_has_no_contract_is_told(self) -> None:
+    def wrong_names(self, source: str) -> list[str]:
+        """What is wrong with the pages above, where the crate below the program has this source."""
         with tempfile.TemporaryDirectory(prefix="ttm-gate-test-") as made:
-            repository = Repository(Path(made), {"lower": ""})
-            repository.write("crates/lower/src/lib.rt", LOWER + "\npub fn bare() {\n}\n")
+            repository = Repository(Path(made), {"lower": "", "ttm": "lower"})
+            repository.write("crates/lower/src/lib.rt", LOWER + source)
+            repository.write("crates/lower/specs/Sums.antt", "")
+            repository.write("crates/ttm/src/main.rt", self.MAIN)
             repository.write("README.md", self.README)
-            repository.write("docs/ASSURANCE.md", self.TABLE)
-            wrong = [why for why, right in names.judged(Path(made)) if not right]
-        lost = ["README: lower has no gone", "ASSURANCE: lower has no lost"]
-        self.assertEqual(sorted(wrong), sorted(["README: 'Hopes' names no function with a contract", *lost]))
+            repository.write("docs/ARCHITECTURE.md", self.TABLE)
+            repository.write("docs/DEFINITIONS.md", "**Sum.** What is added. [lower/Sums, Adds; seen in ttm/Seen]\n")
+            return [why for why, right in names.judged(Path(made)) if not right]
+
+    def test_what_is_not_there_or_has_no_contract_or_is_not_reached_is_told(self) -> None:
+        wrong = self.wrong_names(self.COUNT + "pub fn make() -> Count {\n    Count { number: 1 }\n}\n")
+        told = [
+            "README: 'Hopes' names no function with a contract",
+            "README: lower has no gone",
+            "ARCHITECTURE: lower has no lost",
+            "ARCHITECTURE: lower has no Other::up",
+            "ARCHITECTURE: ttm doesn't come to lower's bare",
+            "ARCHITECTURE: ttm doesn't come to lower's Count::down",
+            "ARCHITECTURE: ttm doesn't come to lower's MOST",
+            "ARCHITECTURE: lower has no spec Hopes",
+            "DEFINITIONS: lower has no spec Adds",
+            "DEFINITIONS: ttm has no spec Seen",
+        ]
+        self.assertEqual(sorted(wrong), sorted(told))
+
+    def test_a_method_of_a_type_that_is_not_met_is_not_reached(self) -> None:
+        wrong = self.wrong_names(self.COUNT + "pub fn make() -> u32 {\n    MOST\n}\n")
+        self.assertIn("ARCHITECTURE: ttm doesn't come to lower's Count::up", wrong)
+        self.assertIn("ARCHITECTURE: ttm doesn't come to lower's bump", wrong)
+        self.assertNotIn("ARCHITECTURE: ttm doesn't come to lower's MOST", wrong)
 
 
 class Prover(unittest.TestCase):

@@ -1,7 +1,10 @@
 #!/usr/bin/env python3
-"""Looks that the pages claim nothing of what isn't there: each function and law that README's list of promises and
-ASSURANCE's table name exists in its crate, and each promise of README names a function that has a contract. The last
-line is 'N passed, M failed'. Standard library only.
+"""Looks that the pages claim nothing of what isn't there.
+
+Each function and law that README's list of promises and ARCHITECTURE's table name exists in its crate; each promise of
+README names a function that has a contract; the program's `main` comes to each function that the table has 'on the
+program's way', by a walk over the sources that goes by names (`calls.py` says what it misses); and each spec that the
+table and DEFINITIONS name is a file. The last line is 'N passed, M failed'. Standard library only.
 """
 
 from __future__ import annotations
@@ -12,40 +15,49 @@ from collections.abc import Iterator
 from dataclasses import dataclass
 from pathlib import Path
 
+import calls
 import repository
 
 ROOT = Path(__file__).resolve().parent.parent
+PROGRAM = "ttm"
 NAME = re.compile(r"`((?:\w+::)*[A-Za-z]\w*)`")
 ITEM = re.compile(r"\d+\. \*\*(.+?)\*\*(.*)", re.DOTALL)
+SPEC = re.compile(r"(?:\b(\w+)/)?\b([A-Z]\w*)\b")
 FUNCTION = r"(?m)^( *)(?:pub(?:\([a-z]+\))? )?(?:(?:const|unsafe|final) )*fn {}\b"
-TYPE = r"(?m)^(?:pub )?(?:struct|enum|trait|type) {}\b"
+OTHER = r"(?m)^(?:pub(?:\([a-z]+\))? )?(?:struct|enum|trait|type|const) {}\b"
 
 
 @dataclass(frozen=True)
 class Claim:
-    """A name that a page gives, and the crate that it should be of."""
+    """A name that a page gives, the crate that it should be of, and whether the program should come to it."""
 
     page: str
     crate: str
     name: str
+    on_way: bool = False
 
 
 class Sources:
-    """The sources of each crate, as one text."""
+    """The sources of each crate, as one text, and what the program comes to."""
 
     def __init__(self, root: Path) -> None:
-        self.names = list(repository.crates_of(root))
-        self.texts = {it: self.text_of(root / "crates" / it / "src") for it in self.names}
+        crates = repository.crates_of(root)
+        self.root = root
+        self.names = list(crates)
+        self.texts = {it: self.text_of(root / "crates" / it / "src") for it in crates}
+        self.walk = calls.Walk(root, crates).start(PROGRAM, "main")
 
     @staticmethod
     def text_of(folder: Path) -> str:
         return "\n".join(it.read_text() for it in repository.files_of(folder) if it.suffix == ".rt")
 
     def has(self, claim: Claim) -> bool:
-        """Whether the last part of the name is a function or a type of the crate."""
-        last = re.escape(claim.name.split("::")[-1])
+        """Whether the crate has a function of that name, of that type where one is named; or a type or a constant."""
+        *types, last = claim.name.split("::")
+        if types and types[-1][:1].isupper():
+            return self.walk.has(claim.crate, types[-1], last)
         text = self.texts[claim.crate]
-        return bool(re.search(FUNCTION.format(last), text) or re.search(TYPE.format(last), text))
+        return bool(re.search(FUNCTION.format(last), text) or re.search(OTHER.format(last), text))
 
     def has_contract(self, claim: Claim) -> bool:
         """Whether a function of that name says what it ensures."""
@@ -57,6 +69,9 @@ class Sources:
             if any(it.strip().startswith("ensures") for it in header):
                 return True
         return False
+
+    def has_spec(self, claim: Claim) -> bool:
+        return (self.root / "crates" / claim.crate / "specs" / f"{claim.name}.antt").is_file()
 
 
 def promises(readme: str) -> Iterator[tuple[str, str]]:
@@ -79,30 +94,64 @@ def claims_of_promise(text: str, crates: list[str], page: str = "README") -> lis
     return claims
 
 
-def claims_of_table(assurance: str, crates: list[str]) -> list[Claim]:
-    """The names in the second column of the table of promises; a row without a crate is of the crate above it."""
-    part = assurance.split("\n## Each promise", 1)[1].split("\n## ", 1)[0]
-    claims, crate = [], ""
+def rows_of_table(architecture: str, crates: list[str]) -> Iterator[tuple[str, list[str]]]:
+    """The rows of the table of what is decided where: the crate, and the other cells. A row without a crate is of the
+    crate above it.
+    """
+    part = architecture.split("\n## Where is it decided", 1)[1].split("\n## ", 1)[0]
+    crate = ""
     for line in part.splitlines():
         cells = [it.strip() for it in line.strip("|").split("|")] if line.startswith("|") else []
-        if len(cells) < 3:
+        if len(cells) != 5:
             continue
         named = NAME.findall(cells[0])
-        crate = named[0] if len(named) == 1 and named[0] in crates else crate
-        claims += [Claim("ASSURANCE", crate, it) for it in NAME.findall(cells[1])]
+        crate = named[0] if named and named[0] in crates else crate
+        if crate:
+            yield crate, cells[1:]
+
+
+def claims_of_table(architecture: str, crates: list[str]) -> list[Claim]:
+    """The names in the last two columns of the table: those that the program comes to, and those beside its way."""
+    claims = []
+    for crate, (_, _, on_way, beside) in rows_of_table(architecture, crates):
+        claims += [Claim("ARCHITECTURE", crate, it, True) for it in NAME.findall(on_way)]
+        claims += [Claim("ARCHITECTURE", crate, it) for it in NAME.findall(beside)]
+    return claims
+
+
+def specs_of_table(architecture: str, crates: list[str]) -> list[Claim]:
+    """The spec files that the table names in its column of words."""
+    rows = rows_of_table(architecture, crates)
+    return [Claim("ARCHITECTURE", crate, it[1]) for crate, cells in rows for it in SPEC.findall(cells[1])]
+
+
+def specs_of_definitions(definitions: str, crates: list[str]) -> list[Claim]:
+    """The spec files that stand in square brackets, as [crate/Name, Other]."""
+    claims, crate = [], ""
+    for part in re.findall(r"\[([^\]]*/[^\]]*)\]", definitions):
+        for named, spec in SPEC.findall(part):
+            crate = named or crate
+            claims += [Claim("DEFINITIONS", crate, spec)] if crate in crates else []
     return claims
 
 
 def judged(root: Path) -> Iterator[tuple[str, bool]]:
     """Each thing that is looked at, and whether it is as it should be."""
     sources = Sources(root)
+    architecture = (root / "docs/ARCHITECTURE.md").read_text()
+    claims = claims_of_table(architecture, sources.names)
     for title, text in promises((root / "README.md").read_text()):
-        claims = claims_of_promise(text, sources.names)
-        yield f"README: '{title}' names no function with a contract", any(map(sources.has_contract, claims))
-        for claim in claims:
-            yield f"README: {claim.crate} has no {claim.name}", sources.has(claim)
-    for claim in claims_of_table((root / "docs/ASSURANCE.md").read_text(), sources.names):
-        yield f"ASSURANCE: {claim.crate} has no {claim.name}", sources.has(claim)
+        named = claims_of_promise(text, sources.names)
+        yield f"README: '{title}' names no function with a contract", any(map(sources.has_contract, named))
+        claims += named
+    for claim in claims:
+        yield f"{claim.page}: {claim.crate} has no {claim.name}", sources.has(claim)
+        if claim.on_way and sources.has(claim):
+            said = f"{claim.page}: {PROGRAM} doesn't come to {claim.crate}'s {claim.name}"
+            yield said, sources.walk.comes_to(claim.crate, claim.name)
+    specs = specs_of_definitions((root / "docs/DEFINITIONS.md").read_text(), sources.names)
+    for claim in specs_of_table(architecture, sources.names) + specs:
+        yield f"{claim.page}: {claim.crate} has no spec {claim.name}", sources.has_spec(claim)
 
 
 def main() -> int:

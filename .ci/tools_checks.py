@@ -33,7 +33,12 @@ PACKAGES = {
     "tqdm": "python3-tqdm",
     "tables": "python3-tables",
     "shapely": "python3-shapely",
+    "osmium": "python3-pyosmium",
+    "networkx": "python3-networkx",
+    "jinja2": "python3-jinja2",
 }
+BROWSER = {"selenium": "python3-selenium", "chromium": "chromium", "chromedriver": "chromium-driver"}  # large: the last
+LEAFLET = Path("/usr/share/javascript/leaflet/leaflet.min.js"), "libjs-leaflet"
 SECONDS_TO_INSTALL = 300
 
 
@@ -48,19 +53,28 @@ class Counts:
 
 
 def lacking() -> list[str]:
-    """The Debian packages of what isn't there."""
+    """The Debian packages of what isn't there, but for the browser's."""
     made = "import importlib.util, sys; print(*[it for it in sys.argv[1:] if importlib.util.find_spec(it) is None])"
     found = subprocess.run([PYTHON, "-c", made, *PACKAGES], capture_output=True, text=True)
     modules = [PACKAGES[name] for name in found.stdout.split()] if found.returncode == 0 else list(PACKAGES.values())
-    return modules + [package for command, package in COMMANDS.items() if shutil.which(command) is None]
+    commands = [package for command, package in COMMANDS.items() if shutil.which(command) is None]
+    file, package = LEAFLET
+    return modules + commands + ([] if file.is_file() else [package])
+
+
+def lacking_browser() -> list[str]:
+    """The Debian packages of the browser that aren't there."""
+    found = subprocess.run([PYTHON, "-c", "import selenium"], stderr=subprocess.DEVNULL).returncode == 0
+    return [package for name, package in BROWSER.items() if not (found if name == "selenium" else shutil.which(name))]
 
 
 def install() -> None:
     """Installs what is lacking, where this is Debian and root runs it."""
-    if not lacking() or os.geteuid() != 0 or shutil.which("apt-get") is None:
+    if not lacking() + lacking_browser() or os.geteuid() != 0 or shutil.which("apt-get") is None:
         return
     environment, end = {**os.environ, "DEBIAN_FRONTEND": "noninteractive"}, time.monotonic() + SECONDS_TO_INSTALL
-    for words in (["update", "-q"], ["install", "-q", "-y", "--no-install-recommends", *lacking()]):
+    some = ["install", "-q", "-y", "--no-install-recommends"]
+    for words in (["update", "-q"], [*some, *lacking()], [*some, *lacking_browser()]):
         try:
             left = max(1.0, end - time.monotonic())
             subprocess.run(["apt-get", *words], env=environment, timeout=left, capture_output=True)
@@ -139,7 +153,7 @@ def test(counts: Counts, program: str | None) -> None:
 
 def main() -> int:
     install()
-    missing, counts = lacking(), Counts()
+    missing, counts = lacking() + lacking_browser(), Counts()
     if missing:
         print(f"what needs {', '.join(missing)} is skipped: apt-get can't install that here")
     lint(counts)

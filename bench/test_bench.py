@@ -74,3 +74,20 @@ def test_the_words_of_a_study_name_footpaths_that_are_there(tmp_path: Path) -> N
     assert "--footpaths" not in words
     write_stops(tmp_path, "footpaths.csv")
     assert shared.Study().words(folder, "origins.csv", 2)[-2:] == ["--footpaths", folder + "/footpaths.csv"]
+
+
+def test_streets_are_drawn_alike_and_cross_the_river_by_bridges_alone() -> None:
+    numpy = pytest.importorskip("numpy")
+    import streetgen
+
+    def drawn() -> tuple[streetgen.Grid, list[tuple[list[int], dict[str, str]]]]:
+        draw = numpy.random.default_rng(1)
+        grid = streetgen.grid_of((7.0, 0.0, 7.02, 0.01), 800, draw)
+        return grid, list(streetgen.ways_of(grid, draw))
+
+    grid, ways = drawn()
+    assert (grid.rows, grid.columns) == (20, 40) and drawn()[1] == ways
+    middle = grid.rows // 2 * grid.columns
+    pieces = [ends for nodes, _ in ways for ends in zip(nodes, nodes[1:])]
+    assert {a % grid.columns for a, b in pieces if a < middle <= b} <= {0, 20}
+    assert 0.8 < len(pieces) / (2 * len(grid.degrees)) < 0.95

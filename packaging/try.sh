@@ -5,7 +5,7 @@
 #   debian    a Debian 12 that debootstrap makes: wants root, debootstrap and a mirror; its address may stand in MIRROR
 #   dpkg      an empty one by `dpkg --root`, over this machine's libraries: wants root
 #   analysts  a Debian 12 where apt installs the package with all that it recommends (some minutes); the commands of
-#             docs/ANALYSTS.md, from zip to picture, run there as printed, and each must be a success
+#             docs/ANALYSTS.md, all but those for many machines, run there, and print what the page says
 # By default debian where that can be had, else dpkg. Status 0: all is right; 1: something isn't; 75: there is no room.
 set -eu
 umask 022
@@ -52,15 +52,12 @@ if [ "$kind" = analysts ]; then
     (cd "$room/made" && python3 -m zipfile -c "$inside/study/town.zip" $feed)
     cp "$room/made/opportunities.csv" "$inside/study/jobs.csv"
     cp "$deb" "$inside/tmp/ttm.deb"
-    {
-        echo 'set -ex; cd /study'
-        awk '/^## / { on = /from zip to picture/ } on && /^    \$ / { line = substr($0, 7); more = 1 }
-            on && more && !/^    \$ / { line = substr($0, 5) }
-            more { print line; more = line ~ /\\$/ }' "$here/docs/ANALYSTS.md"
-    } > "$inside/tmp/page.sh"
-    chroot "$inside" apt-get install -q -y unzip /tmp/ttm.deb > "$room/log" 2>&1 || { tail "$room/log" >&2; exit 1; }
-    chroot "$inside" bash /tmp/page.sh > "$room/log" 2>&1 || { cat "$room/log" >&2; exit 1; }
-    echo "the commands of docs/ANALYSTS.md, from zip to picture, ran in a Debian of their own"
+    cp "$here/packaging/pages.py" "$inside/tmp/pages.py"
+    mkdir "$inside/study/made"
+    cp "$room/made/"* "$inside/study/made/"
+    chroot "$inside" apt-get install -q -y unzip zip /tmp/ttm.deb > "$room/log" 2>&1 || { tail "$room/log" >&2; exit 1; }
+    chroot "$inside" sh -c 'cd /study && python3 /tmp/pages.py /usr/share/doc/ttm/ANALYSTS.md' || exit 1
+    echo "the commands of docs/ANALYSTS.md ran in a Debian of their own, and printed what it says"
     exit
 fi
 if [ "$kind" = debian ]; then

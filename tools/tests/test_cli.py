@@ -14,7 +14,7 @@ import sys
 sys.path.insert(0, sys.argv[1])
 class Refuse:
     def find_spec(self, name, *_):
-        if name.split(".")[0] in ("numpy", "pandas", "matplotlib", "h5py", "geopandas", "scipy", "tqdm"):
+        if name.split(".")[0] in ("numpy", "pandas", "matplotlib", "h5py", "geopandas", "scipy", "tqdm", "jinja2"):
             raise ImportError(name)
 sys.meta_path.insert(0, Refuse())
 from ttm_tools.cli import main

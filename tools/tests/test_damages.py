@@ -55,6 +55,7 @@ def runs_of(town: Town, some: str, cut: str, table: str) -> list[list[str]]:
         ["omx", *out("o.omx"), town.file],
         ["gis", *feed, "--origin", "A", *out("g.json"), town.file],
         ["map", "difference", "--share", "25", "--within", "900", "--edits", cut, *feed, *out("m.png"), town.file],
+        ["page", "--opportunities", jobs, "--edits", cut, *feed, *out("p.html"), town.file],
     ]
 
 

@@ -8,6 +8,7 @@ import sys
 from pathlib import Path
 from typing import Any
 
+import numpy as np
 import pytest
 
 from helpers import CALENDAR, STOP_TIMES, Room
@@ -105,6 +106,24 @@ def test_a_cell_of_a_matrix_is_taken_in_place_of_a_run(small: Room) -> None:
     out, told, status = small.ran(*words)
     assert (told, status) == ("", 0) and out.splitlines()[4] == "base: 1860 seconds"
     small.refused(f"{matrix}: no scenario late; it has base", *words[:2], small.path("late.csv"), *words[2:])
+
+
+def test_a_picture_shows_the_duration_of_each_departure(small: Room, monkeypatch: pytest.MonkeyPatch) -> None:
+    """By the cells of a matrix: 1,860 seconds at 07:59, 2,160 where T2 comes later; nobody gets there from 08:01 on."""
+    figures: list[Any] = []
+    matplotlib = pytest.importorskip("matplotlib.figure")
+    monkeypatch.setattr(matplotlib.Figure, "savefig", lambda figure, *_, **__: figures.append(figure))
+    rows = [["base", "A", 50, 0, 0, 600, 1860, ""], ["late", "A", 50, 0, 0, 600, 2160, ""]]
+    matrix = small.write("m.csv", "scenario,origin,share,access_60,A,B,C,D", rows)
+    words = ["--matrix", matrix, "--picture", small.path("p.png"), "--out", small.path("why.txt")]
+    assert small.ran("explain", str(small.folder), small.path("late.csv"), *WORDS, *words) == ("", "", 0)
+    (axes,) = figures[0].axes
+    base, late = (line for line in axes.lines if len(line.get_ydata()) == 4)
+    assert base.get_ydata()[:3].tolist() == [32, 31, 30] and late.get_ydata()[:3].tolist() == [37, 36, 35]
+    assert np.isnan(base.get_ydata()[3])
+    told = [text.get_text() for text in axes.get_legend().get_texts()]
+    assert told == ["base: 50 % attain 31.0 minutes", "late: 50 % attain 36.0 minutes"]
+    assert [text.get_text() for text in axes.get_xticklabels()] == ["07:58", "07:59", "08:00", "08:01"]
 
 
 def test_wrong_words_are_told(small: Room) -> None:

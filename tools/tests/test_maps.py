@@ -14,6 +14,8 @@ matplotlib = pytest.importorskip("matplotlib")
 
 from matplotlib.figure import Figure  # noqa: E402
 
+from ttm_tools.views import drawing  # noqa: E402
+
 
 def figure(town: Town, monkeypatch: pytest.MonkeyPatch, *words: str) -> tuple[list[str], str, list[str]]:
     """The figure that the command would save, as the words of its texts and of its key."""
@@ -240,3 +242,34 @@ def test_a_picture_leaves_nothing_where_the_run_is_ended(town: Town) -> None:
     out = town.path("no/map.png")
     assert town.ran("map", "access", "--feed", town.feed, "--out", out, town.file)[2] == 1
     assert not any(".part." in name for name in town.names())
+
+
+def test_new_lines_of_a_plan_are_drawn_as_added_and_others_as_changed(
+    town: Town, monkeypatch: pytest.MonkeyPatch
+) -> None:
+    """Of a plan whose scenario `more` has a line L from A to D, and another one in place of trip T; `other` adds P."""
+    town.matrix(town_matrix(True, {"base": TOWN["base"], "today": TOWN["base"], "more": TOWN["cut"]}))
+    town.write(
+        "trips.txt", "route_id,trip_id", [["R", "T"], ["Q", "U"], ["L", "L1"], ["R@more", "T@more"], ["P", "P1"]]
+    )
+    times = [["T", "", "", stop, number] for number, stop in enumerate("ABC")]
+    times += [["T@more", "", "", stop, number] for number, stop in enumerate("AB")]
+    for trip, way in (("L1", "AD"), ("P1", "DB"), ("U", "CA")):
+        times += [[trip, "", "", stop, number] for number, stop in enumerate(way)]
+    town.write("stop_times.txt", STOP_TIMES, times)
+    (town.folder / "scenarios").mkdir()
+    gone = [["remove_route", route, ""] for route in ("L", "R@more", "P")]
+    town.write("scenarios/today.csv", "action,id,seconds", gone)
+    town.write("scenarios/more.csv", "action,id,seconds", [["remove_trip", "T", ""], ["remove_route", "P", ""]])
+    drawn: list[tuple[str, int]] = []
+    monkeypatch.setattr(drawing, "draw_lines", lambda _, lines, __: drawn.append((lines.label, len(lines.pieces))))
+    changes = [("trips that are changed", 1), ("trips that are taken out", 1), ("trips that are added", 1)]
+    for words, lines in (
+        (["difference"], [("where vehicles run", 4), *changes]),  # A-B, B-C, A-C and A-D; A-B, B-C, A-D
+        (["difference", "--base", "base", "--scenario", "more"], [("where vehicles run", 5)]),  # P's D-B too
+        (["times", "--origin", "A", "--scenario", "more"], [("where vehicles run", 3), changes[-1]]),
+        (["access"], [("where vehicles run", 3)]),
+    ):
+        drawn.clear()
+        figure(town, monkeypatch, *words)
+        assert drawn == lines

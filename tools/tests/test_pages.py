@@ -1,7 +1,6 @@
 """The page for analysts, from zip to picture: each of its commands runs, and prints what the page says."""
 
 import os
-import re
 import shutil
 import subprocess
 import sys
@@ -10,32 +9,15 @@ from pathlib import Path
 
 import pytest
 
+from browser import LEAFLET
 from helpers import Room
 
 ROOT = Path(__file__).resolve().parents[2]
+sys.path.insert(0, str(ROOT / "packaging"))
+import pages  # noqa: E402
+
 PAGE = ROOT / "docs" / "ANALYSTS.md"
 FEED = ("calendar.txt", "calendar_dates.txt", "routes.txt", "stop_times.txt", "stops.txt", "transfers.txt", "trips.txt")
-END = "that was it"
-
-
-def commands(section: str) -> list[tuple[str, list[str]]]:
-    """The commands of a section, each with the lines that it prints."""
-    text = re.search(rf"^## {re.escape(section)}\n(.*?)^## ", PAGE.read_text(), re.MULTILINE | re.DOTALL)
-    assert text is not None
-    found: list[tuple[str, list[str]]] = []
-    for line in re.findall(r"^    (.*)", text[1], re.MULTILINE):
-        if line.startswith("$ "):
-            found.append((line[2:], []))
-        elif found[-1][0].endswith("\\") and not found[-1][1]:
-            found[-1] = (found[-1][0][:-1] + line.strip(), [])
-        else:
-            found[-1][1].append(line)
-    return found
-
-
-def settled(lines: list[str]) -> list[str]:
-    """Without the lines of a report, some of which tell of the machine and of time."""
-    return [line for line in lines if not line.startswith("ttm: ")]
 
 
 def make_town(room: Room, program: str) -> None:
@@ -53,34 +35,54 @@ def make_town(room: Room, program: str) -> None:
     os.symlink(ROOT / "tools", room.folder / "tools")
 
 
-def prints_what_is_said(room: Room, page: list[tuple[str, list[str]]]) -> None:
-    """Each command of a page prints what the page says, a report aside."""
-    script = "\n".join(f"{command}\necho '{END}'" for command, _ in page)
+def environment_of(room: Room) -> dict[str, str]:
     path = os.pathsep.join([os.path.dirname(sys.executable), room.path("tools"), os.environ["PATH"]])
-    environment = {**os.environ, "PATH": path, "LC_ALL": "C.UTF-8"}
-    shell = ["bash", "-c", f"exec 2>&1\n{script}"]
-    ran = subprocess.run(shell, stdout=subprocess.PIPE, text=True, cwd=room.folder, env=environment)
-    said = ran.stdout.split(f"{END}\n")
-    assert len(said) == len(page) + 1
-    for (command, expected), printed in zip(page, said):
-        report = "ttm --feed" in command
-        assert [settled(printed.splitlines()) if report else printed.splitlines(), command] == [
-            settled(expected) if report else expected,
-            command,
-        ]
+    return {**os.environ, "PATH": path, "LC_ALL": "C.UTF-8"}
+
+
+def prints_what_is_said(room: Room, *names: str, before: str = "true") -> int:
+    """Each command of some sections prints what the page says, after one that prints nothing; gives how many there
+    are.
+    """
+    known = pages.sections(PAGE.read_text())
+    page = [pages.Command(before), *(command for name in names for command in pages.commands(known[name]))]
+    assert pages.differences(page, room.folder, environment_of(room)) == []
+    return len(page) - 1
 
 
 def test_each_command_prints_what_the_page_says(room: Room, program: str) -> None:
-    for package in ("matplotlib", "h5py", "pandas"):
+    for package in ("matplotlib", "h5py", "pandas", "jinja2"):
         pytest.importorskip(package)
+    if not LEAFLET.is_file():
+        pytest.skip("without libjs-leaflet")
     make_town(room, program)
-    page = commands("One question, from zip to picture") + commands("What a number means")
-    assert len(page) > 15
-    prints_what_is_said(room, page)
+    assert prints_what_is_said(room, "One question, from zip to picture", "What a number means") > 15
 
 
 def test_a_damaged_feed_is_told_and_mended_as_the_page_says(room: Room, program: str) -> None:
     make_town(room, program)
-    page = commands("Getting a feed ready")
-    assert len(page) > 7
-    prints_what_is_said(room, page)
+    assert prints_what_is_said(room, "Getting a feed ready") > 7
+
+
+def test_travel_times_from_door_to_door_as_the_page_says(room: Room, program: str) -> None:
+    for package in ("matplotlib", "pandas"):
+        pytest.importorskip(package)
+    make_town(room, program)
+    before = "export PATH=$PWD/crates/ttm/out:$PWD/tools:$PATH; unzip -q town.zip -d town"
+    edits = "printf 'action,id,seconds\\nremove_route,L0013,\\n' > no13.csv"
+    section = "Access to jobs from 2,000 cells, before and after"
+    assert prints_what_is_said(room, section, before=f"{before}; {edits}") > 9
+
+
+def test_a_plan_is_carried_out_as_the_page_says(room: Room, program: str) -> None:
+    for package in ("matplotlib", "pandas"):
+        pytest.importorskip(package)
+    make_town(room, program)
+    known = pages.sections(PAGE.read_text())
+    section = "A tram every ten minutes, and what it brings"
+    pages.write_files(known[section], room.folder)
+    begin = ("export", "unzip", "ttm-tools walks", "printf", "ttm --feed")
+    page = [it for it in pages.commands(known["One question, from zip to picture"]) if it.text.startswith(begin)]
+    page += pages.commands(known[section])
+    assert len(page) > 20
+    assert pages.differences(page, room.folder, environment_of(room)) == []

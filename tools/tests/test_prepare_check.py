@@ -1,10 +1,11 @@
 """All faults of a feed: the first is the line that `ttm` prints; and what is likely not meant."""
 
+import subprocess
 from pathlib import Path
 
 import pytest
 
-from damages import first_fault_differs
+from damages import WORDS, first_fault_differs
 from helpers import CALENDAR, METRE, STOP_TIMES, Room
 from ttm_tools.prepare.tables import read_feed
 
@@ -133,6 +134,41 @@ def test_no_feed_is_told_in_a_line(room: Room) -> None:
 def test_the_first_fault_is_what_the_program_tells(room: Room, program: str, first: int) -> None:
     for seed in range(first, first + 50):
         assert first_fault_differs(program, seed, room.folder) == ""
+
+
+def first_line_of_both(room: Room, program: str, words: str = WORDS) -> str:
+    """The first line of a check, which is what the program prints."""
+    lines, status = checked(room)
+    told = subprocess.run([program, "--feed", str(room.folder), *words.split()], capture_output=True, text=True)
+    assert (lines[0] + "\n", status) == (told.stderr, 1)
+    return lines[0]
+
+
+def test_a_folder_in_place_of_a_file_comes_before_all_other_faults(feed: Room, program: str) -> None:
+    edit(feed, "stops.txt", "A,50,8,0", "A,50,8,x")
+    for name in ("frequencies.txt", "calendar.txt"):
+        (feed.folder / name).unlink(missing_ok=True)
+        (feed.folder / name).mkdir()
+        assert first_line_of_both(feed, program) == f"ttm: {feed.path(name)}: read fault"
+
+
+def test_the_row_with_which_there_are_too_many_footpaths(feed: Room, program: str) -> None:
+    stations = [["S", 1, ""], ["T", 1, ""], ["N", 2, ""]]
+    stops = [
+        [f"{station}{number}", "", station] for station, count in (("S", 2000), ("T", 45)) for number in range(count)
+    ]
+    feed.write("stops.txt", "stop_id,location_type,parent_station", [*stations, ["A", "", "N"], ["B", 0, "A"], *stops])
+    calls = [["T", "08:00:00", "08:00:00", "A", 1], ["T", "08:10:00", "08:10:00", "B", 2]]
+    feed.write("stop_times.txt", STOP_TIMES, calls)
+    rows = [["S", "S", 2, 60], ["T", "T", 2, 60], ["S", "N", 2, 60], ["S", "T", 3, 60], ["A", "A", 2, 60]]
+    rows += [["A", "B", 2, number] for number in range(19)]  # 2000 * 1999 + 45 * 44 + 19 are 3,999,999
+    header = "from_stop_id,to_stop_id,transfer_type,min_transfer_time"
+    feed.write("transfers.txt", header, [*rows, ["S7", "S7", 2, 60], ["B", "A", 2, 1]])
+    assert checked(feed)[0][0] == "no faults"
+    feed.write("transfers.txt", header, [*rows, ["T1", "T", 2, 60], ["B", "A", 2, 1]])
+    assert first_line_of_both(feed, program) == "ttm: transfers.txt: record 26: too many"
+    told = "2 times: records 26, 27"
+    assert checked(feed)[0][1] == f"  at most 4,000,000 footpaths, one for each pair of stops of its two ends; {told}"
 
 
 def test_a_long_file_is_read_alike_by_pandas(feed: Room, monkeypatch: pytest.MonkeyPatch) -> None:

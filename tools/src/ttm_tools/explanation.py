@@ -10,14 +10,14 @@ from typing import Sequence
 from .engine import Pathlike, Run, origins_file, run
 from .faults import BadInput
 from .feed import read_stops
-from .matrices import Matrix, open_matrix
+from .matrices import BASE, TODAY, Matrix, open_matrix
 from .measures.journeys import Search, cell, durations, journey, network_of
 from .records import shown
 from .timetable import DAY, Walks, Whole, read_edits, read_timetable, read_walks, runs_of
-from .views.journeys import Asked, Found, text_of
+from .views.journeys import Asked, Found
 
 
-def explained(
+def found_of(
     asked: Run,
     date: datetime.date,
     origin: str,
@@ -25,31 +25,39 @@ def explained(
     *,
     program: Pathlike | None = None,
     matrix: str | None = None,
-) -> list[str]:
-    """The lines that tell it for the base and each scenario. The travel times beside are those of a matrix, or of a run
-    of the program.
+) -> tuple[Asked, list[Found]]:
+    """What is found for the base and each scenario. The travel times beside are those of a matrix, or of a run of the
+    program.
     """
     stops = read_stops(str(asked.feed))
     for name in (origin, destination):
         if name not in stops.places or stops.kinds[stops.places[name]] != 0:
             raise BadInput(stops.path, f"no stop {shown(name)} at which vehicles call")
-    names = ["base", *[Path(path).name.removesuffix(".csv") for path in asked.scenarios]]
+    files = scenarios_of(asked.scenarios)
+    names = list(files)
     if matrix is not None:
         cells = cells_of(open_matrix(matrix), names, asked.shares[0], origin, destination)
     else:
         cells = cells_of_ttm(asked, names, origin, destination, program)
     timetable = read_timetable(stops)
     footpaths = asked.files.get("footpaths")
-    walks, changes = read_walks(timetable, None if footpaths is None else str(footpaths), asked.walk)
     first, last = (int(text[:2]) * 60 + int(text[3:]) for text in asked.window)
     departures = [DAY * asked.back + 60 * minute for minute in range(first, last + 1)]
     begin, end = map(timetable.stops.index, (origin, destination))
+    walks, changes = read_walks(timetable, None if footpaths is None else str(footpaths), asked.walk, begin)
     what = Asked(timetable, begin, end, departures, asked.back, asked.shares[0], told_of(asked, date))
     found = []
-    for (name, seconds), path in zip(cells.items(), [None, *asked.scenarios]):
-        found.append(found_in(what, asked, date, name, path, walks, changes))
+    for name, seconds in cells.items():
+        found.append(found_in(what, asked, date, name, files[name], walks, changes))
         tell_difference(found[-1], seconds, origin, destination)
-    return list(text_of(what, found))
+    return what, found
+
+
+def scenarios_of(files: Sequence[Pathlike]) -> dict[str, Pathlike | None]:
+    """The file of each scenario, none for the base; which is left out where scenarios are those of a plan."""
+    made: dict[str, Pathlike | None] = {BASE: None}
+    made |= {Path(path).name.removesuffix(".csv"): path for path in files}
+    return {name: path for name, path in made.items() if name != BASE or TODAY not in made}
 
 
 def told_of(asked: Run, date: datetime.date) -> str:

@@ -45,11 +45,14 @@ def one_line(told: object) -> str:
     return " ".join(str(told).split()).encode("utf-8", "backslashreplace").decode("utf-8")
 
 
+DEBIAN = {"osmium": "pyosmium"}  # where Debian has another name
+
+
 def needs(*packages: str) -> None:
     """Tells in one line which of these packages this Python lacks, before anything is imported from them."""
     lacking = [name for name in packages if importlib.util.find_spec(name) is None]
     if lacking:
-        debian = " ".join(f"python3-{name}" for name in lacking)
+        debian = " ".join(f"python3-{DEBIAN.get(name, name)}" for name in lacking)
         raise Lacking(
             f"this Python, {sys.executable}, has no {' and no '.join(lacking)}: "
             f"apt-get install {debian} and take /usr/bin/python3, or pip install {' '.join(lacking)}"

@@ -31,6 +31,7 @@ class Stops:
     longitudes: Floats  # the same
     kinds: npt.NDArray[np.int8]  # location_type; -1 where it is none
     stations: list[str]  # parent_station, "" where none is named
+    widths: Floats | None = None  # of squares that are drawn in place of marks, metres; NaN where there is none
 
     @cached_property
     def places(self) -> dict[str, int]:
@@ -45,7 +46,8 @@ class Stops:
         chosen = np.array([self.places[name] for name in identifiers], dtype=np.intp)
         names, stations = ([texts[place] for place in chosen] for texts in (self.names, self.stations))
         places = (self.latitudes[chosen], self.longitudes[chosen])
-        return Stops(self.path, list(identifiers), names, *places, self.kinds[chosen], stations)
+        widths = None if self.widths is None else self.widths[chosen]
+        return Stops(self.path, list(identifiers), names, *places, self.kinds[chosen], stations, widths)
 
     @property
     def placed(self) -> npt.NDArray[np.bool_]:

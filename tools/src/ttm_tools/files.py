@@ -14,6 +14,8 @@ from pathlib import Path
 from types import FrameType
 from typing import BinaryIO, Iterator, NoReturn
 
+from .faults import BadInput
+
 ENDING = [
     getattr(signal, name)
     for name in "SIGHUP SIGINT SIGQUIT SIGALRM SIGTERM SIGUSR1 SIGUSR2 SIGVTALRM SIGPROF SIGXCPU SIGIO SIGPWR".split()
@@ -122,6 +124,12 @@ def many_written_aside(folder: str | Path) -> Iterator[Path]:
                 os.replace(file, whole / file.name)
     finally:
         remove(made)
+
+
+def is_free(out: Path) -> None:
+    """Tells of a folder that isn't empty, in which files of two runs would lie side by side."""
+    if out.exists() and (not out.is_dir() or any(out.iterdir())):
+        raise BadInput(out, "is there already, and isn't empty")
 
 
 @contextlib.contextmanager

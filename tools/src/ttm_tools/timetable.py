@@ -200,8 +200,12 @@ class Walks:
     seconds: Whole
 
 
-def read_walks(timetable: Timetable, footpaths: str | None, limit: int) -> tuple[Walks, Whole]:
-    """The walks of a feed and of a file of footpaths, closed within the limit, and the change time at each stop."""
+def read_walks(
+    timetable: Timetable, footpaths: str | None, limit: int, start: int | None = None
+) -> tuple[Walks, Whole]:
+    """The walks of a feed and of a file of footpaths, closed within the limit, and the change time at each stop. With
+    a start those walks alone that begin there or where vehicles call, as others aren't of its journeys.
+    """
     ends, changes, direct = ends_of(timetable), np.zeros(len(timetable.stops), np.int64), dict[tuple[int, int], int]()
     for origin, target, seconds, is_change in stated_walks(timetable.folder, footpaths):
         for a in ends.get(origin, []):
@@ -210,7 +214,8 @@ def read_walks(timetable: Timetable, footpaths: str | None, limit: int) -> tuple
             for b in ends.get(target, []):
                 if a != b and seconds <= limit:
                     direct[a, b] = min(direct.get((a, b), seconds), seconds)
-    return closed(len(timetable.stops), direct, limit), changes
+    begins = None if start is None else {start, *np.unique(timetable.events.stop).tolist()}
+    return closed(direct, limit, begins), changes
 
 
 def ends_of(timetable: Timetable) -> dict[str, list[int]]:
@@ -241,20 +246,26 @@ def stated_walks(folder: str, footpaths: str | None) -> Iterator[tuple[str, str,
             yield origin, target, int(seconds), False
 
 
-def closed(stops: int, direct: dict[tuple[int, int], int], limit: int) -> Walks:
-    """Each stop's walks by Dijkstra's search, cut at the limit."""
+def closed(direct: dict[tuple[int, int], int], limit: int, begins: set[int] | None) -> Walks:
+    """Each stop's walks, or those of some, by Dijkstra's search, cut at the limit."""
     leaving: dict[int, list[tuple[int, int]]] = {}
     for (a, b), seconds in direct.items():
         leaving.setdefault(a, []).append((b, seconds))
     made: list[tuple[int, int, int]] = []
-    for source in leaving:
-        best, heap = {source: 0}, [(0, source)]
-        while heap:
-            time, stop = heapq.heappop(heap)
-            for target, more in leaving.get(stop, []) if time == best[stop] else []:
-                if time + more <= limit and time + more < best.get(target, limit + 1):
-                    best[target] = time + more
-                    heapq.heappush(heap, (time + more, target))
-        made += [(source, stop, seconds) for stop, seconds in best.items() if stop != source]
-    found = np.array(made, dtype=np.int64).reshape(-1, 3)
-    return Walks(found[:, 0], found[:, 1], found[:, 2])
+    for source in leaving if begins is None else begins & leaving.keys():
+        found = reached_from(source, leaving, limit)
+        made += [(source, stop, seconds) for stop, seconds in found.items() if stop != source]
+    columns = np.array(made, dtype=np.int64).reshape(-1, 3)
+    return Walks(columns[:, 0], columns[:, 1], columns[:, 2])
+
+
+def reached_from(source: int, leaving: dict[int, list[tuple[int, int]]], limit: int) -> dict[int, int]:
+    """The least seconds to each stop within the limit."""
+    best, heap = {source: 0}, [(0, source)]
+    while heap:
+        time, stop = heapq.heappop(heap)
+        for target, more in leaving.get(stop, []) if time == best[stop] else []:
+            if time + more <= limit and time + more < best.get(target, limit + 1):
+                best[target] = time + more
+                heapq.heappush(heap, (time + more, target))
+    return best

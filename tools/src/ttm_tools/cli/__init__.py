@@ -11,7 +11,24 @@ from typing import Sequence
 from ..faults import BadInput, Lacking, WrongWords, one_line
 from ..files import Interrupted, unwind_on_signals
 
-COMMANDS = ("prepare", "walks", "split", "join", "compare", "access", "equity", "explain", "map", "long", "omx", "gis")
+COMMANDS = (
+    "prepare",
+    "scenarios",
+    "walks",
+    "points",
+    "split",
+    "join",
+    "compare",
+    "access",
+    "equity",
+    "explain",
+    "map",
+    "page",
+    "long",
+    "omx",
+    "gis",
+    "study",
+)
 NO_MEMORY = 3
 
 

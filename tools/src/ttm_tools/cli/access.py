@@ -3,7 +3,7 @@
 import argparse
 from typing import TYPE_CHECKING
 
-from .options import add_matrix, add_number, add_numbers, add_out, add_share, add_text
+from .options import add_matrix, add_number, add_numbers, add_out, add_points, add_share, add_text, scenarios_of
 
 if TYPE_CHECKING:
     from ..feed import Floats
@@ -40,6 +40,7 @@ def describe(parser: argparse.ArgumentParser) -> None:
     told = "in place of access the time within which so many are reached, between commas"
     add_numbers(parser, "--nearest", told, "", (0, 1e15), without="access is measured")
     add_text(parser, "--scenario", "NAME", "the scenario that is taken", without="all")
+    add_points(parser, "all origins and stops")
     add_share(parser, without="all")
     told = "a line for each number, or a column (default long)"
     parser.add_argument("--form", choices=("long", "wide"), default="long", help=told)
@@ -55,6 +56,7 @@ def run(words: argparse.Namespace) -> int:
     from ..matrices import Share, open_matrix
     from ..measures.access import EXPONENTIAL, Decay, access, nearest
     from ..measures.opportunities import read_counts
+    from ..points.shown import shown_of
     from ..views.access import ACCESS, NEAREST, measured, write_access
 
     decay = Decay(words.decay, words.decay_value)
@@ -62,8 +64,8 @@ def run(words: argparse.Namespace) -> int:
         raise WrongWords("--decay exponential needs --cutoffs above 0: they are half-lives")
     if words.nearest and min(words.nearest) <= 0:
         raise WrongWords("--nearest needs numbers above 0")
-    matrix = open_matrix(words.matrix)
-    scenarios = matrix.scenarios if words.scenario is None else [matrix.scenario(words.scenario)]
+    matrix, _ = shown_of(open_matrix(words.matrix), None, words.points)
+    scenarios = scenarios_of(matrix, [words.scenario] if words.scenario else None)
     shares = matrix.shares if words.share is None else [matrix.share(words.share)]
     counts = read_counts(words.opportunities, matrix.stops, "stop of the matrix", words.column)
 

@@ -3,7 +3,7 @@
 import argparse
 import sys
 
-from .options import add_base, add_feed, add_matrix, add_number, add_out, add_share, add_text, add_within
+from .options import add_base, add_feed, add_matrix, add_number, add_out, add_points, add_share, add_text, add_within
 
 TOLD = "who loses and who wins between two scenarios"
 HELP = """\
@@ -34,6 +34,7 @@ def describe(parser: argparse.ArgumentParser) -> None:
     add_share(parser)
     add_within(parser)
     add_feed(parser, "an unpacked feed, for the names of stops", "there are no names")
+    add_points(parser)
     told = "compare the origins that both scenarios have, where one lacks some (without it, that is a fault)"
     parser.add_argument("--partial", action="store_true", help=told)
     add_out(parser, "where the table is written")
@@ -44,18 +45,17 @@ def run(words: argparse.Namespace) -> int:
     from ..faults import BadInput, needs
 
     needs("numpy")
-    from ..feed import read_stops
     from ..files import output
     from ..matrices import open_matrix, pair_of
     from ..measures.comparison import compare
+    from ..points.shown import shown_of
     from ..views.differences import summary, write_origins, write_pairs
 
-    matrix, by_pair = open_matrix(words.matrix), words.by == "pair"
+    (matrix, stops), by_pair = shown_of(open_matrix(words.matrix), words.feed, words.points), words.by == "pair"
     place = None if by_pair else matrix.limit(words.within)[0]
     pair = pair_of(matrix, words.base, words.scenario, words.share)
     if pair.lacking and not words.partial:
         raise BadInput(words.matrix, f"{pair.lacking} (--partial compares the others)")
-    stops = read_stops(words.feed) if words.feed else None
     made = compare(pair, words.limit, with_pairs=by_pair)
     with output(words.out) as file:
         if place is None:

@@ -47,7 +47,9 @@ def run(words: argparse.Namespace) -> int:
 
     table = read_access(words.access)
     people = read_counts(words.people, table.origins, f"origin of {words.access}", words.column)
-    asked = Asked(words.base, words.lose, chosen_kinds(table, words.opportunity, words.percentile, words.cutoff))
+    asked = Asked(
+        words.base or table.base, words.lose, chosen_kinds(table, words.opportunity, words.percentile, words.cutoff)
+    )
     figure = figure_of(table, people, asked) if words.picture else None
     with output(words.out) as file:
         write_equity(file, measured(table, people, asked), words.form)

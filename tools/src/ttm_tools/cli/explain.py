@@ -17,6 +17,7 @@ HELP = """\
 Tells the journey behind a cell of the matrix: of the first departure whose duration the cell is, leg by leg, with
 stops, route, trip, times, waits, changes and walks, for the feed as it is and for each scenario side by side; and the
 durations of all departures (minutes and seconds; a star at the departure of the journey, - where nobody gets there).
+--picture draws these, minute by minute.
 
 It is found by a second search, in Python, by the definitions of docs/DEFINITIONS.md. This search isn't proved; `ttm`
 runs as well (or a cell of --matrix is taken), and where its travel time is another an error tells both numbers. A time
@@ -61,6 +62,8 @@ def describe(parser: argparse.ArgumentParser) -> None:
     add_text(parser, "--matrix", "FILE", told, without="ttm is run")
     told = "the program ttm"
     add_text(parser, "--program", "PATH", told, without="TTM_PROGRAM, or that on the path, or the one built here")
+    told = "where a picture of the durations by departure is written, as PNG; needs matplotlib"
+    add_text(parser, "--picture", "FILE", told, without="none is drawn")
     add_out(parser, "where it is written")
     for name in UNUSED:
         told = "a word of ttm that changes no journey (without it, nothing changes)"
@@ -83,13 +86,20 @@ def asked_of(words: argparse.Namespace) -> "Run":
 def run(words: argparse.Namespace) -> int:
     from ..faults import needs
 
-    needs("numpy", "pandas")
-    from ..explanation import explained
+    needs("numpy", "pandas", *(["matplotlib"] if words.picture else []))
+    from ..explanation import found_of
     from ..files import output
+    from ..views.departures import figure_of
+    from ..views.journeys import text_of
 
-    asked, ends = asked_of(words), (words.origin, words.destination)
-    lines = explained(asked, words.date, *ends, program=words.program, matrix=words.matrix)
+    run, ends = asked_of(words), (words.origin, words.destination)
+    asked, found = found_of(run, words.date, *ends, program=words.program, matrix=words.matrix)
+    lines = list(text_of(asked, found))
+    figure = figure_of(asked, found) if words.picture else None
     with output(words.out) as file:
         for line in lines:
             file.write(line.encode("utf-8", "backslashreplace") + b"\n")
+    if figure is not None:
+        with output(words.picture) as file:
+            figure.savefig(file, format="png", dpi="figure")
     return 0

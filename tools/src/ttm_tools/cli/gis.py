@@ -3,7 +3,7 @@
 import argparse
 import sys
 
-from .options import add_matrix, add_share, add_text
+from .options import add_matrix, add_points, add_share, add_text, scenarios_of
 
 TOLD = "stops with access and travel times, for a geographic information system"
 HELP = """\
@@ -15,6 +15,7 @@ GeoPackage (needs geopandas). Stops without coordinates are left out, and counte
 
 def describe(parser: argparse.ArgumentParser) -> None:
     parser.add_argument("--feed", metavar="FOLDER", required=True, help="the unpacked feed of the matrix (needed)")
+    add_points(parser)
     add_text(parser, "--origin", "STOP", "the stop from which travel times are told", without="access alone is told")
     told = "a scenario that is taken; may be given several times (without it, all are)"
     parser.add_argument("--scenario", metavar="NAME", action="append", help=told)
@@ -31,13 +32,14 @@ def run(words: argparse.Namespace) -> int:
     if kind not in ("geojson", "json", "gpkg"):
         raise WrongWords("--out ends in .geojson, .json or .gpkg")
     needs("numpy", *(["geopandas"] if kind == "gpkg" else []))
-    from ..feed import read_stops
     from ..files import output
     from ..matrices import open_matrix
+    from ..points.shown import shown_of
     from ..views.gis import features_of, write_geojson, write_geopackage
 
-    matrix, stops = open_matrix(words.matrix), read_stops(words.feed)
-    scenarios = [matrix.scenario(name) for name in words.scenario or matrix.scenarios]
+    matrix, stops = shown_of(open_matrix(words.matrix), words.feed, words.points)
+    assert stops is not None
+    scenarios = scenarios_of(matrix, words.scenario)
     shares = matrix.shares if words.share is None else [matrix.share(words.share)]
     features = features_of(matrix, stops, scenarios, shares, words.origin)
     if kind == "gpkg":
@@ -45,6 +47,6 @@ def run(words: argparse.Namespace) -> int:
     else:
         with output(words.out) as file:
             write_geojson(file, features)
-    lost = len(matrix.stops) - len(features.stops.identifiers)
+    lost = len(matrix.stops_and_origins()) - len(features.stops.identifiers)
     print(f"{words.out}: {len(features.stops.identifiers)} stops; {lost} have no coordinates", file=sys.stderr)
     return 0

@@ -3,7 +3,7 @@
 import argparse
 from typing import TYPE_CHECKING
 
-from .options import add_feed, add_matrix, add_out, add_share, add_text, add_within
+from .options import add_feed, add_matrix, add_out, add_points, add_share, add_text, add_within, scenarios_of
 
 if TYPE_CHECKING:
     from ..matrices import Matrix
@@ -25,6 +25,7 @@ than the memory. Memory: some 100 MB."""
 
 def describe(parser: argparse.ArgumentParser) -> None:
     add_feed(parser, "an unpacked feed, for names and coordinates", "there are none")
+    add_points(parser)
     add_text(parser, "--origins", "FILE", "the origins that are taken, a file with the column stop_id", without="all")
     add_text(
         parser,
@@ -58,13 +59,12 @@ def run(words: argparse.Namespace) -> int:
     if parquet and words.access:
         raise WrongWords("--access is written as CSV")
     needs("numpy", *(["pandas"] if parquet else []))
-    from ..feed import read_stops
     from ..files import output
     from ..matrices import open_matrix
+    from ..points.shown import shown_of
     from ..views import long
 
-    matrix = open_matrix(words.matrix)
-    stops = read_stops(words.feed) if words.feed else None
+    matrix, stops = shown_of(open_matrix(words.matrix), words.feed, words.points)
     choice = choice_of(words, matrix)
     if parquet:
         long.write_parquet(words.out, long.frames_of(matrix, choice, stops))
@@ -83,7 +83,7 @@ def choice_of(words: argparse.Namespace, matrix: "Matrix") -> "Choice":
     from ..feed import read_list
     from ..views.long import Choice
 
-    named = [matrix.scenario(name) for name in words.scenario or matrix.scenarios]
+    named = scenarios_of(matrix, words.scenario)
     scenarios = [name for name in matrix.scenarios if name in named]
     if words.names == "r5py" and len(scenarios) > 1:
         raise BadInput(

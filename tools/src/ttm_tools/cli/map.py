@@ -3,7 +3,7 @@
 import argparse
 import math
 
-from .options import add_base, add_matrix, add_number, add_share, add_text, add_within
+from .options import add_base, add_matrix, add_number, add_points, add_share, add_text, add_within
 
 TOLD = "a picture of travel times, of access, or of a difference"
 HELP = """\
@@ -12,10 +12,13 @@ and who gains in a scenario beside the base (difference): access at each origin,
 each stop. Who is cut off is a class of its own: a stop that isn't reached any more, an origin from which half of the
 stops that were reached, or more, aren't any more.
 
+Points are drawn alone where the matrix has them, as squares where the file of points says how wide they are.
 Stops are drawn where the feed's stops.txt has them, over the lines of its shapes.txt, or over straight ones from stop
 to stop where it has none. With --edits the lines of the trips that a scenario file removes are drawn black; in a
 difference from a base that has a scenario file of its own, name both files, and the trips that the base lacks and the
-scenario has are drawn as added. Needs matplotlib. Memory: some 150 MB, and 110 bytes for each stop time of the feed."""
+scenario has are drawn as added. Of a feed that ttm-tools scenarios wrote its own scenario files are taken: new lines
+are drawn as added, and lines whose trips are others as changed. Needs matplotlib. Memory: some 150 MB, and 110 bytes
+for each stop time of the feed."""
 
 
 def breaks_of(text: str) -> tuple[float, ...]:
@@ -34,6 +37,7 @@ def describe(parser: argparse.ArgumentParser) -> None:
     parser.add_argument("picture", choices=("times", "access", "difference"), help="what is drawn")
     add_matrix(parser)
     parser.add_argument("--feed", metavar="FOLDER", required=True, help="the unpacked feed of the matrix (needed)")
+    add_points(parser)
     add_text(parser, "--origin", "STOP", "the stop from which one starts", without="access is drawn; times needs it")
     add_text(
         parser,
@@ -71,16 +75,23 @@ def run(words: argparse.Namespace) -> int:
     needs("numpy", "pandas", "matplotlib")
     from ..files import output
     from ..matrices import open_matrix
-    from ..views.maps import Sheet, figure_of, matrix_stops, picture_of
+    from ..points.shown import shown_of
+    from ..views.lines import planned_of
+    from ..views.maps import Sheet, figure_of, picture_of
     from ..views.pictures import Wish
 
-    matrix = open_matrix(words.matrix)
-    stops = matrix_stops(words.feed, matrix)
-    wish = Wish(words.scenario, words.base, words.share, words.within, words.breaks, words.unit)
+    whole = open_matrix(words.matrix)
+    matrix, stops = shown_of(whole, words.feed, words.points)
+    assert stops is not None
+    stops.of(matrix.stops)
+    what = "stops" if matrix is whole else "points"
+    base, loses = words.base or matrix.base, words.picture == "difference"
+    wish = Wish(words.scenario, base, words.share, words.within, words.breaks, words.unit, what)
     picture = picture_of(words.picture, matrix, stops, words.origin, wish)
-    sheet = Sheet(words.title, words.note or "", words.width, words.edits)
-    base = words.base if words.picture == "difference" else None
-    figure = figure_of(picture, matrix, stops, words.feed, sheet, base)
+    scenario = words.scenario or (matrix.other(base, None) if loses else base)
+    planned = planned_of(words.feed, words.edits, base, scenario, loses)
+    sheet = Sheet(words.title, words.note or "", words.width, words.edits, planned)
+    figure = figure_of(picture, matrix, stops, words.feed, sheet, base if loses else None)
     with output(words.out) as file:
         figure.savefig(file, format="png", dpi="figure")
     return 0

@@ -2,7 +2,7 @@
 
 import argparse
 
-from .options import add_text
+from .options import add_points, add_text, scenarios_of
 
 TOLD = "an Open Matrix file"
 HELP = """\
@@ -20,6 +20,7 @@ def describe(parser: argparse.ArgumentParser) -> None:
     add_text(
         parser, "--origins", "FILE", told, without="a matrix that ends too early isn't told where all scenarios do"
     )
+    add_points(parser, "all stops")
     told = "where the Open Matrix file is written; it gets its name when it is whole (needed)"
     parser.add_argument("--out", metavar="FILE", required=True, help=told)
     parser.add_argument("matrix", metavar="MATRIX", help="a matrix as ttm prints it")
@@ -31,9 +32,11 @@ def run(words: argparse.Namespace) -> int:
     needs("numpy", "h5py")
     from ..matrices import has_all, open_matrix, write_open_matrix
     from ..parts import origins_in
+    from ..points.shown import shown_of
 
     matrix = open_matrix(words.matrix)
+    scenarios_of(matrix, None)
     if words.origins:
         has_all(matrix, origins_in(words.origins), words.origins)
-    write_open_matrix(matrix, words.out)
+    write_open_matrix(shown_of(matrix, None, words.points)[0], words.out)
     return 0

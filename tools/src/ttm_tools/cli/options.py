@@ -2,7 +2,11 @@
 
 import argparse
 import math
-from typing import Callable
+import sys
+from typing import TYPE_CHECKING, Callable, Sequence
+
+if TYPE_CHECKING:
+    from ..matrices import Matrix
 
 
 def number(unit: str, least: float, most: float, whole: bool = True) -> Callable[[str], float]:
@@ -97,7 +101,8 @@ def add_within(parser: argparse.ArgumentParser, without: str = "the only one") -
 
 
 def add_base(parser: argparse.ArgumentParser) -> None:
-    add_text(parser, "--base", "NAME", "the scenario that others are compared with", default="base")
+    told = "base, or today where scenarios are those of a plan"
+    add_text(parser, "--base", "NAME", "the scenario that others are compared with", without=told)
 
 
 def add_feed(parser: argparse.ArgumentParser, told: str, without: str) -> None:
@@ -106,3 +111,27 @@ def add_feed(parser: argparse.ArgumentParser, told: str, without: str) -> None:
 
 def add_out(parser: argparse.ArgumentParser, told: str, without: str = "standard output") -> None:
     add_text(parser, "--out", "FILE", f"{told}; it gets its name when it is whole", without=without)
+
+
+def add_points(parser: argparse.ArgumentParser, without: str = "") -> None:
+    told = "a file of points (id, lat, lon, name, width); they alone are shown, where the matrix has them"
+    feed = "points.csv in the feed's folder, as ttm-tools points writes it, else all stops"
+    add_text(parser, "--points", "FILE", told, without=without or feed)
+
+
+def add_pace(parser: argparse.ArgumentParser) -> None:
+    """How one walks, and where."""
+    add_number(parser, "--speed", "how fast one walks", "m/s", (0.01, 100), default=1.33, whole=False)
+    told = "metres of way for a metre of straight line"
+    add_number(parser, "--detour", told, "", (1, 100), default=1.3, whole=False)
+    told = "ways along the streets of a file of OpenStreetMap (.osm.pbf, .osm); needs pyosmium and scipy"
+    add_text(parser, "--streets", "FILE", told, without="straight lines")
+    told = "with --streets, how far a street may be to count as near"
+    add_number(parser, "--near", told, "metres", (0, 100000), default=100, whole=False)
+
+
+def scenarios_of(matrix: "Matrix", named: Sequence[str] | None) -> list[str]:
+    """The scenarios that are named, or all that are compared; one that is left out then is told."""
+    if not named and matrix.left_out:
+        print(matrix.left_out, file=sys.stderr)
+    return [matrix.scenario(name) for name in named or matrix.compared]

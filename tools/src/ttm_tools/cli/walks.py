@@ -4,7 +4,7 @@ import argparse
 import os
 import sys
 
-from .options import add_number, add_out, add_text
+from .options import add_number, add_out, add_pace, add_text
 
 TOLD = "footpaths of a feed from the coordinates of its stops"
 HELP = """\
@@ -16,14 +16,22 @@ its own --walk, so a limit above that adds nothing.
 Stops are those at which vehicles call: location_type 0 or empty. Where their station lists entrances (location_type 2),
 one reaches or leaves it only by an entrance; within one station one walks directly (GTFS reference, stops.txt). A stop
 without coordinates, at 0 and 0, or at none on earth has no footpath, which a line on standard error counts. The file
-has the columns from_stop_id, to_stop_id and seconds; hand it to ttm by --footpaths."""
+has the columns from_stop_id, to_stop_id and seconds; hand it to ttm by --footpaths. Of a folder of ttm-tools scenarios
+with new stops it is looked at whether walks by way of these bring old stops nearer, and told where they do.
+
+With --streets one walks along the ways of a file of OpenStreetMap, which are no longer than they are. A way may be
+walked where its highway is primary, secondary, tertiary (and their links), unclassified, residential, living_street,
+service, road, track, path, footway, pedestrian, steps, corridor, platform, crossing or elevator; or trunk, cycleway,
+bridleway or busway where foot says yes (designated, permissive ..), or trunk with a sidewalk; platforms and piers too.
+No motorways; not where foot is no, private or use_sidepath, nor where access is no or private and foot doesn't allow
+it. oneway:foot, foot:forward and foot:backward count; oneway is for vehicles. Stops and entrances are put on the
+nearest way. Those that are farther from it than --near are told, and joined to it by a straight line with its detour.
+Memory: some 300 bytes for each node of the ways while they are read, and 100 for each footpath."""
 
 
 def describe(parser: argparse.ArgumentParser) -> None:
     add_number(parser, "--limit", "the longest walk", "seconds", (1, 86400), default=600, whole=False)
-    add_number(parser, "--speed", "how fast one walks", "m/s", (0.01, 100), default=1.33, whole=False)
-    told = "metres of way for a metre of straight line"
-    add_number(parser, "--detour", told, "", (1, 100), default=1.3, whole=False)
+    add_pace(parser)
     told = "walks of your own, a table with from_stop_id, to_stop_id and seconds; decimals are rounded up, and counted"
     add_text(parser, "--table", "FILE", told, without="straight lines")
     add_out(parser, "where the footpaths are written", without="footpaths.csv in FOLDER")
@@ -31,13 +39,16 @@ def describe(parser: argparse.ArgumentParser) -> None:
 
 
 def run(words: argparse.Namespace) -> int:
-    from ..faults import needs
+    from ..faults import WrongWords, needs
 
+    if words.table and words.streets:
+        raise WrongWords("--table and --streets are two sources of walks: one of them")
     needs("numpy")
     from ..feed import read_stops
     from ..files import output
+    from ..plans.nearness import told_nearer
     from ..records import Rounded, write_rows
-    from ..walks import Pace, read_walks, straight_walks
+    from ..walks import Pace, read_walks, told as what_is_told, walks_of
 
     stops, rounded = read_stops(words.folder), Rounded()
     out = words.out or os.path.join(words.folder, "footpaths.csv")
@@ -45,9 +56,12 @@ def run(words: argparse.Namespace) -> int:
         rows = read_walks(words.table, stops, rounded)
         told = f"{rounded.count} seconds with decimals were rounded up"
     else:
-        found = straight_walks(stops, Pace(words.limit, words.speed, words.detour))
-        rows, told = found.rows(), f"{found.lost} stops have no coordinates"
+        pace = Pace(words.limit, words.speed, words.detour)
+        found = walks_of(stops, pace, words.streets, words.near)
+        rows, told = found.rows(), what_is_told(found, "stops", words.near)
     with output(out) as file:
         write_rows(file, ["from_stop_id", "to_stop_id", "seconds"], rows)
     print(f"{out}: {len(rows)} footpaths; {told}", file=sys.stderr)
+    for line in told_nearer(words.folder, out):
+        print(line, file=sys.stderr)
     return 0

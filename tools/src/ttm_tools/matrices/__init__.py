@@ -8,10 +8,12 @@ from ..faults import BadInput
 from .csv_matrix import CsvMatrix
 from .layout import Layout, layout_of
 from .lines import Seconds
-from .matrix import Block, Matrix, Pair, Share, Sums, has_all, lacking, pair_of
+from .matrix import BASE, TODAY, Block, Matrix, Pair, Share, Sums, has_all, lacking, pair_of
 from .open_matrix import OpenMatrix, is_open_matrix, write_open_matrix
 
 __all__ = [
+    "BASE",
+    "TODAY",
     "Block",
     "Layout",
     "Matrix",

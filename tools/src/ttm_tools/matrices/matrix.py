@@ -17,6 +17,7 @@ Sums = npt.NDArray[np.int64]
 Places = npt.NDArray[np.intp]
 CELLS_AT_ONCE = 2_000_000
 Share = int | None  # percent; None where the matrix names none
+BASE, TODAY = "base", "today"  # what `ttm` calls the feed as it is, and a plan what it begins from
 
 
 @dataclass(frozen=True)
@@ -59,6 +60,25 @@ class Matrix(ABC):
     def places(self) -> dict[str, int]:
         """Where each stop's column stands."""
         return {name: place for place, name in enumerate(self.stops)}
+
+    def stops_and_origins(self) -> list[str]:
+        """All stops of the columns, and behind them those origins that aren't among them."""
+        origins = (
+            name for scenario in self.scenarios for share in self.shares for name in self.origins(scenario, share)
+        )
+        return list(dict.fromkeys([*self.stops, *origins]))
+
+    @property
+    def base(self) -> str:
+        """The scenario that others are compared with where none is named: of those of a plan, today."""
+        return TODAY if TODAY in self.scenarios else BASE
+
+    @property
+    def compared(self) -> list[str]:
+        """The scenarios that are taken where none is named: all but the one that has the trips of all scenarios of a
+        plan at once.
+        """
+        return [name for name in self.scenarios if (name, self.base) != (BASE, TODAY)]
 
     def rows_at_once(self) -> int:
         return max(1, CELLS_AT_ONCE // max(1, len(self.stops)))
@@ -118,12 +138,18 @@ class Matrix(ABC):
             raise BadInput(self.path, f"no scenario {shown(name)}; it has {', '.join(map(shown, self.scenarios))}")
         return name
 
+    @property
+    def left_out(self) -> str:
+        """What is told where a scenario is left out; nothing where none is."""
+        told = f"{self.path}: {BASE}, which has the trips of all scenarios at once, is left out"
+        return "" if self.compared == self.scenarios else told
+
     def other(self, base: str, asked: str | None) -> str:
         """The scenario beside the base, which needs to be named only where there are several."""
         self.scenario(base)
         if asked is not None:
             return self.scenario(asked)
-        others = [name for name in self.scenarios if name != base]
+        others = [name for name in (self.scenarios if base == BASE else self.compared) if name != base]
         if len(others) > 1:
             told = f"{shown(others[0])} and {shown(others[1])}"
             raise BadInput(self.path, f"it has the scenarios {told} beside {shown(base)}: name one by --scenario")
@@ -165,8 +191,9 @@ class Pair:
             )
 
 
-def pair_of(matrix: Matrix, base: str, asked: str | None, share: int | None) -> Pair:
-    """Two scenarios of a matrix, of one share."""
+def pair_of(matrix: Matrix, base: str | None, asked: str | None, share: int | None) -> Pair:
+    """Two scenarios of a matrix, of one share; beside its own base where none is named."""
+    base = base or matrix.base
     other, chosen = matrix.other(base, asked), matrix.share(share)
     first, second = (matrix.origins(name, chosen) for name in (base, other))
     places = {name: place for place, name in enumerate(second)}

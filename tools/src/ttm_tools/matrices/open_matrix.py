@@ -43,7 +43,7 @@ def write_open_matrix(matrix: Matrix, path: str) -> None:
     needs("h5py")
     import h5py
 
-    layouts = [(scenario, share) for scenario in matrix.scenarios for share in matrix.shares]
+    layouts = [(scenario, share) for scenario in matrix.compared for share in matrix.shares]
     first = matrix.origins(*layouts[0])
     for scenario, share in layouts:
         names = matrix.origins(scenario, share)

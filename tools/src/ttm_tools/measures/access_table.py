@@ -7,6 +7,7 @@ import numpy as np
 
 from ..faults import BadInput, some
 from ..feed import Floats
+from ..matrices import BASE, TODAY
 from ..records import number_of, rows, shown
 
 COLUMNS = ("id", "opportunity", "percentile", "cutoff", "accessibility")
@@ -35,6 +36,11 @@ class AccessTable:
     kinds: list[Kind]
     origins: list[str]
     numbers: Floats  # by scenario, kind and origin
+
+    @property
+    def base(self) -> str:
+        """The scenario that others are compared with where none is named."""
+        return TODAY if TODAY in self.scenarios else BASE
 
     def scenario(self, name: str) -> int:
         """The place of a scenario."""

@@ -11,7 +11,15 @@ from ..feed import Floats
 from ..records import number_of, places_of, records, rows, shown
 
 IDENTIFIERS = ("stop_id", "id")  # the column that names a stop or a point: the first of these that is there
-NO_COUNTS = {"stop_name", "stop_lat", "stop_lon", "name", "lat", "lon"}  # columns that say where and what it is
+NO_COUNTS = {
+    "stop_name",
+    "stop_lat",
+    "stop_lon",
+    "name",
+    "lat",
+    "lon",
+    "width",
+}  # columns that say where and what it is
 OWN_NAME = "opportunities"  # as every file of `ttm` calls its column
 
 

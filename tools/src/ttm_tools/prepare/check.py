@@ -3,7 +3,7 @@ several checks the first is a fault. What refers to a file that isn't there, or 
 """
 
 from dataclasses import dataclass
-from typing import Iterable, Iterator, Sequence
+from typing import Callable, Iterable, Iterator, Sequence
 
 import numpy as np
 
@@ -20,7 +20,8 @@ NUMBER = "a number is digits alone, 0 to 4294967295"
 OPEN_NUMBER = "it is empty or a number: digits alone, 0 to 4294967295"
 TIME = "a time is H:MM:SS, 0:00:00 to 167:59:59"
 BACK = "no departure before the arrival, and no arrival before the departure before it"
-TOO_MANY, TOO_LONG = "too many", "too long"
+TOO_MANY, TOO_LONG, UNREAD = "too many", "too long", "read fault"
+LAST = 1 << 50  # ranks of what is found once all records are read
 
 
 @dataclass(frozen=True)
@@ -49,6 +50,8 @@ class Fault:
 
     def line(self) -> str:
         """The line that `ttm` would print of the first record."""
+        if self.what == UNREAD:
+            return f"ttm: {self.table.source}: {self.what}"
         place = (
             self.table.name if self.missing or self.what == TOO_LONG else f"{self.table.name}: record {self.records[0]}"
         )
@@ -136,16 +139,27 @@ def stops_of(feed: Feed) -> list[str] | None:
 
 def check(feed: Feed) -> list[Fault]:
     """All faults of a feed: one for each check that fails, the first in the order of `ttm` first."""
-    return [fault for name in FILES for fault in in_order(faults_in(feed, name))]
+    return [*unread_in(feed), *(fault for name in FILES for fault in in_order(faults_in(feed, name)))]
 
 
 def in_order(faults: Sequence[Fault]) -> list[Fault]:
     return sorted(faults, key=lambda fault: int(fault.ranks[0]) if len(fault.ranks) else -1)
 
 
+def unread_in(feed: Feed) -> Iterator[Fault]:
+    """The folders that stand in the places of files: `ttm` reads all files before it looks at one."""
+    none = np.zeros(0, np.int64)
+    for name, path in feed.unread.items():
+        yield Fault(
+            Table(name, {}, none, path), UNREAD, "", "a file has to be there, and it is a folder", none, none, True
+        )
+
+
 def faults_in(feed: Feed, name: str) -> list[Fault]:
     """The faults of a file."""
     table, none = feed.get(name), np.zeros(0, np.int64)
+    if name in feed.unread:
+        return []
     if name not in feed.tables:
         optional = ("calendar_dates.txt", "frequencies.txt", "transfers.txt")
         if name in optional or (name == "calendar.txt" and "calendar_dates.txt" in feed.tables):
@@ -160,7 +174,7 @@ def faults_in(feed: Feed, name: str) -> list[Fault]:
         return [Fault(table, "missing column", "", told, none, none)]
     checks = Checks(table)
     CHECKS[name](feed, checks)
-    return [*checks.found, *(whole_trips(feed, table) if name == "stop_times.txt" else ())]
+    return [*checks.found, *WHOLE.get(name, lambda *_: iter(()))(feed, table)]
 
 
 def check_stops(_: Feed, checks: Checks) -> None:
@@ -277,6 +291,41 @@ def check_transfers(feed: Feed, checks: Checks) -> None:
     checks.add("min_transfer_time", "bad number", NUMBER, used & wrong)
 
 
+def too_many_footpaths(feed: Feed, table: Table) -> Iterator[Fault]:
+    """The rows of transfers.txt from that one on with which they make more footpaths than `ttm` takes."""
+    if not feed.has_columns("stops.txt"):
+        return
+    made = np.where(used_transfers(table), footpaths_of(table, feed.tables["stops.txt"]), 0)
+    rows = np.flatnonzero((np.cumsum(made) > fields.MOST_FOOTPATHS) & (made > 0))
+    if len(rows):
+        allowed = f"at most {fields.MOST_FOOTPATHS:,} footpaths, one for each pair of stops of its two ends"
+        yield Fault(table, TOO_MANY, "", allowed, rows, LAST + rows)
+
+
+def footpaths_of(table: Table, stops: Table) -> Whole:
+    """How many footpaths each row of transfers.txt makes: from each stop of its first end to each other one of its
+    second, where a station stands for its children, and another location for none.
+    """
+    places: dict[str, int] = {}
+    for place, code in enumerate(stops["stop_id"].codes):
+        places.setdefault(stops["stop_id"].values[code], place)
+    kinds = values_of(stops["location_type"], number)
+    is_stop, is_station = (kinds == 0) | (kinds == fields.EMPTY), kinds == 1
+    parents = ends_at(stops["parent_station"], places)
+    parents = np.where(is_stop & (parents >= 0) & is_station[parents], parents, -1)
+    children = np.bincount(parents[parents >= 0], minlength=len(stops))
+    sizes = np.append(np.where(is_stop, 1, np.where(is_station, children, 0)), 0)
+    parents = np.append(parents, -2)  # that of a location that isn't known
+    a, b = (ends_at(table[name], places) for name in ("from_stop_id", "to_stop_id"))
+    shared = np.where(a == b, sizes[a], ((parents[a] == b) | (parents[b] == a)).astype(np.int64))
+    return np.where((a >= 0) & (b >= 0), sizes[a] * sizes[b] - shared, 0)
+
+
+def ends_at(column: Column, places: dict[str, int]) -> Whole:
+    """The place of each record's location; -1 where it isn't known."""
+    return np.array([places.get(text, -1) for text in column.values] or [-1], dtype=np.int64)[column.codes]
+
+
 def whole_trips(feed: Feed, table: Table) -> Iterator[Fault]:
     """The faults of whole trips, trip by trip in the order of trips.txt: ends without a time, and times that go back.
     A field that is itself a fault isn't told again.
@@ -311,3 +360,7 @@ CHECKS = {
     "frequencies.txt": check_frequencies,
     "transfers.txt": check_transfers,
 }
+WHOLE: dict[str, Callable[[Feed, Table], Iterator[Fault]]] = {
+    "stop_times.txt": whole_trips,
+    "transfers.txt": too_many_footpaths,
+}  # checks of whole files, which come after those of each record

@@ -8,7 +8,7 @@ from typing import Iterator, Sequence
 import numpy as np
 
 from ..faults import BadInput
-from ..files import many_written_aside
+from ..files import is_free, many_written_aside
 from ..records import write_rows
 from . import fields
 from .check import check, names_in
@@ -62,12 +62,6 @@ def make(asked: Asked, room: Path) -> list[str]:
         with open(folder / PREPARED, "wb") as file:
             write_rows(file, CHANGE_COLUMNS, [change.row() for change in changes])
     return [*mended_lines(changes), *merged, *run_lines(feed, asked.clip.days), counted(asked.out, feed)]
-
-
-def is_free(out: Path) -> None:
-    """Tells of a folder that isn't empty, in which files of two feeds would lie side by side."""
-    if out.exists() and (not out.is_dir() or any(out.iterdir())):
-        raise BadInput(out, "is there already, and isn't empty")
 
 
 def refuse_faults(path: str, feed: Feed) -> None:

@@ -69,6 +69,7 @@ class Feed:
     name: str  # for people, and for prefixes
     tables: dict[str, Table]
     others: dict[str, Path] = field(default_factory=dict)
+    unread: dict[str, Path] = field(default_factory=dict)  # folders in the places of files
 
     def get(self, name: str) -> Table:
         """A table, without columns and records where the file isn't there."""
@@ -123,8 +124,11 @@ def read_feed(path: str | Path, room: Path, near: Near = lambda _: None) -> Feed
     given = Path(path)
     if given.is_dir():
         files = {str(it.relative_to(given)): it for it in files_in(given)}
-        chosen = files_of(given, list(files))
-        return feed_of(given, {name: files[member] for name, member in chosen.items()}, near)
+        held = {name: files[member] for name, member in files_of(given, list(files)).items()}
+        feed = feed_of(given, held, near)
+        inside = next(iter(held.values())).parent
+        feed.unread.update((name, inside / name) for name in FILES if (inside / name).is_dir())
+        return feed
     if not given.exists():
         raise BadInput(given, "no such file or folder")
     try:
@@ -200,6 +204,11 @@ def write_feed(feed: Feed, folder: Path) -> None:
 def write_table(table: Table, file: BinaryIO) -> None:
     """Writes a table, some records at a time."""
     file.write(b",".join(map(quoted, table.columns)) + b"\n")
+    write_lines(table, file)
+
+
+def write_lines(table: Table, file: BinaryIO) -> None:
+    """Writes the records of a table without its header."""
     texts = {}
     for place, (name, column) in enumerate(table.columns.items()):
         made = np.empty(len(column.values), dtype=object)

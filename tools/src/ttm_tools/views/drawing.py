@@ -4,14 +4,14 @@ reader needs to know.
 
 import math
 import textwrap
-from dataclasses import dataclass
+from dataclasses import dataclass, replace
 from typing import Any, Sequence
 
 import numpy as np
 import numpy.typing as npt
 from matplotlib import colormaps, colors
 from matplotlib.backends.backend_agg import FigureCanvasAgg
-from matplotlib.collections import LineCollection
+from matplotlib.collections import LineCollection, PolyCollection
 from matplotlib.figure import Figure
 from matplotlib.lines import Line2D
 from matplotlib.patheffects import withStroke
@@ -25,6 +25,8 @@ INCHES = 10  # the picture's width; that of the map, its greatest height, and wh
 MAP_WIDTH, MAP_HEIGHT, HEAD, EDGE = 6.7, 7.0, 0.85, 0.2
 LEAST_HEIGHT = 5.2  # of the picture, so that the key has room
 LEAST_SIDE = 0.5  # kilometres that a map shows
+FAINT, OVER_SQUARES = "#cdcdcd", "#7d7d7d"  # the colours of lines on which vehicles run
+CORNERS = np.array([[-0.5, -0.5], [0.5, -0.5], [0.5, 0.5], [-0.5, 0.5]])
 STAR = {"marker": "*", "color": "#111111"}
 LETTERS: dict[str, Any] = {
     "ha": "center",
@@ -49,11 +51,16 @@ class Lines:
 
 def running(pieces: Pieces) -> Lines:
     """The lines on which vehicles run."""
-    return Lines(pieces, "where vehicles run", "#cdcdcd", 0.9 if len(pieces) < MANY_LINES else 0.5)
+    return Lines(pieces, "where vehicles run", FAINT, 0.9 if len(pieces) < MANY_LINES else 0.5)
 
 
 def taken_out(pieces: Pieces) -> Lines:
     return Lines(pieces, "trips that are taken out", "#222222", 2.0)
+
+
+def changed(pieces: Pieces) -> Lines:
+    """Where trips give way to others."""
+    return Lines(pieces, "trips that are changed", "#882255", 1.6)
 
 
 def added(pieces: Pieces) -> Lines:
@@ -70,15 +77,19 @@ def draw(picture: Picture, stops: Stops, lines: Sequence[Lines], note: str, widt
     plain: dict[str, Any] = {"va": "top", "parse_math": False}
     figure.text(EDGE / INCHES, 1 - 0.2 / top, title, fontsize=14.5, fontweight="bold", **plain)
     figure.text(EDGE / INCHES, 1 - 0.52 / top, told, fontsize=9.5, color="#333333", **plain)
+    squares = squares_of(stops)
+    if not np.isnan(squares).all():
+        lines = [replace(kind, colour=OVER_SQUARES) if kind.colour == FAINT else kind for kind in lines]
     for number, kind in enumerate(lines):
         draw_lines(axes, kind, 1 + number / 10)
-    draw_stops(axes, picture, points)
+    draw_squares(axes, picture, points, squares)
+    draw_stops(axes, picture, np.where(np.isnan(squares)[:, None], points, np.nan))
     draw_names(axes, picture, stops, points)
     draw_scale(axes)
     place = axes.get_position()
     beside = place.x1 + EDGE / INCHES
-    draw_key(figure, (beside, place.y1), picture, points, lines)
-    notes = wrapped(" ".join(filter(None, [picture.source, note, "In brackets: number of stops."])), 44)
+    draw_key(figure, (beside, place.y1), shaped(picture, squares), points, lines)
+    notes = wrapped(" ".join(filter(None, [picture.source, note, f"In brackets: number of {picture.what}."])), 44)
     figure.text(beside, EDGE / top, notes, fontsize=8, color="#555555", va="bottom", parse_math=False)
     return figure
 
@@ -146,6 +157,30 @@ def colour_of(mark: Mark) -> str:
     if isinstance(mark.colour, str):
         return mark.colour
     return str(colors.to_hex(colormaps[mark.colour.scale](mark.colour.place)))
+
+
+def squares_of(stops: Stops) -> npt.NDArray[np.float64]:
+    """How wide the square is that is drawn in place of each stop, in kilometres; NaN where a mark is drawn."""
+    none = np.full(len(stops.identifiers), np.nan)
+    return none if stops.widths is None else stops.widths / 1000
+
+
+def shaped(picture: Picture, squares: npt.NDArray[np.float64]) -> Picture:
+    """The picture as its key shows it: squares where no mark is drawn."""
+    if np.isnan(squares).any():
+        return picture
+    return replace(picture, marks=[replace(mark, shape="s", size=1.0) for mark in picture.marks])
+
+
+def draw_squares(axes: Any, picture: Picture, points: Points, squares: npt.NDArray[np.float64]) -> None:
+    """Squares in the colours of their classes, below the lines."""
+    here = drawn(picture, points) & ~np.isnan(squares)
+    for place, mark in enumerate(picture.marks):
+        chosen = np.flatnonzero(here & (picture.classes == place))
+        corners = points[chosen][:, None, :] + squares[chosen][:, None, None] * CORNERS
+        if len(chosen):
+            how: dict[str, Any] = {"facecolors": colour_of(mark), "edgecolors": "face", "linewidths": 0.2}
+            axes.add_collection(PolyCollection(corners, zorder=0.5, **how))
 
 
 def draw_stops(axes: Any, picture: Picture, points: Points) -> None:

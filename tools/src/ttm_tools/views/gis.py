@@ -43,16 +43,20 @@ def features_of(
 ) -> Features:
     """The stops with what is asked for."""
     columns: dict[str, Any] = {}
+    drawn = matrix.stops_and_origins()
+    among = {name: place for place, name in enumerate(drawn)}
     for scenario in scenarios:
         for share in shares:
-            places = np.array([matrix.places[name] for name in matrix.origins(scenario, share)], dtype=np.intp)
+            places = np.array([among[name] for name in matrix.origins(scenario, share)], dtype=np.intp)
             for limit, access in zip(matrix.layout.limits, matrix.access(scenario, share).T):
-                column = np.full(len(matrix.stops), np.nan)
+                column = np.full(len(drawn), np.nan)
                 column[places] = access
                 columns[named(scenario, share, "access" if limit is None else f"access_{limit}")] = column
             if origin is not None:
-                columns[named(scenario, share, "seconds")] = matrix.seconds(scenario, share, origin)
-    found = stops.of(matrix.stops)
+                seconds = np.full(len(drawn), np.nan)
+                seconds[: len(matrix.stops)] = matrix.seconds(scenario, share, origin)
+                columns[named(scenario, share, "seconds")] = seconds
+    found = stops.of(drawn)
     kept = np.flatnonzero(found.placed)
     there = found.of([found.identifiers[place] for place in kept.tolist()])
     return Features(there, {name: numbers[kept] for name, numbers in columns.items()})

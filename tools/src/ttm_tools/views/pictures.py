@@ -47,8 +47,8 @@ class Mark:
 
 @dataclass(frozen=True)
 class Picture:
-    """What is to be drawn: the classes in the key's order, which of them each stop of the matrix is in, and what is
-    written beside.
+    """What is to be drawn: the classes in the key's order, which of them each stop is in, and what is written
+    beside.
     """
 
     title: str
@@ -59,6 +59,8 @@ class Picture:
     source: str
     origin: int | None = None  # the place of the stop from which one starts
     named: tuple[int, ...] = ()  # the places of stops to be named, the foremost first
+    drawn: list[str] | None = None  # the stops, where they aren't those of the matrix alone
+    what: str = "stops"  # or points
 
 
 @dataclass(frozen=True)
@@ -71,6 +73,7 @@ class Wish:
     within: int | None = None  # seconds
     breaks: tuple[float, ...] | None = None  # where classes begin: minutes, opportunities or percent
     unit: str = "opportunities"
+    what: str = "stops"  # or points
 
 
 NOT_REACHED = Mark("not reached", "#9a9a9a", "x", 0.7)
@@ -105,7 +108,8 @@ def picture_of_times(matrix: Matrix, stops: Stops, origin: str, wish: Wish) -> P
     classes = np.where(there, np.searchsorted(60 * np.array(breaks), seconds, side="left"), len(labels))
     there[matrix.places.get(origin, [])] = False
     half = f", half of them within {math.ceil(float(np.median(seconds[there])) / 60)} minutes" if there.any() else ""
-    told = f"{there.sum():,} of {len(seconds) - 1:,} other stops are reached{half}"
+    others = len(seconds) - (origin in matrix.places)
+    told = f"{there.sum():,} of {others:,} other {wish.what} are reached{half}"
     title, key = f"Travel time from {stops.name_of(origin)}", "Travel time in minutes,\nwaiting included"
     return Picture(title, told, key, marks, classes, source_told(shown(scenario), share), matrix.places.get(origin))
 
@@ -123,11 +127,10 @@ def round_breaks(least: int, most: int) -> tuple[float, ...]:
     return tuple(range((least // step + 1) * step, max(most, least + step), step)) or (most + 1,)
 
 
-def of_origins(matrix: Matrix, origins: Sequence[str], classes: Classes, otherwise: int) -> Classes:
-    """The classes of all stops, where those of the origins are known."""
-    made = np.full(len(matrix.stops), otherwise, np.intp)
-    places = np.array([matrix.places.get(name, -1) for name in origins], dtype=np.intp)
-    made[places[places >= 0]] = classes[places >= 0]
+def of_origins(drawn: Sequence[str], origins: Sequence[str], classes: Classes, otherwise: int) -> Classes:
+    """The classes of all stops that are drawn, where those of the origins are known."""
+    made, among = np.full(len(drawn), otherwise, np.intp), {name: place for place, name in enumerate(drawn)}
+    made[[among[name] for name in origins]] = classes
     return made
 
 
@@ -141,12 +144,14 @@ def picture_of_access(matrix: Matrix, stops: Stops, wish: Wish) -> Picture:
     labels = [f"less than {breaks[0]:,}", *between, f"{breaks[-1]:,} and more"]
     marks = [Mark(label, colour) for label, colour in zip(labels, reversed(shades(len(labels))))] + [NO_ORIGIN]
     found = np.searchsorted(np.array(breaks), access, side="right")
-    classes = of_origins(matrix, matrix.origins(scenario, share), found, len(labels))
+    drawn = matrix.stops_and_origins()
+    classes = of_origins(drawn, matrix.origins(scenario, share), found, len(labels))
     half, most = math.floor(float(np.median(access))), int(access.max())
-    told = f"From half of {len(access):,} stops at least {half:,} {wish.unit} are reached, at most {most:,}"
-    title = f"Access from each stop: {wish.unit}{within_told(limit)}"
+    told = f"From half of {len(access):,} {wish.what} at least {half:,} {wish.unit} are reached, at most {most:,}"
+    title = f"Access from each {wish.what[:-1]}: {wish.unit}{within_told(limit)}"
     key = f"{wish.unit.capitalize()} reached{within_told(limit)}".replace(" within", "\nwithin")
-    return Picture(title, told, key, marks, classes, source_told(shown(scenario), share))
+    source = source_told(shown(scenario), share)
+    return Picture(title, told, key, marks, classes, source, drawn=drawn)
 
 
 @dataclass(frozen=True)
@@ -204,7 +209,7 @@ def picture_of_time_difference(matrix: Matrix, stops: Stops, origin: str, wish: 
     counts = told_counts(classes, breaks, ("are cut off", "slower", "faster", "newly reached"))
     title, told = (
         f"Travel time from {stops.name_of(origin)}: {beside(pair)}",
-        f"Of {len(matrix.stops):,} stops {counts}",
+        f"Of {len(matrix.stops):,} {wish.what} {counts}",
     )
     source = source_told(beside(pair), pair.share)
     return Picture(title, told, "Change of travel time", marks, classes, source, matrix.places.get(origin))
@@ -216,7 +221,11 @@ def picture_of_access_difference(matrix: Matrix, stops: Stops, wish: Wish) -> Pi
     pair = pair_of(matrix, wish.base, wish.scenario, wish.share)
     breaks = wish.breaks or PERCENT
     words = Words(
-        "%", "lost", "gained", "cut off from half of\nthe stops or more", "joined to half of\nits stops or more"
+        "%",
+        "lost",
+        "gained",
+        f"cut off from half of\nthe {wish.what} or more",
+        f"joined to half of\nits {wish.what} or more",
     )
     marks = [*marks_of_difference(breaks, words), NO_ORIGIN]
     first, second = pair.access(place)
@@ -226,16 +235,17 @@ def picture_of_access_difference(matrix: Matrix, stops: Stops, wish: Wish) -> Pi
     classes[half_of(made.counts[:, 2], made.reached_after)] = len(marks) - 2
     classes[half_of(made.counts[:, 0], made.reached_before)] = 0
     counts = told_counts(classes, breaks, ("are cut off", "lose", "gain", "are newly joined"))
-    told = f"Of {len(classes):,} stops {counts} (by {breaks[0]:g} % or more)"
+    told = f"Of {len(classes):,} {wish.what} {counts} (by {breaks[0]:g} % or more)"
     order = np.argsort(percent, kind="stable")[:MOST_WORST]
     worst = [pair.origins[row] for row in order[percent[order] <= -breaks[0]].tolist()]
     if worst:
         most, lost = -percent[order[0]], int(first[order[0]] - second[order[0]])
         told += f"; the most: {most:.0f} % ({lost:,} {wish.unit}) at {stops.name_of(worst[0])}"
-    title = f"Access from each stop: {wish.unit}{within_told(limit)}, {beside(pair)}"
+    title = f"Access from each {wish.what[:-1]}: {wish.unit}{within_told(limit)}, {beside(pair)}"
     key, source = f"Change of access:\n{wish.unit}{within_told(limit)}", source_told(beside(pair), pair.share)
-    drawn = of_origins(matrix, pair.origins, classes, len(marks) - 1)
-    return Picture(title, told, key, marks, drawn, source, None, first_names(matrix, worst, stops))
+    drawn = matrix.stops_and_origins()
+    classes = of_origins(drawn, pair.origins, classes, len(marks) - 1)
+    return Picture(title, told, key, marks, classes, source, None, first_names(drawn, worst, stops), drawn)
 
 
 def half_of(gone: npt.NDArray[np.int64], reached: npt.NDArray[np.int64]) -> npt.NDArray[np.bool_]:
@@ -244,10 +254,9 @@ def half_of(gone: npt.NDArray[np.int64], reached: npt.NDArray[np.int64]) -> npt.
     return made
 
 
-def first_names(matrix: Matrix, ordered: Sequence[str], stops: Stops) -> tuple[int, ...]:
+def first_names(drawn: Sequence[str], ordered: Sequence[str], stops: Stops) -> tuple[int, ...]:
     """The places of the first of these stops with each name."""
-    named: dict[str, int] = {}
+    named, among = dict[str, int](), {name: place for place, name in enumerate(drawn)}
     for stop in ordered:
-        if stop in matrix.places:
-            named.setdefault(stops.names[stops.places[stop]], matrix.places[stop])
+        named.setdefault(stops.names[stops.places[stop]], among[stop])
     return tuple(named.values())

@@ -13,9 +13,9 @@ from typing import Iterator
 import numpy as np
 import numpy.typing as npt
 
-from .faults import BadInput
-from .feed import EARTH, Floats, Stops
-from .records import Rounded, rows, shown
+from ..faults import BadInput
+from ..feed import EARTH, Floats, Stops
+from ..records import Rounded, rows, shown
 
 Places = npt.NDArray[np.int64]
 HALF = [step for step in itertools.product((-1, 0, 1), repeat=3) if step >= (0, 0, 0)]
@@ -49,7 +49,9 @@ class Walks:
     origins: Places  # places among the stops
     destinations: Places
     seconds: npt.NDArray[np.int64]
-    lost: int
+    lost: int  # stops without a place
+    far: int = 0  # joined to a street that isn't near
+    apart: int = 0  # with no street in reach
 
     def rows(self) -> list[tuple[str, str, int]]:
         ends = zip(self.origins.tolist(), self.destinations.tolist(), self.seconds.tolist())
@@ -136,7 +138,18 @@ def ways(
         length = doors.inside[one] + distances(doors.point[one], doors.point[other]) + doors.inside[other]
         near = length <= metres
         found.append((a[near], b[near], length[near]))
-    inside = np.flatnonzero(entered)
+    found += inside_ways(points, stations, entrances, metres)
+    return shortest(found)
+
+
+def inside_ways(
+    points: Floats, stations: list[str], entrances: dict[str, Floats], metres: float
+) -> list[tuple[Places, Places, Floats]]:
+    """The ways between two stops within a station that lists its entrances."""
+    numbers = {station: number for number, station in enumerate(dict.fromkeys(stations))}
+    station = np.array([numbers[name] for name in stations], dtype=np.int64)
+    inside = np.flatnonzero([name in entrances for name in stations])
+    found = []
     for one, other in near_pairs(points[inside], metres):
         a, b = inside[one], inside[other]
         within = station[a] == station[b]
@@ -144,7 +157,7 @@ def ways(
         length = distances(points[a], points[b])
         near = length <= metres
         found.append((a[near], b[near], length[near]))
-    return shortest(found)
+    return found
 
 
 def shortest(found: list[tuple[Places, Places, Floats]]) -> tuple[Places, Places, Floats]:

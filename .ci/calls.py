@@ -1,0 +1,151 @@
+"""Which functions a program comes to: a walk over the sources from its `main`, by names.
+
+It reads no types. `name(..)` is the free function of that name in the same crate, else in the crates below;
+`Type::name(..)` is that type's; `.name(..)` is the method of every type that the walk has met, in these crates, and of
+every impl of a trait. So it may come to a function that no run calls, and misses what is called only by an operator,
+by `?` or by a format. It goes by the layout of `rt fmt`; tests, comments and clauses are left out.
+"""
+
+from __future__ import annotations
+
+import itertools
+import re
+from collections import defaultdict
+from collections.abc import Iterator
+from dataclasses import dataclass
+from pathlib import Path
+
+import repository
+
+FUNCTION = re.compile(r"( *)(?:pub(?:\([a-z]+\))? )?(?:(?:const|unsafe|final) )*fn (\w+)")
+TRAIT = re.compile(r"(?:pub(?:\([a-z]+\))? )?trait (\w+)")
+IMPL = re.compile(r"impl\b(?:<(?P<parameters>.*?)>(?= \w))? ?(?:(?P<trait>[\w:]+)(?:<.*>)? for )?(?P<type>\w+)")
+STRUCT = re.compile(r"(?:pub(?:\([a-z]+\))? )?(?:struct|enum) (\w+)")
+CALL = re.compile(r"(\.)?\b(?:(\w+)::)?(\w+)(?:::<[^;{}]*?>)?\(")
+TYPE = re.compile(r"\b[A-Z]\w*[a-z]\w*\b")
+CLAUSE = re.compile(r" *(?:requires|ensures|ghost)\b")
+
+
+@dataclass(frozen=True)
+class Function:
+    """A function: its crate, the type or trait that it is of, whether it is of a trait or an impl of one, its name."""
+
+    crate: str
+    owner: str
+    of_trait: bool
+    name: str
+
+
+@dataclass
+class Found:
+    """What a crate's sources have: the text of each function without its clauses, and of each type."""
+
+    functions: dict[Function, str]
+    types: dict[str, str]
+
+
+def read(crate: str, files: list[Path]) -> Found:
+    """The functions and types of a crate's files."""
+    found = Found({}, {})
+    for file in files:
+        text = (it for it in file.read_text().splitlines() if not it.strip().startswith("//"))
+        read_file(crate, text, found)
+    return found
+
+
+def read_file(crate: str, lines: Iterator[str], found: Found) -> None:
+    owner, of_trait = "", False
+    for line in lines:
+        if line == "}":
+            owner, of_trait = "", False
+        if named := TRAIT.match(line):
+            owner, of_trait = named[1], True
+        elif made := IMPL.match(line):
+            parameter = made["type"] in re.findall(r"\w+", made["parameters"] or "")
+            owner, of_trait = "" if parameter else made["type"], made["trait"] is not None
+        elif kind := STRUCT.match(line):
+            found.types[kind[1]] = found.types.get(kind[1], "") + "\n".join(rest_of(line, lines, ""))
+        elif start := FUNCTION.match(line):
+            kept = [it for it in rest_of(line, lines, start[1]) if not CLAUSE.match(it)]
+            function = Function(crate, owner, of_trait, start[2])
+            found.functions[function] = found.functions.get(function, "") + "\n".join(kept)
+
+
+def rest_of(line: str, lines: Iterator[str], indent: str) -> list[str]:
+    """The lines of an item that begins so, to its end."""
+    kept = [line]
+    while not kept[-1].endswith((";", "{}")) and (not kept[-1].endswith("{") or CLAUSE.match(kept[-1])):
+        kept.append(next(lines, ";"))
+    if kept[-1].endswith("{"):
+        kept += itertools.takewhile(lambda it: it != indent + "}", lines)
+    return kept
+
+
+class Walk:
+    """What is reached from a function: the functions so far, and the types that were met."""
+
+    def __init__(self, root: Path, crates: repository.Crates) -> None:
+        self.crates = crates
+        self.sees = {it: {it, *repository.below(crates, it)} for it in crates}
+        self.texts: dict[Function, str] = {}
+        self.types: dict[str, str] = defaultdict(str)
+        self.named: dict[str, list[Function]] = defaultdict(list)
+        for crate in crates:
+            folder = root / "crates" / crate / "src"
+            tests = repository.test_modules(folder)
+            found = read(
+                crate, [it for it in repository.files_of(folder) if it.suffix == ".rt" and it.name not in tests]
+            )
+            self.texts |= found.functions
+            for name, text in found.types.items():
+                self.types[name] += text
+        for function in self.texts:
+            self.named[function.name].append(function)
+        self.reached: set[Function] = set()
+        self.met: set[str] = set()
+
+    def start(self, crate: str, name: str) -> Walk:
+        """Walks from a free function, until nothing new is found."""
+        self.reached |= {it for it in self.named[name] if it.crate == crate and not it.owner}
+        size = (0, 0)
+        while size != (len(self.reached), len(self.met)):
+            size = (len(self.reached), len(self.met))
+            for function in list(self.reached):
+                self.meet(self.texts[function])
+                self.reached |= self.called_by(function)
+        return self
+
+    def meet(self, text: str) -> None:
+        """Notes the types of a text, and those that they are made of."""
+        left = set(TYPE.findall(text)) - self.met
+        while left:
+            self.met |= left
+            left = {it for name in left if name in self.types for it in TYPE.findall(self.types[name])} - self.met
+
+    def called_by(self, function: Function) -> set[Function]:
+        return {it for call in set(CALL.findall(self.texts[function])) for it in self.meant(function, *call)}
+
+    def meant(self, caller: Function, dot: str, path: str, name: str) -> list[Function]:
+        """The functions that a call may mean."""
+        path = caller.owner if path == "Self" else path
+        own = [it for it in self.named[name] if it.crate in self.sees[caller.crate]]
+        if dot:
+            every = [it for it in self.named[name] if it.of_trait or it in own and it.owner]
+            return [it for it in every if not it.owner or it.owner in self.met]
+        if path[:1].isupper():
+            return [it for it in own if it.owner == path]
+        free = [it for it in own if not it.owner]
+        return [it for it in free if it.crate == caller.crate] or free
+
+    def has(self, crate: str, owner: str, name: str) -> bool:
+        """Whether a type or trait of the crate has a function of this name."""
+        return any(it.crate == crate and it.owner == owner for it in self.named[name])
+
+    def comes_to(self, crate: str, path: str) -> bool:
+        """Whether a function of this name, or of this type and name, was reached; or a type or constant was named."""
+        *types, name = path.split("::")
+        owner = types[-1] if types and types[-1][:1].isupper() else ""
+        functions = [it for it in self.named[name] if it.crate == crate and owner in ("", it.owner)]
+        if functions:
+            return any(it in self.reached for it in functions)
+        return any(re.search(rf"\b{name}\b", self.texts[it]) for it in self.reached)

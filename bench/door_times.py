@@ -1,0 +1,80 @@
+#!/usr/bin/env python3
+"""Times the walks between the stops of a metropolis and points, by straight lines and along streets.
+
+    door_times.py FOLDER [--size SIZE] [--nodes N] [--points N]
+
+FOLDER gets what isn't there yet: the feed of `feedgen.py` (metro by default), the streets of `streetgen.py` with
+600,000 nodes, and 20,000 points, each about 300 metres from a stop. Printed are the time by the clock, that of the
+processor, and the peak memory of `ttm-tools points` and `ttm-tools walks`. It wants numpy, scipy and pyosmium.
+"""
+import csv
+import os
+import shutil
+import subprocess
+import sys
+import tempfile
+import time
+from pathlib import Path
+
+import numpy as np
+
+from shared import HERE, parser_of
+
+TOOLS = Path(HERE).parent / "tools" / "ttm-tools"
+PYTHON = "/usr/bin/python3" if Path("/usr/bin/python3").exists() else sys.executable
+
+
+def write_points(feed: Path, path: Path, count: int) -> None:
+    """Draws points around stops."""
+    with open(feed / "stops.txt", newline="", encoding="utf-8-sig") as file:
+        places = [(float(row["stop_lat"]), float(row["stop_lon"])) for row in csv.DictReader(file) if row["stop_lat"]]
+    draw = np.random.default_rng(1)
+    chosen = np.array(places)[draw.integers(0, len(places), count)] + draw.normal(0, 0.0027, (count, 2))
+    with open(path, "w", newline="", encoding="utf-8") as file:
+        writer = csv.writer(file, lineterminator="\n")
+        writer.writerow(["id", "lat", "lon", "people"])
+        writer.writerows([f"p{n:05}", f"{a:.6f}", f"{b:.6f}", n % 90] for n, (a, b) in enumerate(chosen.tolist()))
+
+
+def timed(words: list[str]) -> str:
+    """Runs a command of the tools, and says what it took and told."""
+    began = time.monotonic()
+    with subprocess.Popen([PYTHON, str(TOOLS), *words], stderr=subprocess.PIPE, text=True) as run:
+        assert run.stderr is not None
+        told = run.stderr.read().strip().replace("\n", "; ")
+        _, status, used = os.wait4(run.pid, 0)
+        run.returncode = os.waitstatus_to_exitcode(status)
+    busy = used.ru_utime + used.ru_stime
+    clock = f"{time.monotonic() - began:.1f} s, {busy:.1f} s of processor time, {used.ru_maxrss // 1000} MB"
+    return f"{words[0]}: {clock}, status {run.returncode}: {told}"
+
+
+def main() -> None:
+    parser = parser_of(__doc__)
+    parser.add_argument("folder", type=Path)
+    parser.add_argument("--size", default="metro")
+    parser.add_argument("--nodes", type=int, default=600_000)
+    parser.add_argument("--points", type=int, default=20_000)
+    asked = parser.parse_args()
+    feed, streets, points = (asked.folder / name for name in (asked.size, "streets.osm.pbf", "points.csv"))
+    asked.folder.mkdir(parents=True, exist_ok=True)
+    makers = [
+        (feed, ["feedgen.py", asked.size, str(feed)]),
+        (streets, ["streetgen.py", str(feed), str(streets), "--nodes", str(asked.nodes)]),
+    ]
+    for made, words in makers:
+        if not made.exists():
+            subprocess.run([PYTHON, str(Path(HERE) / words[0]), *words[1:]], check=True)
+    if not points.exists():
+        write_points(feed, points, asked.points)
+    with tempfile.TemporaryDirectory(prefix="ttm-doors-", dir=asked.folder) as room:
+        ways: list[list[str]] = [[], ["--streets", str(streets)]]
+        for more in ways:
+            out = Path(room) / "doors"
+            print(timed(["points", str(feed), str(points), "--out", str(out), *more]), flush=True)
+            print(timed(["walks", str(feed), "--out", str(Path(room) / "walks.csv"), *more]), flush=True)
+            shutil.rmtree(out, ignore_errors=True)
+
+
+if __name__ == "__main__":
+    main()

@@ -1,0 +1,110 @@
+#!/usr/bin/env python3
+"""Measures a page of `ttm-tools page`: how long it takes to make, how large it is, how soon it is shown in Chromium
+without a window, and how long a click takes until the map and the panel show its travel times.
+
+    page_trials.py [--clicks N] [--keep FILE] [--picture FILE] [--look WORDS] -- WORDS ..
+
+WORDS are those of `ttm-tools page`, but for --out: the page is written to a folder that is removed. With --keep it is
+left at a path, and with --picture what is shown at --look (what stands behind # in the address) is written as PNG.
+Needs selenium, chromium and chromedriver; for --picture Pillow.
+"""
+
+import argparse
+import io
+import random
+import shutil
+import sys
+import tempfile
+from pathlib import Path
+from typing import Any
+
+from tool_times import PYTHON, TOOLS, timed
+
+SIZE = (1280, 900)  # pixels
+SECONDS = 120  # after which a page that isn't shown is given up
+CLICK = """
+const [name, done] = arguments, frame = () => new Promise(requestAnimationFrame);
+(async () => {
+  await frame();
+  const begin = performance.now(), place = page.placeAt(page.pixelOf(head.identifiers.indexOf(name)));
+  await set({ view: "times", place });
+  const shown = performance.now();
+  await frame();
+  await new Promise((drawn) => setTimeout(drawn));
+  done([shown - begin, performance.now() - begin]);
+})();
+"""
+
+
+def started() -> Any:
+    """A browser without a window."""
+    from selenium import webdriver
+    from selenium.webdriver.chrome.service import Service
+
+    options = webdriver.ChromeOptions()
+    options.binary_location = shutil.which("chromium")
+    for word in ("--headless=new", "--no-sandbox", "--disable-gpu", "--disable-dev-shm-usage", "--hide-scrollbars"):
+        options.add_argument(word)
+    driver = webdriver.Chrome(service=Service(shutil.which("chromedriver") or ""), options=options)
+    driver.set_script_timeout(SECONDS)
+    driver.set_page_load_timeout(SECONDS)
+    how = {"width": SIZE[0], "height": SIZE[1], "deviceScaleFactor": 1, "mobile": False}
+    driver.execute_cdp_cmd("Emulation.setDeviceMetricsOverride", how)
+    return driver
+
+
+def opened(driver: Any, path: Path, words: str = "") -> float:
+    """Opens a page; the milliseconds from asking for the file until all was shown."""
+    driver.get("about:blank")
+    driver.get(path.resolve().as_uri() + (f"#{words}" if words else ""))
+    made = "begun.then(() => arguments[0](performance.getEntriesByName('shown')[0].startTime))"
+    return float(driver.execute_async_script(made))
+
+
+def clicked(driver: Any, count: int) -> list[list[float]]:
+    """The milliseconds of so many clicks on drawn places, until it was shown, and until the frame was drawn."""
+    names = driver.execute_script("return Array.from(numbers.rows).filter(isPlaced).map((it) => head.identifiers[it])")
+    drawn = random.Random(1).sample(names, min(count, len(names)))
+    return [driver.execute_async_script(CLICK, name) for name in drawn]
+
+
+def save_picture(driver: Any, path: str) -> None:
+    """What is shown, as a small PNG."""
+    from PIL import Image
+
+    whole = Image.open(io.BytesIO(driver.get_screenshot_as_png())).convert("RGB")
+    small = whole.resize((960, 960 * SIZE[1] // SIZE[0]), Image.Resampling.LANCZOS)
+    small.quantize(96, dither=Image.Dither.NONE).save(path, optimize=True)
+
+
+def main() -> None:
+    parser = argparse.ArgumentParser(description=__doc__, formatter_class=argparse.RawDescriptionHelpFormatter)
+    parser.add_argument("--clicks", type=int, default=50, help="how many places are clicked on (default 50)")
+    parser.add_argument("--keep", help="where the page is left")
+    parser.add_argument("--picture", help="where a picture is written")
+    parser.add_argument("--look", default="", help="what the picture shows")
+    parser.add_argument("words", nargs="+", help="the words of ttm-tools page")
+    asked = parser.parse_args()
+    with tempfile.TemporaryDirectory(prefix="ttm page ") as folder:
+        path = Path(asked.keep) if asked.keep else Path(folder) / "a page.html"
+        print(f"made in {timed([PYTHON, str(TOOLS), 'page', *asked.words, '--out', str(path)])}", flush=True)
+        if not path.is_file():
+            sys.exit("no page was made")
+        print(f"{path.stat().st_size / 1e6:.2f} MB", flush=True)
+        driver = started()
+        try:
+            times = sorted(opened(driver, path) for _ in range(5))
+            print(f"shown after {', '.join(f'{it:.0f}' for it in times)} ms", flush=True)
+            clicks = clicked(driver, asked.clicks)
+            for place, what in enumerate(("shown", "drawn")):
+                of = sorted(it[place] for it in clicks)
+                print(f"a click is {what} after {of[len(of) // 2]:.0f} ms, at most {of[-1]:.0f} ({len(of)} clicks)")
+            if asked.picture:
+                opened(driver, path, asked.look)
+                save_picture(driver, asked.picture)
+        finally:
+            driver.quit()
+
+
+if __name__ == "__main__":
+    main()

@@ -1,0 +1,97 @@
+"""A route that runs every so many seconds: its trips of a period give way to copies of a typical one."""
+
+from dataclasses import replace
+from typing import Sequence
+
+import numpy as np
+
+from ...prepare.fields import clock
+from ..base import Headway
+from ..choice import CHOICE, chosen, directions_of, pattern_of, told_stop
+from ..days import service_of
+from ..plan_file import Entry
+from ..state import State, Trip, in_range
+
+KEYS = ("do", *CHOICE, "every", "from", "to")
+
+
+def headway(state: State, entry: Entry) -> list[str]:
+    """In each direction of the routes, departures from the start of the period on, strictly before its end."""
+    entry.only(KEYS)
+    every, start, end = entry.whole("every", 1, 86_400), entry.time("from"), entry.time("to")
+    if end <= start:
+        raise entry.fault(f"isn't after from, {clock(start)}", "to", clock(end))
+    by_route: dict[str, list[Trip]] = {}
+    for trip in chosen(state, entry):
+        by_route.setdefault(trip.route, []).append(trip)
+    groups = [group for trips in by_route.values() for group in directions_of(trips)]
+    return [line for group in groups for line in thinned(state, entry, group, range(start, end, every), end)]
+
+
+def thinned(state: State, entry: Entry, trips: Sequence[Trip], times: range, end: int) -> list[str]:
+    """Carries it out for the trips of one direction, and names the typical one."""
+    inside = [trip for trip in trips if departures_in(trip, times.start, end)]
+    typical = typical_of(inside or trips, times.start, end)
+    service = service_of(state.base, entry, {trip.service for trip in inside or trips})
+    for trip in inside:
+        rest = without(trip, times.start, end)
+        if rest is None:
+            state.drop(trip)
+        else:
+            state.change(trip, rest)
+    for number, time in enumerate(times, 1):
+        state.add(in_range(entry, copy_of(state, typical, number, time, service)))
+    ends = " to ".join(told_stop(state, int(typical.stop[place])) for place in (0, -1))
+    count = sum(departures_in(trip, times.start, end) for trip in inside)
+    told = f"route {typical.route}, {ends}: {count:,} departures give way to {len(times):,}"
+    return [f"{told}, copies of trip {typical.label} ({len(typical.stop)} calls, {clock(typical.seconds)})"]
+
+
+def departures_in(trip: Trip, start: int, end: int) -> int:
+    """How many departures of a trip are in a period."""
+    return sum(start <= time < end for time in trip.departures)
+
+
+def typical_of(trips: Sequence[Trip], start: int, end: int) -> Trip:
+    """Of the pattern with the most departures in the period, with the most calls where several have as many, the trip
+    whose running time is the median; of several the first to leave.
+    """
+    by_pattern: dict[tuple[int, ...], list[Trip]] = {}
+    for trip in trips:
+        by_pattern.setdefault(pattern_of(trip), []).append(trip)
+
+    def weight(some: list[Trip]) -> tuple[int, int, int]:
+        return sum(departures_in(trip, start, end) for trip in some), len(some), len(some[0].stop)
+
+    some = max(by_pattern.values(), key=weight)
+    ordered = sorted(some, key=lambda trip: (trip.seconds, min(trip.departures, default=0)))
+    half = ordered[(len(ordered) - 1) // 2].seconds
+    return next(trip for trip in ordered if trip.seconds == half)
+
+
+def copy_of(state: State, typical: Trip, number: int, time: int, service: str) -> Trip:
+    """The typical trip, leaving at a time."""
+    name = state.base.trips[typical.source] if typical.source >= 0 else typical.label
+    later = time - int(typical.depart[0])
+    arrive, depart = typical.arrive + later, typical.depart + later
+    arrive[0] = depart[0]  # nobody arrives there
+    times = {"arrive": arrive, "depart": depart, "headways": ()}
+    return replace(typical, label=f"{name}#{number}", copied=True, service=service, **times)
+
+
+def without(trip: Trip, start: int, end: int) -> Trip | None:
+    """A trip without its departures of a period; none where none is left."""
+    if not trip.headways:
+        return None
+    kept = [part for it in trip.headways for part in parts(it, start, end)]
+    return replace(trip, headways=tuple(kept)) if kept else None
+
+
+def parts(row: Headway, start: int, end: int) -> list[Headway]:
+    """The departures of a row before a period, and those after it."""
+    times = np.array(row.departures, dtype=np.int64)
+    made = []
+    for some in (times[times < start], times[times >= end]):
+        if len(some):
+            made.append(Headway(int(some[0]), int(some[-1]) + 1, row.seconds, row.row))
+    return made

@@ -1,0 +1,65 @@
+"""New lines."""
+
+import numpy as np
+
+from ...prepare.fields import Whole, clock
+from ..base import NO_ROW
+from ..choice import stops_named
+from ..days import service_named
+from ..plan_file import Entry
+from ..state import State, Trip, in_range
+from .times import run_times
+
+KEYS = ("do", "route", "name", "type", "agency", "stops", "seconds", "speed", "dwell", "both", "departures")
+DAYS = ("service", "days")
+
+
+def add_line(state: State, entry: Entry) -> list[str]:
+    """A new line, in one direction or in both, with its departures from either end."""
+    entry.only((*KEYS, *DAYS))
+    route = entry.text("route")
+    if route in state.base.by_route or route in state.lines:
+        raise entry.fault("is a route already", "route", route)
+    if "@" in route:
+        raise entry.fault("can't be a new route's name; behind an @ stands a scenario", "route", route)
+    if len(entry.texts("stops")) < 2:
+        raise entry.fault("is a single stop; a line has two at least", "stops")
+    way = np.array(stops_named(state, entry, "stops"), dtype=np.int64)
+    run, dwell = run_times(state, entry, way)
+    service, times = service_named(state.base, entry), departures_of(entry)
+    state.lines[route] = named(entry)
+    for direction, (stops, seconds) in enumerate(((way, run), (way[::-1], run[::-1]))[: 1 + entry.flag("both", True)]):
+        for number, time in enumerate(times, 1):
+            arrive, depart = times_of(time, seconds, dwell)
+            label, none = f"{route}-{direction}#{number}", np.full(len(stops), NO_ROW)
+            trip = Trip(label, -1, True, route, service, str(direction), stops, arrive, depart, none, redrawn=True)
+            state.add(in_range(entry, trip))
+    length = int(run.sum()) + dwell * (len(way) - 2)
+    return [f"route {route}: {len(way):,} stops in {clock(length)}; {len(times):,} departures from each end"]
+
+
+def named(entry: Entry) -> Entry:
+    """The action, whose words for routes.txt are texts and numbers as they have to be."""
+    entry.text("name", entry.text("route"))
+    entry.text("agency", "")
+    entry.whole("type", 0, 1_702, default=3)
+    return entry
+
+
+def times_of(time: int, run: Whole, dwell: int) -> tuple[Whole, Whole]:
+    """Arrivals and departures of a trip that leaves at a time."""
+    between = np.append(np.full(len(run) - 1, dwell), 0)
+    depart = np.append(time, time + np.cumsum(run + between))
+    return np.append(time, depart[1:] - between), depart
+
+
+def departures_of(entry: Entry) -> list[int]:
+    """The departures of all periods, each once; the last one of a period counts."""
+    made = set[int]()
+    for period in entry.inner("departures"):
+        period.only(("first", "last", "every"))
+        first, last, every = period.time("first"), period.time("last"), period.whole("every", 1, 86_400)
+        if last < first:
+            raise period.fault(f"is before first, {clock(first)}", "last", clock(last))
+        made.update(range(first, last + 1, every))
+    return sorted(made)

@@ -1,0 +1,117 @@
+"""Routes and trips that are taken out or shifted, and stops at which trips no longer call."""
+
+from dataclasses import replace
+
+import numpy as np
+
+from ..choice import CHOICE, chosen, routes_of, stops_named, told_stop
+from ..plan_file import LAST_TIME, Entry, near
+from ..state import State, Trip, in_range
+
+
+def remove_route(state: State, entry: Entry) -> list[str]:
+    """Takes out all trips of routes."""
+    entry.only(("do", "route"))
+    for trip in trips_of_routes(state, entry):
+        state.drop(trip)
+    return []
+
+
+def shift_route(state: State, entry: Entry) -> list[str]:
+    """Moves all times of routes."""
+    entry.only(("do", "route", "seconds"))
+    shift(state, entry, trips_of_routes(state, entry))
+    return []
+
+
+def trips_of_routes(state: State, entry: Entry) -> list[Trip]:
+    """All trips of the routes that are named, each of which has some."""
+    made = []
+    for route in routes_of(state, entry):
+        trips = state.of_route(route)
+        if not trips:
+            raise entry.fault("has no trips in this scenario, so nothing changes", "route", route)
+        made += trips
+    return made
+
+
+def remove_trip(state: State, entry: Entry) -> list[str]:
+    """Takes out trips."""
+    entry.only(("do", "trip"))
+    for trip in trips_named(state, entry):
+        state.drop(trip)
+    return []
+
+
+def shift_trip(state: State, entry: Entry) -> list[str]:
+    """Moves all times of trips."""
+    entry.only(("do", "trip", "seconds"))
+    shift(state, entry, trips_named(state, entry))
+    return []
+
+
+def trips_named(state: State, entry: Entry) -> list[Trip]:
+    """The trips that an action names."""
+    made = []
+    for name in dict.fromkeys(entry.texts("trip")):
+        if name in state.own:
+            made.append(state.own[name])
+            continue
+        place = state.base.numbers.get(name, -1)
+        if place < 0:
+            raise entry.fault(f"is no trip of the feed{near(name, state.base.trips)}", "trip", name)
+        if not state.kept[place]:
+            told = "has no trip any more" if state.base.lengths[place] else "never runs: it has no calls at stops"
+            raise entry.fault(f"{told}, so nothing changes", "trip", name)
+        made.append(state.trip(place))
+    return made
+
+
+def shift(state: State, entry: Entry, trips: list[Trip]) -> None:
+    seconds = entry.whole("seconds", -LAST_TIME, LAST_TIME)
+    if seconds == 0:
+        raise entry.fault("changes nothing", "seconds", "0")
+    for trip in trips:
+        in_range(entry, trip.moved(seconds))
+        state.move(trip, seconds)
+
+
+def remove_stop(state: State, entry: Entry) -> list[str]:
+    """Takes calls at stops out of trips; one that is left with a single call is taken out."""
+    entry.only(("do", "stop", *CHOICE))
+    stops, lost = stops_named(state, entry, "stop"), 0
+    trips = chosen(state, entry) if entry.has("route") else trips_calling(state, stops)
+    trips = [trip for trip in trips if np.isin(trip.stop, stops).any()]
+    if not trips:
+        told = "is no stop at which these trips call, so nothing changes"
+        raise entry.fault(told, "stop", ", ".join(told_stop(state, stop) for stop in stops))
+    for trip in trips:
+        rest = kept_calls(trip, ~np.isin(trip.stop, stops))
+        if rest is None:
+            lost += 1
+            state.drop(trip)
+        else:
+            state.change(trip, in_range(entry, rest))
+    return told_lost(lost)
+
+
+def told_lost(lost: int) -> list[str]:
+    return [f"{lost:,} trips taken out that were left with a single call"] if lost else []
+
+
+def trips_calling(state: State, stops: list[int]) -> list[Trip]:
+    """All trips that call at some of the stops."""
+    base = state.base
+    calls = np.flatnonzero(np.isin(base.stop, stops))
+    places = np.unique(np.searchsorted(base.begins, calls, side="right") - 1)
+    own = [trip for trip in state.own.values() if np.isin(trip.stop, stops).any()]
+    return state.some(places[state.kept[places]]) + own
+
+
+def kept_calls(trip: Trip, kept: "np.ndarray[tuple[int, ...], np.dtype[np.bool_]]") -> Trip | None:
+    """A trip with some of its calls, at the times that they had; none where one call alone is left."""
+    if kept.sum() < 2:
+        return None
+    columns = {name: getattr(trip, name)[kept] for name in ("stop", "arrive", "depart", "row")}
+    made = replace(trip, **columns)
+    return made.leaving(int(made.depart[0] - trip.depart[0]))

@@ -1,0 +1,201 @@
+"""The feed that a plan begins from, in columns: its stops and those that the plan adds, and its trips with their calls.
+
+It is read as `ttm-tools prepare` reads a feed, and one that `ttm` would refuse is refused. It takes some 400 bytes for
+each record of stop_times.txt.
+"""
+
+import datetime
+from dataclasses import dataclass, field
+from functools import cached_property
+from pathlib import Path
+from typing import Sequence
+
+import numpy as np
+
+from ..faults import BadInput
+from ..feed import place_of
+from ..prepare.check import check
+from ..prepare.days import MOST_DAYS, Days, days_of, ordinals, texts
+from ..prepare.fields import EMPTY, MOST_STOPS, Floats, Whole, date, number, time, values_of
+from ..prepare.report import fault_lines
+from ..prepare.tables import Feed, read_feed
+from ..prepare.trips import calls_of
+from ..records import shown
+from .plan_file import Entry
+
+NO_ROW = -1  # in place of a record: a call that no record of the feed states
+
+
+@dataclass(frozen=True)
+class Headway:
+    """A row of frequencies.txt: departures from the start on, so many seconds apart, strictly before the end."""
+
+    start: int
+    end: int
+    seconds: int
+    row: int  # the record of the feed
+
+    @property
+    def departures(self) -> range:
+        return range(self.start, self.end, self.seconds)
+
+    def moved(self, seconds: int) -> "Headway":
+        """The same departures, so many seconds later; the end is the least that leaves them all."""
+        if not self.departures:
+            return self
+        return Headway(self.start + seconds, self.departures[-1] + 1 + seconds, self.seconds, self.row)
+
+
+@dataclass(frozen=True)
+class Places:
+    """Where stops stand: those of the feed at which vehicles call, in its order, and then the plan's own."""
+
+    identifiers: list[str]
+    names: list[str]
+    latitudes: Floats  # degrees; NaN where there is no place
+    longitudes: Floats
+
+    @cached_property
+    def numbers(self) -> dict[str, int]:
+        return {name: place for place, name in enumerate(self.identifiers)}
+
+
+@dataclass
+class Base:
+    """A feed, and what a plan's scenarios begin with."""
+
+    feed: Feed
+    folder: Path
+    places: Places
+    old_stops: int  # how many of the stops are the feed's
+    trips: list[str]
+    routes: list[str]  # of each trip
+    services: list[str]
+    begins: Whole  # where each trip's calls begin, and behind the last one how many there are
+    stop: Whole  # of each call, a place among the stops
+    arrive: Whole
+    depart: Whole
+    row: Whole  # the record of stop_times.txt
+    headways: dict[int, tuple[Headway, ...]] = field(default_factory=dict)
+    new_services: dict[str, list[datetime.date]] = field(default_factory=dict)  # of the plan, with their days
+
+    @cached_property
+    def lengths(self) -> Whole:
+        made: Whole = np.diff(self.begins)
+        return made
+
+    @cached_property
+    def numbers(self) -> dict[str, int]:
+        """Where each trip stands."""
+        return {name: place for place, name in enumerate(self.trips)}
+
+    @cached_property
+    def by_route(self) -> dict[str, Whole]:
+        """The trips of each route of the feed."""
+        made: dict[str, list[int]] = {name: [] for name in texts(self.feed.tables["routes.txt"], "route_id")}
+        for place, route in enumerate(self.routes):
+            made[route].append(place)
+        return {name: np.array(places, dtype=np.int64) for name, places in made.items()}
+
+    @cached_property
+    def directions(self) -> list[str]:
+        """The direction_id of each trip, empty where none is stated."""
+        return texts(self.feed.tables["trips.txt"], "direction_id")
+
+    @cached_property
+    def shapes(self) -> list[str]:
+        """The shape of each trip, empty where none is named."""
+        return texts(self.feed.tables["trips.txt"], "shape_id")
+
+    def stops_of(self, trip: int) -> list[int]:
+        """The stops at which a trip of the feed calls."""
+        return [int(stop) for stop in self.stop[self.begins[trip] : self.begins[trip + 1]]]
+
+    @cached_property
+    def short_names(self) -> dict[str, str]:
+        """The routes by the names that people use."""
+        table = self.feed.tables["routes.txt"]
+        pairs = [zip(texts(table, name), texts(table, "route_id")) for name in ("route_long_name", "route_short_name")]
+        return {shown(name): route for some in pairs for name, route in some if name}
+
+    @cached_property
+    def days(self) -> Days:
+        return days_of(self.feed)
+
+    @cached_property
+    def service_numbers(self) -> dict[str, int]:
+        """Where each service of the feed stands among the days."""
+        return {name: place for place, name in enumerate(self.days.services)}
+
+    @cached_property
+    def endless(self) -> set[str]:
+        """Services with a row of the calendar that is too long for their days to be listed."""
+        table = self.feed.get("calendar.txt")
+        start, end = (ordinals(values_of(table[name], date)) for name in ("start_date", "end_date"))
+        long = (start < 1) | (end - start >= MOST_DAYS)
+        names = texts(table, "service_id")
+        return {names[row] for row in np.flatnonzero(long)} if self.days.runs.shape[1] else set(names)
+
+
+def read_base(folder: str, new_stops: Sequence[Entry]) -> Base:
+    """Reads the folder of a feed; one that `ttm` refuses is told by its first fault."""
+    path = Path(folder)
+    if not path.is_dir():
+        raise BadInput(folder, "no folder of a feed (unzip it first)")
+    feed = read_feed(path, path)
+    faults = check(feed)
+    if faults:
+        first = next(fault_lines(faults)).removeprefix("ttm: ")
+        raise BadInput(
+            folder, f"{sum(map(len, faults)):,} faults, first {first} (ttm-tools prepare tells and mends them)"
+        )
+    table = feed.tables["trips.txt"]
+    trips, routes, services = (texts(table, name) for name in ("trip_id", "route_id", "service_id"))
+    calls = calls_of(feed.tables["stop_times.txt"], trips)
+    arrive, depart = calls.filled()
+    begins = np.concatenate([[0], np.cumsum(np.bincount(calls.trip, minlength=len(trips)))])
+    places = read_places(feed, new_stops)
+    column = feed.tables["stop_times.txt"]["stop_id"]
+    numbers = np.array([places.numbers.get(name, -1) for name in column.values] or [0], dtype=np.int64)
+    stop = numbers[column.codes[calls.rows]]
+    old = len(places.identifiers) - len(new_stops)
+    made = Base(feed, path, places, old, trips, routes, services, begins, stop, arrive, depart, calls.rows)
+    made.headways = read_headways(feed, made.numbers)
+    return made
+
+
+def read_headways(feed: Feed, numbers: dict[str, int]) -> dict[int, tuple[Headway, ...]]:
+    """The rows of frequencies.txt by trip."""
+    table = feed.get("frequencies.txt")
+    start, end = (values_of(table[name], time).tolist() for name in ("start_time", "end_time"))
+    seconds = values_of(table["headway_secs"], number).tolist()
+    made: dict[int, tuple[Headway, ...]] = {}
+    for row, trip in enumerate(texts(table, "trip_id")):
+        place = numbers[trip]
+        made[place] = (*made.get(place, ()), Headway(start[row], end[row], seconds[row], row))
+    return made
+
+
+def read_places(feed: Feed, new_stops: Sequence[Entry]) -> Places:
+    """The stops at which vehicles call, and behind them the new ones."""
+    table = feed.tables["stops.txt"]
+    kinds = values_of(table["location_type"], number)
+    rows = np.flatnonzero((kinds == 0) | (kinds == EMPTY))
+    columns = {name: texts(table, name) for name in ("stop_id", "stop_name", "stop_lat", "stop_lon")}
+    stops = [columns["stop_id"][row] for row in rows]
+    names = [shown(columns["stop_name"][row].strip()) for row in rows]
+    where = [place_of(columns["stop_lat"][row], columns["stop_lon"][row]) for row in rows]
+    taken = set(columns["stop_id"])
+    for entry in new_stops:
+        entry.only(("id", "name", "lat", "lon"))
+        stop = entry.text("id")
+        if stop in taken:
+            raise entry.fault("is there already", "id", stop)
+        taken.add(stop)
+        stops.append(stop)
+        names.append(entry.text("name", stop))
+        where.append((float(entry.number("lat", "-90", "90")), float(entry.number("lon", "-180", "180"))))
+    if new_stops and len(taken) > MOST_STOPS:
+        raise new_stops[-1].fault(f"makes {len(taken):,} stops and stations, and ttm takes {MOST_STOPS:,}", "id")
+    found = np.array(where, dtype=np.float64).reshape(-1, 2)
+    return Places(stops, names, found[:, 0], found[:, 1])

@@ -1,0 +1,107 @@
+"""Which trips an action is about, and which of them run the same way."""
+
+from typing import Sequence
+
+from ..faults import BadInput
+from ..records import shown
+from .plan_file import Entry, near
+from .state import State, Trip
+
+CHOICE = ("route", "direction", "pattern", "service")  # the keys that choose trips
+
+
+def routes_of(state: State, entry: Entry) -> list[str]:
+    """The routes that an action names."""
+    names = entry.texts("route")
+    for name in names:
+        if name not in state.base.by_route and name not in state.lines:
+            raise unknown_route(state, entry, name)
+    return list(dict.fromkeys(names))
+
+
+def unknown_route(state: State, entry: Entry, name: str) -> BadInput:
+    """The fault that names the nearest route, by its identifier or by the name that people use."""
+    by_name = state.base.short_names.get(name)
+    told = f"; the nearest is {by_name!r}, which bears this name" if by_name else near(name, state.routes())
+    return entry.fault(f"is no route of the feed or of the scenario{told}", "route", name)
+
+
+def chosen(state: State, entry: Entry) -> list[Trip]:
+    """The trips of the routes that an action names, of one direction, pattern or service where it says so."""
+    trips = [trip for route in routes_of(state, entry) for trip in state.of_route(route)]
+    if not trips:
+        raise entry.fault("has no trips in this scenario", "route", ", ".join(entry.texts("route")))
+    if entry.has("direction"):
+        direction = str(entry.whole("direction", 0, 1))
+        trips = [trip for trip in trips if trip.direction.strip() == direction]
+    if entry.has("pattern"):
+        trips = same_pattern(state, entry, trips)
+    if entry.has("service"):
+        service = entry.text("service")
+        entry.known("service", service, {trip.service for trip in trips}, "is no service of these trips")
+        trips = [trip for trip in trips if trip.service == service]
+    if not trips:
+        told = "no trip of the route has this direction_id, and this pattern and service where they are given"
+        raise entry.fault(told, "direction")
+    return trips
+
+
+def same_pattern(state: State, entry: Entry, trips: Sequence[Trip]) -> list[Trip]:
+    """The trips that call at the stops of the one that is named."""
+    name = entry.text("pattern")
+    found = [trip for trip in trips if trip.label == name]
+    if not found:
+        told = f"is no trip among these{near(name, [trip.label for trip in trips])}"
+        raise entry.fault(told, "pattern", name, "a trip that calls at the pattern's stops")
+    return [trip for trip in trips if pattern_of(trip) == pattern_of(found[0])]
+
+
+def pattern_of(trip: Trip) -> tuple[int, ...]:
+    return tuple(trip.stop.tolist())
+
+
+def directions_of(trips: Sequence[Trip]) -> list[list[Trip]]:
+    """The trips of a route by the way that they run: by direction_id where all state it, else those together whose
+    patterns have two stops in the same order.
+    """
+    if all(trip.direction.strip() in ("0", "1") for trip in trips):
+        groups: dict[str, list[Trip]] = {}
+        for trip in trips:
+            groups.setdefault(trip.direction.strip(), []).append(trip)
+        return [groups[direction] for direction in sorted(groups)]
+    by_pattern: dict[tuple[int, ...], list[Trip]] = {}
+    for trip in trips:
+        by_pattern.setdefault(pattern_of(trip), []).append(trip)
+    made: list[tuple[tuple[int, ...], list[Trip]]] = []
+    for pattern, some in sorted(by_pattern.items(), key=lambda item: (-len(item[1]), -len(item[0]))):
+        mine = next((group for lead, group in made if runs_along(pattern, lead)), None)
+        if mine is None:
+            made.append((pattern, list(some)))
+        else:
+            mine.extend(some)
+    return [group for _, group in made]
+
+
+def runs_along(pattern: Sequence[int], lead: Sequence[int]) -> bool:
+    """Whether two patterns have two stops in the same order, or one of them is a part of the other."""
+    places = {stop: place for place, stop in reversed(list(enumerate(lead)))}
+    common = [places[stop] for stop in pattern if stop in places]
+    return any(a < b for a, b in zip(common, common[1:])) or (len(pattern) < 2 and bool(common))
+
+
+def stop_named(state: State, entry: Entry, key: str, name: str) -> int:
+    """A stop of the feed or of the plan."""
+    numbers = state.base.places.numbers
+    if name not in numbers:
+        by_name = [stop for stop, told in zip(state.base.places.identifiers, state.base.places.names) if told == name]
+        told = f"; the nearest is {by_name[0]!r}, which bears this name" if by_name else near(name, numbers)
+        raise entry.fault(f"is no stop of the feed or of the plan{told}", key, name)
+    return numbers[name]
+
+
+def stops_named(state: State, entry: Entry, key: str) -> list[int]:
+    return [stop_named(state, entry, key, name) for name in entry.texts(key)]
+
+
+def told_stop(state: State, stop: int) -> str:
+    return shown(state.base.places.identifiers[stop])

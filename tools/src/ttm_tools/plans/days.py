@@ -1,0 +1,68 @@
+"""On which days the trips of a plan run: a service of the feed, or a new one."""
+
+import numpy as np
+
+from ..prepare.fields import WEEKDAYS
+from ..prepare.tables import Mask
+from .base import Base
+from .plan_file import Entry
+
+EVERY = {"daily": WEEKDAYS, "weekdays": WEEKDAYS[:5], "weekend": WEEKDAYS[5:]}
+
+
+def service_of(base: Base, entry: Entry, services: set[str]) -> str:
+    """A service that runs on the days of all of these: one of them, or a new one."""
+    names = sorted(services)
+    if len(names) == 1:
+        return names[0]
+    for name in names:
+        if name in base.endless:
+            told = "has no end, and trips of other services run there too: choose one by service"
+            raise entry.fault(f"{told}, of {', '.join(names)}", "service", name)
+    rows = {name: runs_of(base, name) for name in names}
+    union = np.any(list(rows.values()), axis=0)
+    for name, runs in rows.items():
+        if (runs == union).all():
+            return name
+    return new_service(base, "+".join(names), union)
+
+
+def runs_of(base: Base, name: str) -> Mask:
+    """On which of the days that the calendars know a service runs."""
+    if name not in base.new_services:
+        return np.asarray(base.days.runs[base.service_numbers[name]], dtype=np.bool_)
+    made = np.zeros(base.days.runs.shape[1], dtype=np.bool_)
+    made[[day.toordinal() - base.days.first for day in base.new_services[name]]] = True
+    return made
+
+
+def new_service(base: Base, name: str, runs: Mask) -> str:
+    """A service of the plan for some of the days that the calendars know, named so that none of the feed has it."""
+    while name in base.service_numbers:
+        name += "'"
+    base.new_services[name] = [base.days.day(int(place)) for place in np.flatnonzero(runs)]
+    return name
+
+
+def service_named(base: Base, entry: Entry) -> str:
+    """The service of a new line: one of the feed by its name, or one of days of the week."""
+    if entry.one_of("service", "days") == "service":
+        service = entry.text("service")
+        entry.known("service", service, base.service_numbers, "is no service of the feed")
+        return service
+    days = weekdays_of(entry)
+    weekday = (base.days.first + np.arange(base.days.runs.shape[1]) - 1) % 7
+    runs = np.isin(weekday, [WEEKDAYS.index(day) for day in days])
+    if not runs.any():
+        raise entry.fault("no such day is among those of the feed's calendars", "days", " ".join(days))
+    return new_service(base, "days-" + "".join(str(int(day in days)) for day in WEEKDAYS), runs)
+
+
+def weekdays_of(entry: Entry) -> list[str]:
+    """The days of the week that are named."""
+    named = entry.texts("days")
+    if len(named) == 1 and named[0] in EVERY:
+        return list(EVERY[named[0]])
+    for day in named:
+        entry.known("days", day, WEEKDAYS, "is no day of the week; all are 'daily', 'weekdays', 'weekend' or a list")
+    return named

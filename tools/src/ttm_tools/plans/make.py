@@ -1,0 +1,62 @@
+"""From a feed and a plan to the feed of all scenarios with their files, or to that of one."""
+
+import shlex
+from dataclasses import dataclass
+from pathlib import Path
+
+from ..faults import BadInput
+from ..files import is_free, many_written_aside
+from .base import read_base
+from .carrying_out import Finished, carried_out
+from .limits import refuse_limits, told_days
+from .plan_file import Plan, near, read_plan
+from .report import sentences, unused, write_lists
+from .scenario_files import write_scenarios
+from .writing import Written, write_all, written_of
+
+FOLDER, WORDS, REPORT = "scenarios", "scenarios.words", "scenarios.md"
+
+
+@dataclass(frozen=True)
+class Made:
+    """What is told of a folder that was written."""
+
+    lines: list[str]
+    words: str | None  # those of a run with all scenarios
+
+
+def make(feed: str, path: str, out: str, only: str | None = None) -> Made:
+    """Writes the folder of all scenarios of a plan, or of one of them alone."""
+    is_free(Path(out))
+    plan = read_plan(path)
+    if only is not None and only not in [it.name for it in plan.scenarios]:
+        raise BadInput(path, f"no scenario {only}{near(only, [it.name for it in plan.scenarios])}")
+    base = read_base(feed, plan.stops)
+    finished = [carried_out(base, it) for it in plan.scenarios if only in (None, it.name)]
+    refuse_limits(path, base, [it.state for it in finished])
+    written = written_of(base, finished, alone=only is not None)
+    lines = [*sentences(finished), *([] if only else unused(written)), *told_days(base, written.states)]
+    with many_written_aside(out) as folder:
+        write_all(written, folder)
+        write_lists(written, folder)
+        words = write_words(written, folder, out) if only is None else None
+        write_report(plan, finished, lines, folder)
+    return Made(lines, words)
+
+
+def write_words(written: Written, folder: Path, out: str) -> str:
+    """Writes the scenario files, and the words of a run with all of them."""
+    names = write_scenarios(written, folder / FOLDER)
+    words = ["--feed", out, *(str(Path(out) / FOLDER / name) for name in names)]
+    text = " ".join(map(shlex.quote, words))
+    (folder / WORDS).write_text(text + "\n", encoding="utf-8", errors="surrogateescape")
+    return text
+
+
+def write_report(plan: Plan, finished: list[Finished], lines: list[str], folder: Path) -> None:
+    """Writes what is told as a page of Markdown."""
+    names = ", ".join(it.name for it in finished)
+    text = [f"# Scenarios of {Path(plan.path).name}: {names}", ""]
+    text += [f"{line[2:]}" if line.startswith("  ") else f"- {line}" for line in lines]
+    body = "\n".join(f"  {line}" if not line.startswith(("-", "#")) and line else line for line in text)
+    (folder / REPORT).write_text(body + "\n", encoding="utf-8", errors="backslashreplace")

@@ -1,0 +1,49 @@
+"""Whether walks to new stops bring old stops nearer to one another: then today wouldn't be the feed as it was."""
+
+import os
+from typing import Iterator
+
+from ..feed import read_stops
+from ..records import rows, shown
+from ..timetable import reached_from
+
+NEW_STOPS = "new_stops.csv"
+Leaving = dict[int, list[tuple[int, int]]]  # of each stop the stops that one walks to, and the seconds
+
+
+def told_nearer(folder: str, footpaths: str) -> Iterator[str]:
+    """A sentence where walks by way of new stops of a folder of scenarios are shorter than all others, within the
+    longest of the footpaths; nothing where they aren't, or the folder has no new stops.
+    """
+    path = os.path.join(folder, NEW_STOPS)
+    names = [stop for _, (stop,) in rows(path, ["stop_id"])] if os.path.isfile(path) else []
+    if not names:
+        return
+    stops = read_stops(folder)
+    new = {stops.places[name] for name in names if name in stops.places}
+    walks: Leaving = {}
+    for _, (origin, target, text) in rows(footpaths, ["from_stop_id", "to_stop_id", "seconds"]):
+        walks.setdefault(stops.places[origin], []).append((stops.places[target], int(text)))
+    found = nearer(walks, new)
+    if found:
+        a, b, seconds, before = found[0]
+        ends = f"{shown(stops.identifiers[a])} and {shown(stops.identifiers[b])}"
+        told = f"{seconds} seconds apart by way of them, and {'out of reach' if before is None else before} without"
+        pairs = f"{len(found):,} pairs of old stops nearer, so today isn't as it was"
+        yield f"walks to new stops bring {pairs}: {ends}, {told}"
+
+
+def nearer(walks: Leaving, new: set[int]) -> list[tuple[int, int, int, int | None]]:
+    """The pairs of old stops that are nearer by way of new ones: by how many seconds one walks with them and without.
+    Walks from stops beside new ones will do, since all others go by way of these.
+    """
+    limit = max((seconds for ways in walks.values() for _, seconds in ways), default=0)
+    old = {a: [(b, seconds) for b, seconds in ways if b not in new] for a, ways in walks.items() if a not in new}
+    beside = [a for a, ways in walks.items() if a not in new and any(b in new for b, _ in ways)]
+    made: list[tuple[int, int, int, int | None]] = []
+    for a in beside:
+        before = reached_from(a, old, limit)
+        for b, seconds in reached_from(a, walks, limit).items():
+            if b not in new and seconds < before.get(b, limit + 1):
+                made.append((a, b, seconds, before.get(b)))
+    return made

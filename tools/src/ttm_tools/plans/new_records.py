@@ -1,0 +1,159 @@
+"""The records that scenarios add to the files of a feed."""
+
+from dataclasses import dataclass
+from typing import Sequence
+
+import numpy as np
+
+from ..prepare.fields import Whole, clock
+from ..prepare.tables import Table
+from ..records import Column
+from .base import Base
+from .made_tables import table_of
+from .naming import Names, own_routes, trips_written
+from .shapes import Shapes
+from .state import State, Trip
+
+NEEDED = ("trip_id", "arrival_time", "departure_time", "stop_id", "stop_sequence")
+
+
+@dataclass(frozen=True)
+class OwnTrip:
+    """A trip that is written, with the names that it has in the feed."""
+
+    trip: Trip
+    name: str
+    route: str
+    shape: str
+
+
+def own_trips(states: Sequence[State], names: Names, shapes: Shapes | None) -> list[OwnTrip]:
+    """The trips that are written, scenario by scenario."""
+    made = []
+    for state in states:
+        for trip in trips_written(state, names.alone):
+            route = names.route(state, trip.route)
+            shape = "" if shapes is None else shapes.of(trip, route)
+            made.append(OwnTrip(trip, names.trip(state, trip.label), route, shape))
+    return made
+
+
+def heads(base: Base, name: str, needed: Sequence[str]) -> list[str]:
+    """The columns of a file, and those that new records need."""
+    return list(dict.fromkeys((*base.feed.get(name).columns, *needed)))
+
+
+def row_of(table: Table, row: int) -> dict[str, str]:
+    """A record as it stands."""
+    return {name: table.text(name, row) for name in table.columns}
+
+
+def new_stops(base: Base, used: Sequence[int]) -> Table:
+    """The plan's own stops at which some scenario calls."""
+    places, needed = base.places, ("stop_id", "stop_name", "stop_lat", "stop_lon")
+    rows = [
+        dict(zip(needed, (places.identifiers[it], places.names[it], degrees(places.latitudes[it]), degrees(east))))
+        for it in used
+        for east in [places.longitudes[it]]
+    ]
+    return table_of("stops.txt", heads(base, "stops.txt", needed if rows else ()), rows)
+
+
+def degrees(number: float) -> str:
+    return f"{number:.6f}".rstrip("0").rstrip(".")
+
+
+def new_routes(base: Base, states: Sequence[State], names: Names) -> Table:
+    """The routes of the scenarios' own trips: new lines, and copies of the feed's."""
+    table = base.feed.tables["routes.txt"]
+    places = {table.text("route_id", row): row for row in range(len(table))}
+    agency = table.text("agency_id", 0) if len(table) else ""
+    rows, lined = list[dict[str, str]](), False
+    for state in states:
+        for route in own_routes(state):
+            name = names.route(state, route)
+            if route in state.lines:
+                entry, lined = state.lines[route], True
+                words = {"route_short_name": entry.text("name", route), "agency_id": entry.text("agency", "") or agency}
+                rows.append({"route_id": name, "route_type": str(entry.whole("type", 0, 1_702, default=3)), **words})
+            elif name != route:
+                rows.append({**row_of(table, places[route]), "route_id": name})
+    needed = ("route_id", "route_short_name", "route_type") if lined else ("route_id",)
+    return table_of("routes.txt", heads(base, "routes.txt", needed if rows else ()), rows)
+
+
+def new_trips(base: Base, own: Sequence[OwnTrip]) -> Table:
+    """The records of trips: those of their sources, but for what is another; they belong to no block."""
+    table, rows = base.feed.tables["trips.txt"], list[dict[str, str]]()
+    for it in own:
+        named = {"trip_id": it.name, "route_id": it.route, "service_id": it.trip.service}
+        old = row_of(table, it.trip.source) if it.trip.source >= 0 else {"direction_id": it.trip.direction}
+        shape = it.shape if it.trip.redrawn else old.get("shape_id", "")
+        rows.append({**old, **named, "shape_id": shape, "block_id": ""})
+    needed = ["route_id", "service_id", "trip_id"]
+    needed += ["shape_id"] if any(it.trip.redrawn and it.shape for it in own) else []
+    needed += ["direction_id"] if any(it.trip.source < 0 for it in own) else []
+    return table_of("trips.txt", heads(base, "trips.txt", needed if rows else ()), rows)
+
+
+def new_stop_times(base: Base, own: Sequence[OwnTrip]) -> Table:
+    """The calls of trips; other fields than places and times are those of the records that they come from."""
+    table = base.feed.tables["stop_times.txt"]
+    counts = np.array([len(it.trip.stop) for it in own], dtype=np.int64)
+    number = np.repeat(np.arange(len(own)), counts)
+    sequence = np.arange(len(number)) - np.repeat(np.cumsum(counts) - counts, counts)
+    redrawn = np.array([it.trip.redrawn for it in own] or [False], dtype=np.bool_)[number]
+    arrive, depart = (together([timed(it.trip, name) for it in own]) for name in ("arrive", "depart"))
+    row = together([it.trip.row for it in own])
+    made = {
+        "trip_id": Column([it.name for it in own], number.astype(np.int32)),
+        "arrival_time": clocks(arrive),
+        "departure_time": clocks(depart),
+        "stop_id": Column(base.places.identifiers, together([it.trip.stop for it in own]).astype(np.int32)),
+        "stop_sequence": Column([str(it) for it in range(int(counts.max(initial=0)))], sequence.astype(np.int32)),
+    }
+    for name, column in table.columns.items():
+        if name not in made:
+            kept = (row >= 0) & ~(redrawn & (name == "shape_dist_traveled"))
+            codes = np.where(kept, column.codes[np.maximum(row, 0)] if len(column.codes) else 0, len(column.values))
+            made[name] = Column([*column.values, ""], codes.astype(np.int32))
+    ordered = {name: made[name] for name in heads(base, "stop_times.txt", NEEDED if own else ())}
+    return Table("stop_times.txt", ordered, np.zeros(len(number), np.int64))
+
+
+def timed(trip: Trip, name: str) -> Whole:
+    """Times of a trip that a feed can state: where headways say when it runs, from midnight on."""
+    made: Whole = getattr(trip, name)
+    return made - min(0, int(trip.arrive[0])) if trip.headways else made
+
+
+def together(columns: Sequence[Whole]) -> Whole:
+    return np.concatenate([np.zeros(0, np.int64), *columns])
+
+
+def clocks(seconds: Whole) -> Column:
+    """Times as texts."""
+    found, codes = np.unique(seconds, return_inverse=True)
+    return Column([clock(it) for it in found.tolist()], codes.astype(np.int32))
+
+
+def new_headways(base: Base, own: Sequence[OwnTrip]) -> Table:
+    """The rows of frequencies.txt."""
+    table, rows = base.feed.get("frequencies.txt"), list[dict[str, str]]()
+    for it in own:
+        for headway in it.trip.headways:
+            times = {"start_time": clock(headway.start), "end_time": clock(headway.end)}
+            rows.append({**row_of(table, headway.row), "trip_id": it.name, **times})
+    return table_of("frequencies.txt", list(table.columns), rows)
+
+
+def new_days(base: Base, own: Sequence[OwnTrip]) -> Table:
+    """The days of new services, as days that are added."""
+    used = sorted({it.trip.service for it in own} & base.new_services.keys())
+    rows = [
+        {"service_id": name, "date": day.strftime("%Y%m%d"), "exception_type": "1"}
+        for name in used
+        for day in base.new_services[name]
+    ]
+    needed = ("service_id", "date", "exception_type") if rows else ()
+    return table_of("calendar_dates.txt", heads(base, "calendar_dates.txt", needed), rows)

@@ -1,0 +1,67 @@
+"""The scenario files of a feed that has the trips of all scenarios: each takes out what a scenario hasn't."""
+
+from pathlib import Path
+from typing import Iterator, Sequence
+
+import numpy as np
+
+from ..faults import BadInput
+from ..records import write_rows
+from .carrying_out import Finished
+from .naming import own_routes
+from .plan_file import TAKEN
+from .state import State
+from .writing import Written
+
+HEADER = ["action", "id", "seconds"]
+MOST_RECORDS = 100_000
+TODAY = TAKEN[1]
+Record = tuple[str, str, str]
+
+
+def records_of(written: Written, mine: Finished | None) -> list[Record]:
+    """What the file of a scenario says; of today, which changes nothing, where there is none."""
+    made = [] if mine is None else list(own_records(mine.state))
+    for other in written.finished:
+        if mine is None or other.name != mine.name:
+            state = other.state
+            made += [("remove_route", written.names.route(state, route), "") for route in own_routes(state)]
+    return made
+
+
+def own_records(state: State) -> Iterator[Record]:
+    """What a scenario takes out of the feed, and what it shifts."""
+    base, runs = state.base, state.base.lengths > 0
+    for route, places in base.by_route.items():
+        if not len(places) or not runs[places].any():
+            continue
+        if not state.kept[places].any():
+            yield ("remove_route", route, "")
+            continue
+        yield from (("remove_trip", base.trips[it], "") for it in places[runs[places] & ~state.kept[places]])
+    for place in np.flatnonzero(state.kept & (state.shift != 0)):
+        yield ("shift_trip", base.trips[place], str(int(state.shift[place])))
+
+
+def refuse_long(mine: Finished, made: Sequence[Record]) -> None:
+    """Tells a scenario whose file is longer than `ttm` takes."""
+    if len(made) > MOST_RECORDS:
+        told = f"takes a scenario file of {len(made):,} records, and ttm {MOST_RECORDS:,}: fewer trips, or whole routes"
+        raise mine.planned.entry.fault(told, "name", mine.name)
+
+
+def write_scenarios(written: Written, folder: Path) -> list[str]:
+    """Writes the files of today and of all scenarios to a folder, and gives their names, that of today first."""
+    folder.mkdir()
+    names = []
+    for mine in (None, *written.finished):
+        made = records_of(written, mine)
+        if mine is not None:
+            refuse_long(mine, made)
+        elif len(made) > MOST_RECORDS:
+            raise BadInput(f"{TODAY}.csv", f"would have {len(made):,} records, and ttm takes {MOST_RECORDS:,}")
+        name = f"{TODAY if mine is None else mine.name}.csv"
+        with open(folder / name, "wb") as file:
+            write_rows(file, HEADER, made)
+        names.append(name)
+    return names

@@ -1,0 +1,93 @@
+"""Along which lines trips run that go another way than the feed's, where it has shapes: a shape that is cut where a
+trip ends earlier, and goes straight from stop to stop where it is new.
+"""
+
+import math
+from dataclasses import dataclass, field
+from pathlib import Path
+
+import numpy as np
+
+from ..prepare.days import texts
+from ..prepare.tables import Table, read_table
+from ..records import number_of
+from .base import Base
+from .made_tables import table_of
+from .state import Trip
+
+NAME = "shapes.txt"
+COLUMNS = ("shape_id", "shape_pt_lat", "shape_pt_lon", "shape_pt_sequence")
+Points = list[tuple[float, float]]  # latitude and longitude
+
+
+@dataclass
+class Shapes:
+    """The shapes of a feed, and those that are made."""
+
+    base: Base
+    old: dict[str, Points]
+    made: dict[str, Points] = field(default_factory=dict)
+    known: dict[tuple[str, str, tuple[int, ...]], str] = field(default_factory=dict)
+
+    def of(self, trip: Trip, route: str) -> str:
+        """The name of a trip's shape; "" for one whose shape isn't made anew, or that has too few places."""
+        if not trip.redrawn:
+            return ""
+        source = self.base.shapes[trip.source] if trip.source >= 0 else ""
+        key = (route, source, tuple(trip.stop.tolist()))
+        if key not in self.known:
+            points = self.points_of(trip, self.old.get(source, []))
+            name = f"{route}-{len([it for it in self.known if it[0] == route]) + 1}"
+            while name in self.old:
+                name += "'"
+            self.known[key] = name if len(points) > 1 else ""
+            if len(points) > 1:
+                self.made[name] = points
+        return self.known[key]
+
+    def places(self, stops: list[int]) -> Points:
+        where = self.base.places
+        found = [(float(where.latitudes[it]), float(where.longitudes[it])) for it in stops]
+        return [it for it in found if not math.isnan(it[0])]
+
+    def points_of(self, trip: Trip, old: Points) -> Points:
+        """The line of a trip: its source's as far as it has the source's stops, and straight ones beyond."""
+        stops = trip.stop.tolist()
+        before = self.base.stops_of(trip.source) if trip.source >= 0 else []
+        common = [place for place, stop in enumerate(stops) if stop in set(before)]
+        if not old or len(common) < 2:
+            return self.places(stops)
+        first, last = common[0], common[-1]
+        begin, end = self.places([stops[first]]), self.places([stops[last]])
+        start = nearest(old, begin[0]) if begin and stops[first] != before[0] else 0
+        stop = nearest(old, end[0]) if end and stops[last] != before[-1] else len(old) - 1
+        return [*self.places(stops[:first]), *old[start : max(start, stop) + 1], *self.places(stops[last + 1 :])]
+
+    def table(self, columns: list[str]) -> Table:
+        """The shapes that were made, as records."""
+        rows = [
+            dict(zip(COLUMNS, (name, f"{north:.6f}", f"{east:.6f}", str(number))))
+            for name, points in self.made.items()
+            for number, (north, east) in enumerate(points, 1)
+        ]
+        return table_of(NAME, list(dict.fromkeys((*columns, *(COLUMNS if rows else ())))), rows)
+
+
+def nearest(points: Points, place: tuple[float, float]) -> int:
+    """The point that is nearest to a place."""
+    narrow = math.cos(math.radians(place[0]))
+    found = np.array(points)
+    away = (found[:, 0] - place[0]) ** 2 + ((found[:, 1] - place[1]) * narrow) ** 2
+    return int(np.argmin(away))
+
+
+def read_shapes(base: Base, path: Path) -> Shapes:
+    """The shapes of a feed that the sources of trips run along."""
+    table = read_table(NAME, path)
+    columns = [texts(table, name) for name in COLUMNS]
+    found: dict[str, list[tuple[float, float, float]]] = {}
+    for name, north, east, number in zip(*columns):
+        point = (number_of(number), number_of(north), number_of(east))
+        if not any(map(math.isnan, point)):
+            found.setdefault(name, []).append(point)
+    return Shapes(base, {name: [(north, east) for _, north, east in sorted(it)] for name, it in found.items()})

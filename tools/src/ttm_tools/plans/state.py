@@ -1,0 +1,186 @@
+"""What a scenario has while its actions are carried out: the trips of the feed that it keeps, by how much they are
+shifted, and trips of its own.
+"""
+
+from dataclasses import dataclass, field, replace
+
+import numpy as np
+
+from ..prepare.fields import Whole, clock
+from ..prepare.tables import Mask
+from .base import Base, Headway
+from .plan_file import LAST_TIME, Entry
+
+LAST_LABEL = 2_000_000  # seconds from which on `ttm` takes no times of a day
+
+
+@dataclass(frozen=True)
+class Trip:
+    """A trip with its calls."""
+
+    label: str  # what it is called; a trip that stands for one of the feed has that one's name
+    source: int  # the trip of the feed whose other fields it takes over; -1 for a new line's
+    copied: bool  # whether it stands beside its source, and not for it
+    route: str
+    service: str
+    direction: str
+    stop: Whole  # places among the stops
+    arrive: Whole  # seconds since midnight; with headways only their differences count
+    depart: Whole
+    row: Whole  # the record of stop_times.txt that each call takes other fields from, NO_ROW for none
+    headways: tuple[Headway, ...] = ()
+    redrawn: bool = False  # whether it runs along another line than its source
+
+    @property
+    def departures(self) -> list[int]:
+        """When it leaves its first stop."""
+        if self.headways:
+            return [time for it in self.headways for time in it.departures]
+        return [int(self.depart[0])]
+
+    @property
+    def seconds(self) -> int:
+        """From the first departure to the last arrival."""
+        return int(self.arrive[-1] - self.depart[0])
+
+    def moved(self, seconds: int) -> "Trip":
+        """The same trip so many seconds later."""
+        if self.headways:
+            return replace(self, headways=tuple(it.moved(seconds) for it in self.headways))
+        return replace(self, arrive=self.arrive + seconds, depart=self.depart + seconds)
+
+    def leaving(self, seconds: int) -> "Trip":
+        """The same trip, with headways that are so many seconds later; its own times stay."""
+        return replace(self, headways=tuple(it.moved(seconds) for it in self.headways))
+
+
+@dataclass(frozen=True)
+class Change:
+    """What an action did to a trip."""
+
+    what: str  # taken out, shifted, changed or added
+    trip: str  # as it was called before; "" where there was none
+    now: str  # and afterwards, a label
+    route: str
+    seconds: int = 0  # of a shift
+
+
+@dataclass(frozen=True)
+class Counts:
+    """How much a scenario has."""
+
+    trips: int  # with calls
+    stops: int  # at which trips call
+    events: int  # calls of these trips
+
+
+@dataclass
+class State:
+    """A scenario's trips."""
+
+    base: Base
+    name: str
+    kept: Mask = field(init=False)  # of the feed's trips
+    shift: Whole = field(init=False)  # seconds
+    own: dict[str, Trip] = field(default_factory=dict)  # by their labels
+    lines: dict[str, Entry] = field(default_factory=dict)  # new routes, with the actions that add them
+    changes: list[Change] = field(default_factory=list)  # of the action that is carried out
+    used: set[str] = field(default_factory=set)  # labels
+
+    def __post_init__(self) -> None:
+        self.kept = self.base.lengths > 0
+        self.shift = np.zeros(len(self.base.trips), dtype=np.int64)
+        self.calls = np.bincount(self.base.stop, minlength=len(self.base.places.identifiers))
+        self.trips, self.events = int(self.kept.sum()), len(self.base.stop)
+
+    def counts(self) -> Counts:
+        return Counts(self.trips, int(np.count_nonzero(self.calls)), self.events)
+
+    def trip(self, place: int) -> Trip:
+        """A trip of the feed as the scenario has it."""
+        base = self.base
+        span = slice(base.begins[place], base.begins[place + 1])
+        calls = (base.stop[span], base.arrive[span], base.depart[span], base.row[span])
+        name, headways = base.trips[place], base.headways.get(place, ())
+        direction = base.directions[place]
+        made = Trip(name, place, False, base.routes[place], base.services[place], direction, *calls, headways)
+        seconds = int(self.shift[place])
+        return made.moved(seconds) if seconds else made
+
+    def of_route(self, route: str) -> list[Trip]:
+        """The trips of a route, those of the feed first."""
+        places = self.base.by_route.get(route, np.zeros(0, np.int64))
+        return self.some(places[self.kept[places]]) + [it for it in self.own.values() if it.route == route]
+
+    def some(self, places: Whole) -> list[Trip]:
+        return [self.trip(place) for place in places.tolist()]
+
+    def routes(self) -> list[str]:
+        """The routes that can be named: the feed's, and the scenario's new ones."""
+        return [*self.base.by_route, *self.lines]
+
+    def drop(self, trip: Trip) -> None:
+        """Takes a trip out."""
+        self.leave(trip)
+        self.changes.append(Change("taken out", trip.label, "", trip.route))
+
+    def leave(self, trip: Trip) -> None:
+        if trip.label in self.own:
+            del self.own[trip.label]
+        else:
+            self.kept[trip.source] = False
+        self.count(trip, -1)
+
+    def count(self, trip: Trip, by: int) -> None:
+        np.add.at(self.calls, trip.stop, by)
+        self.trips += by
+        self.events += by * len(trip.stop)
+
+    def add(self, trip: Trip) -> None:
+        """Puts a new trip in; its label becomes one that no other has."""
+        made = replace(trip, label=self.free(trip.label))
+        self.put(made)
+        self.changes.append(Change("added", "", made.label, made.route))
+
+    def put(self, trip: Trip) -> None:
+        self.used.add(trip.label)
+        self.own[trip.label] = trip
+        self.count(trip, 1)
+
+    def free(self, label: str) -> str:
+        """A label that no trip has, nor one of the feed."""
+        while label in self.used or label in self.base.numbers:
+            label += "'"
+        return label
+
+    def change(self, before: Trip, after: Trip) -> None:
+        """Puts a trip in another's place."""
+        self.leave(before)
+        self.put(after)
+        self.changes.append(Change("changed", before.label, after.label, after.route))
+
+    def move(self, trip: Trip, seconds: int) -> None:
+        """Shifts a trip."""
+        if trip.label in self.own:
+            self.own[trip.label] = trip.moved(seconds)
+        else:
+            self.shift[trip.source] += seconds
+        self.changes.append(Change("shifted", trip.label, trip.label, trip.route, seconds))
+
+
+def in_range(entry: Entry, trip: Trip) -> Trip:
+    """The trip, all of whose times a feed can state, and `ttm` takes."""
+    departures = trip.departures
+    first, last = (min(departures), max(departures)) if departures else (0, 0)
+    begin = first if trip.headways else int(trip.arrive.min())
+    end = last if trip.headways else int(trip.depart.max())
+    if begin < 0 or end > LAST_TIME or last + int(trip.depart[-1] - trip.depart[0]) >= LAST_LABEL:
+        told = f"trip {trip.label} would be under way at {signed(begin if begin < 0 else end)}"
+        raise entry.fault(f"{told}; times go from 0:00:00 to 167:59:59", "do", str(entry.values.get("do")))
+    if (trip.depart < trip.arrive).any() or (trip.arrive[1:] < trip.depart[:-1]).any():
+        raise entry.fault(f"makes times of trip {trip.label} go back", "do", str(entry.values.get("do")))
+    return trip
+
+
+def signed(seconds: int) -> str:
+    return clock(seconds) if seconds >= 0 else f"-{clock(-seconds)}"

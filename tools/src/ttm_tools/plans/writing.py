@@ -1,0 +1,154 @@
+"""The feed of all scenarios, and that of one.
+
+The feed of all has the files of the feed that the plan begins from, as they are, and behind their records those of the
+scenarios. The feed of one has its trips alone.
+"""
+
+import shutil
+from dataclasses import dataclass
+from pathlib import Path
+from typing import Sequence
+
+import numpy as np
+
+from ..faults import BadInput
+from ..prepare.days import texts
+from ..prepare.fields import MOST_BYTES
+from ..prepare.merge import behind
+from ..prepare.tables import Mask, Table, read_table, write_lines, write_table
+from ..records import names_of as columns_of
+from ..records import records
+from . import new_records as new
+from .base import Base
+from .carrying_out import Finished
+from .naming import Names, names_of
+from .shapes import NAME as SHAPES
+from .shapes import Shapes, read_shapes
+from .state import State
+
+BLOCK = 1 << 24
+OF_TRIPS = ("trip_id", "from_trip_id", "to_trip_id")  # columns that name trips
+
+
+@dataclass(frozen=True)
+class Written:
+    """What is written: the feed's scenarios, and what theirs is called in it."""
+
+    base: Base
+    finished: Sequence[Finished]
+    names: Names
+
+    @property
+    def states(self) -> list[State]:
+        return [it.state for it in self.finished]
+
+
+def written_of(base: Base, finished: Sequence[Finished], alone: bool) -> Written:
+    return Written(base, finished, names_of(base, finished, alone))
+
+
+def used_stops(written: Written) -> list[int]:
+    """The plan's own stops at which some scenario calls."""
+    calls = np.sum([state.calls for state in written.states], axis=0)
+    old = written.base.old_stops
+    return [int(place) + old for place in np.flatnonzero(calls[old:])]
+
+
+def write_all(written: Written, folder: Path) -> None:
+    """Writes the files of a feed."""
+    base, names = written.base, written.names
+    redrawn = any(trip.redrawn for state in written.states for trip in state.own.values())
+    shapes = read_shapes(base, base.feed.others[SHAPES]) if redrawn and SHAPES in base.feed.others else None
+    own = new.own_trips(written.states, names, shapes)
+    tables = [
+        new.new_stops(base, used_stops(written)),
+        new.new_routes(base, written.states, names),
+        new.new_trips(base, own),
+        new.new_stop_times(base, own),
+        new.new_headways(base, own),
+        new.new_days(base, own),
+    ]
+    made = {table.name: table for table in tables}
+    gone = taken_out(base, written.states[0]) if names.alone else None
+    write_tables(base, made, gone, folder)
+    write_others(base, shapes, gone, folder)
+
+
+def taken_out(base: Base, state: State) -> set[str]:
+    """The trips of the feed that stand in the feed of one scenario no more, whether it has others of their names."""
+    away = (base.lengths > 0) & ~(state.kept & (state.shift == 0))
+    return {base.trips[place] for place in np.flatnonzero(away)}
+
+
+def write_tables(base: Base, made: dict[str, Table], gone: set[str] | None, folder: Path) -> None:
+    """Writes the files that `ttm` reads."""
+    lost = None if gone is None else gone - set(texts(made["trips.txt"], "trip_id"))
+    for name in dict.fromkeys((*base.feed.tables, *made)):
+        old, more = base.feed.get(name), made.get(name)
+        if gone is not None and name in base.feed.tables:
+            away = lost if name == "transfers.txt" else gone
+            old = without_trips(old, away or set())
+        if more is None:
+            more = Table(name, {}, np.zeros(0, np.int64))
+        if len(more) or name in base.feed.tables:
+            put_together(old, more, folder / name)
+        if (folder / name).exists() and (folder / name).stat().st_size > MOST_BYTES:
+            raise BadInput(name, f"would have more bytes than ttm takes; allowed: {MOST_BYTES:,}: fewer scenarios")
+
+
+def without_trips(table: Table, gone: set[str]) -> Table:
+    """A table without the records that name some trips."""
+    kept: Mask = np.ones(len(table), dtype=np.bool_)
+    for name in OF_TRIPS:
+        column = table[name]
+        there = np.array([text not in gone for text in column.values] or [True], dtype=np.bool_)
+        kept &= there[column.codes]
+    made = Table(table.name, dict(table.columns), table.records, table.source)
+    made.keep(kept)
+    return made
+
+
+def put_together(old: Table, more: Table, path: Path) -> None:
+    """Writes a table with further records behind: the file that it was read from as it is, where that can be."""
+    if old.source is None or not can_go_on(old, more):
+        with open(path, "wb") as file:
+            write_table(behind(old, more) if len(more) else old, file)
+        return
+    shutil.copyfile(old.source, path)
+    if not len(more):
+        return
+    with open(path, "r+b") as file:
+        file.seek(-1, 2)
+        ended = file.read(1) in (b"\n", b"\r")
+        file.write(b"" if ended else b"\n")
+        ordered = {name: more[name] for name in columns_of(old.source)}
+        write_lines(Table(more.name, ordered, more.records), file)
+
+
+def can_go_on(old: Table, more: Table) -> bool:
+    """Whether records can be written behind those of a file: it has their columns, each once, and no quote is open."""
+    if old.source is None or not len(more):
+        return old.source is not None
+    _, header = next(records(old.source), (1, list[str]()))
+    quotes = 0
+    with open(old.source, "rb") as file:
+        while block := file.read(BLOCK):
+            quotes += block.count(b'"')
+    known = columns_of(old.source)
+    return quotes % 2 == 0 and len(header) == len(known) and set(more.columns) <= set(known)
+
+
+def write_others(base: Base, shapes: Shapes | None, gone: set[str] | None, folder: Path) -> None:
+    """Writes the files that `ttm` doesn't read: shapes with those that were made, all others as they are, without the
+    trips that are gone.
+    """
+    for name, path in base.feed.others.items():
+        named = name.endswith(".txt") and gone and "trip_id" in columns_of(path)
+        if named and gone:
+            put_together(
+                without_trips(read_table(name, path), gone), Table(name, {}, np.zeros(0, np.int64)), folder / name
+            )
+        elif name == SHAPES and shapes is not None:
+            put_together(read_table(name, path), shapes.table(columns_of(path)), folder / name)
+        else:
+            shutil.copyfile(path, folder / name)

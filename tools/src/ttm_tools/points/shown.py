@@ -1,0 +1,51 @@
+"""What is shown of a matrix: points alone where it has them, with their names and places."""
+
+import os
+
+import numpy as np
+
+from ..faults import BadInput
+from ..feed import Stops, read_stops
+from ..matrices import Matrix
+from ..matrices.chosen import Chosen
+from .study import POINTS
+from .table import Points, read_points
+
+
+def points_in(feed: str | None) -> str | None:
+    """The points of a feed that `ttm-tools points` wrote; None for another one."""
+    path = os.path.join(feed, POINTS) if feed is not None else ""
+    return path if os.path.isfile(path) else None
+
+
+def shown_of(matrix: Matrix, feed: str | None, points: str | None) -> tuple[Matrix, Stops | None]:
+    """What is shown, and names and places for it: of points where a file of them is named, or lies in the feed's
+    folder. Without a feed nothing but points has a place.
+    """
+    stops, path = read_stops(feed) if feed is not None else None, points or points_in(feed)
+    if path is None:
+        return matrix, stops
+    found = read_points(path)
+    made = Chosen(matrix, found.identifiers)
+    if points is not None and not made.is_any:
+        raise BadInput(matrix.path, f"it has no point of {points}")
+    return made, with_points(stops, found) if stops is not None else found.as_stops()
+
+
+def with_points(stops: Stops, points: Points) -> Stops:
+    """The stops of a feed, of which some are points: with widths, and with those points behind them that it hasn't."""
+    new = np.array([place for place, name in enumerate(points.identifiers) if name not in stops.places], dtype=np.intp)
+    more = points.only(new).as_stops()
+    known = dict(zip(points.identifiers, points.widths.tolist()))
+    names = stops.identifiers + more.identifiers
+    widths = np.array([known.get(name, np.nan) for name in names])
+    return Stops(
+        stops.path,
+        names,
+        stops.names + more.names,
+        np.concatenate([stops.latitudes, more.latitudes]),
+        np.concatenate([stops.longitudes, more.longitudes]),
+        np.concatenate([stops.kinds, more.kinds]),
+        stops.stations + more.stations,
+        widths,
+    )

@@ -1,0 +1,279 @@
+"""A folder with what a run of `ttm` from point to point needs: the feed with the points as stops, and their walks.
+
+A journey from point to point begins and ends with a walk, or is one. Points are stops without trips, and the walks
+between points and stops are footpaths, so that `ttm` itself puts walks and rides together, minute by minute.
+"""
+
+import itertools
+import re
+import shlex
+import shutil
+from dataclasses import dataclass
+from pathlib import Path
+from typing import Callable, Iterator, Sequence
+
+import numpy as np
+import numpy.typing as npt
+
+from ..faults import BadInput, some
+from ..feed import Stops, read_stops
+from ..files import is_free, many_written_aside
+from ..records import Rounded, places_of, records, shown, write_rows
+from ..walks import Walks, told as what_is_told
+from .table import Points, plain
+
+MOST_STOPS, MOST_PAIRS = 65_535, 4_000_000  # that `ttm` takes
+FEED, POINTS, WORDS = "feed", "points.csv", "words.txt"
+SCENARIOS, NEW_STOPS = "scenarios", "new_stops.csv"  # of a plan, beside its feed
+HELPS = "--leave-out leaves out points without a stop in reach; or take parts of the region"
+PLACE = ("stop_name", "stop_lat", "stop_lon")
+Walker = Callable[[Stops], Walks]
+Flags = npt.NDArray[np.bool_]
+
+
+@dataclass(frozen=True)
+class Asked:
+    """What is asked for."""
+
+    feed: str  # the folder of an unpacked feed
+    out: str  # the folder that is written
+    files: Sequence[Points]
+    begins: Sequence[bool]  # of each file, whether journeys begin at its points
+    ends: Sequence[bool]  # and whether they end there
+    limit: int  # the longest walk, seconds
+    leaves_out: bool  # points from which no stop is in reach
+    near: float  # metres to a street, for what is told
+
+
+@dataclass(frozen=True)
+class Study:
+    """All points of a study, one file after the other, under identifiers that no stop has."""
+
+    points: Points
+    file: npt.NDArray[np.intp]  # of each point the place of its file
+
+    def of_files(self, chosen: Sequence[bool]) -> list[str]:
+        """The points of some files."""
+        kept = np.array(chosen, dtype=np.bool_)[self.file]
+        return [self.points.identifiers[place] for place in np.flatnonzero(kept).tolist()]
+
+    def only(self, kept: Flags) -> "Study":
+        places = np.flatnonzero(kept)
+        return Study(self.points.only(places), self.file[places])
+
+
+def make(asked: Asked, walker: Walker) -> list[str]:
+    """Writes the folder, and says what was done, a sentence a line."""
+    is_free(Path(asked.out))
+    stops = read_stops(asked.feed)
+    prefixes = prefixes_of(asked.files, stops)
+    study = study_of(asked.files, prefixes)
+    if not asked.leaves_out:
+        refuse_places(len(stops.identifiers), study)
+    walks = walker(with_points(stops, study))
+    near = in_reach(stops, study, walks)
+    told = [*told_prefixes(asked.files, prefixes), *told_reach(study, near, asked.leaves_out)]
+    told += [what_is_told(walks, "stops", asked.near)] if walks.lost or walks.far or walks.apart else []
+    if asked.leaves_out:
+        study, walks = study.only(near), without(walks, len(stops.identifiers), near)
+        refuse_places(len(stops.identifiers), study)
+    refuse_pairs(walks, study)
+    rounded = Rounded()
+    with many_written_aside(asked.out) as folder:
+        write_feed(folder / FEED, asked.feed, study.points)
+        write_files(folder, asked, study, walks, rounded)
+    count = f"{len(study.points.identifiers):,} points, {len(walks.seconds):,} footpaths"
+    whole = [f"{rounded.count:,} numbers with decimals were rounded for ttm"] if rounded.count else []
+    return [*told, *whole, f"{asked.out}: {count}; the words of a run are in {Path(asked.out) / WORDS}"]
+
+
+def prefixes_of(files: Sequence[Points], stops: Stops) -> list[str]:
+    """What identifiers of each file begin with in the feed: nothing, or the file's name where one of them is a stop's
+    already, or a point's of a file before.
+    """
+    taken, made = set(stops.identifiers), list[str]()
+    for points in files:
+        prefix = ""
+        while not taken.isdisjoint(prefix + own for own in points.identifiers):
+            prefix += f"{Path(points.path).stem}:"
+        taken.update(prefix + own for own in points.identifiers)
+        made.append(prefix)
+    return made
+
+
+def study_of(files: Sequence[Points], prefixes: Sequence[str]) -> Study:
+    """The points of all files; those of one have 0 in the columns of another."""
+    columns = list(dict.fromkeys(name for points in files for name in points.columns))
+    numbers = np.zeros((sum(len(points.identifiers) for points in files), len(columns)))
+    begin = 0
+    for points in files:
+        end = begin + len(points.identifiers)
+        numbers[begin:end, [columns.index(name) for name in points.columns]] = points.numbers
+        begin = end
+    identifiers = [prefix + own for points, prefix in zip(files, prefixes) for own in points.identifiers]
+    names = [name for points in files for name in points.names]
+    north = np.concatenate([points.latitudes for points in files])
+    east = np.concatenate([points.longitudes for points in files])
+    wide = np.concatenate([points.widths for points in files])
+    path = ", ".join(points.path for points in files)
+    whole = Points(path, identifiers, names, north, east, wide, columns, numbers)
+    return Study(whole, np.repeat(np.arange(len(files)), [len(points.identifiers) for points in files]))
+
+
+def with_points(stops: Stops, study: Study) -> Stops:
+    """The locations of the feed with the points behind them."""
+    added = study.points.as_stops()
+    return Stops(
+        stops.path,
+        stops.identifiers + added.identifiers,
+        stops.names + added.names,
+        np.concatenate([stops.latitudes, added.latitudes]),
+        np.concatenate([stops.longitudes, added.longitudes]),
+        np.concatenate([stops.kinds, added.kinds]),
+        stops.stations + added.stations,
+    )
+
+
+def in_reach(stops: Stops, study: Study, walks: Walks) -> Flags:
+    """From which points one walks to a stop."""
+    count = len(stops.identifiers)
+    near = np.zeros(count + len(study.file), dtype=np.bool_)
+    near[walks.origins[walks.destinations < count]] = True
+    return near[count:]
+
+
+def without(walks: Walks, stops: int, kept: Flags) -> Walks:
+    """The walks without those from and to points that aren't kept."""
+    there = np.concatenate([np.ones(stops, dtype=np.bool_), kept])
+    place = np.cumsum(there) - 1
+    chosen = there[walks.origins] & there[walks.destinations]
+    names = [name for name, is_there in zip(walks.stops, there.tolist()) if is_there]
+    ends = (place[walks.origins[chosen]], place[walks.destinations[chosen]])
+    return Walks(names, *ends, walks.seconds[chosen], walks.lost, walks.far, walks.apart)
+
+
+def refuse_places(stops: int, study: Study) -> None:
+    """Tells more stops and points than `ttm` takes."""
+    count = len(study.file)
+    if stops + count > MOST_STOPS:
+        told = f"{stops:,} locations of the feed and {count:,} points are more than the {MOST_STOPS:,} that ttm takes"
+        raise BadInput(study.points.path, f"{told}: {HELPS}")
+
+
+def refuse_pairs(walks: Walks, study: Study) -> None:
+    """Tells more walks than `ttm` takes."""
+    if len(walks.seconds) > MOST_PAIRS:
+        told = f"{len(walks.seconds):,} walks are more than the {MOST_PAIRS:,} that ttm takes"
+        raise BadInput(study.points.path, f"{told}: a shorter --limit, or fewer points; {HELPS}")
+
+
+def told_prefixes(files: Sequence[Points], prefixes: Sequence[str]) -> Iterator[str]:
+    for points, prefix in zip(files, prefixes):
+        if prefix:
+            yield f"{points.path}: identifiers begin with {shown(prefix)} in the feed, since one of them was there"
+
+
+def told_reach(study: Study, near: Flags, left_out: bool) -> Iterator[str]:
+    """The points from which no stop is in reach."""
+    lost = [shown(study.points.identifiers[place]) for place in np.flatnonzero(~near).tolist()]
+    if lost:
+        yield f"{len(lost):,} points have no stop in reach{' and are left out' if left_out else ''}: {some(lost)}"
+
+
+def write_feed(folder: Path, feed: str, points: Points) -> None:
+    """Writes the feed with the points, and what is told of them; where it is that of a plan, with its scenarios."""
+    (folder / SCENARIOS).mkdir(parents=True)
+    of_plan = [NEW_STOPS, f"{SCENARIOS}/*.csv"]
+    for file in sorted(path for form in ("*.txt", *of_plan) for path in Path(feed).glob(form) if path.is_file()):
+        if file != Path(feed) / "stops.txt":
+            shutil.copyfile(file, folder / file.relative_to(feed))
+    if not any((folder / SCENARIOS).iterdir()):
+        (folder / SCENARIOS).rmdir()
+    with open(folder / "stops.txt", "wb") as out:
+        write_rows(out, *stops_with(Path(feed) / "stops.txt", points))
+    with open(folder / POINTS, "wb") as out:
+        write_rows(out, ["id", "name", "lat", "lon", "width", *points.columns], point_lines(points))
+
+
+def stops_with(path: Path, points: Points) -> tuple[list[str], Iterator[list[str]]]:
+    """The header and the records of stops.txt with the points behind the feed's own."""
+    lines = records(path)
+    _, header = next(lines, (1, list[str]()))
+    there = places_of(header, path, ["stop_id"])
+    wide = header + [name for name in PLACE if name not in there]
+    own = (padded(fields[: len(header)], len(wide)) for _, fields in lines)
+    places = places_of(wide, path, [])
+    chosen = [places[name] for name in ("stop_id", *PLACE)]
+    return wide, itertools.chain(own, (spread(line, chosen, len(wide)) for line in lines_of(points)))
+
+
+def padded(fields: list[str], width: int) -> list[str]:
+    return fields + [""] * (width - len(fields))
+
+
+def spread(fields: Sequence[str], places: Sequence[int], width: int) -> list[str]:
+    """A record with these fields at some places, and nothing elsewhere."""
+    made = [""] * width
+    for place, text in zip(places, fields):
+        made[place] = text
+    return made
+
+
+def lines_of(points: Points) -> Iterator[tuple[str, str, str, str]]:
+    """Of each point its identifier, name, latitude and longitude."""
+    places = zip(points.latitudes.tolist(), points.longitudes.tolist())
+    for identifier, name, (latitude, longitude) in zip(points.identifiers, points.names, places):
+        yield identifier, name, repr(latitude), repr(longitude)
+
+
+def point_lines(points: Points) -> Iterator[list[str]]:
+    numbers = zip(points.widths.tolist(), points.numbers.tolist())
+    for line, (width, more) in zip(lines_of(points), numbers):
+        yield [*line, plain(width), *map(plain, more)]
+
+
+def write_files(folder: Path, asked: Asked, study: Study, walks: Walks, rounded: Rounded) -> None:
+    """Writes what stands beside the feed."""
+    ends = {"origins.csv": study.of_files(asked.begins), "destinations.csv": study.of_files(asked.ends)}
+    with open(folder / "footpaths.csv", "wb") as out:
+        write_rows(out, ["from_stop_id", "to_stop_id", "seconds"], walks.rows())
+    for name, stops in ends.items():
+        with open(folder / name, "wb") as out:
+            write_rows(out, ["stop_id"], [[stop] for stop in stops])
+    for column, name in zip(study.points.columns, file_names(study.points.columns)):
+        with open(folder / name, "wb") as out:
+            write_rows(out, ["stop_id", "opportunities"], opportunities(asked, study, column, rounded))
+    with open(folder / WORDS, "wb") as out:
+        out.write(words(asked).encode("utf-8", "surrogateescape"))
+
+
+def file_names(columns: Sequence[str]) -> list[str]:
+    """A file of opportunities for each column, by its name as far as a file may be called so."""
+    made = list[str]()
+    for column in columns:
+        name = re.sub(r"[^\w.-]", "_", shown(column))
+        while f"opportunities_{name}.csv" in made:
+            name += "_"
+        made.append(f"opportunities_{name}.csv")
+    return made
+
+
+def opportunities(asked: Asked, study: Study, column: str, rounded: Rounded) -> Iterator[tuple[str, int]]:
+    """The points of the files that have a column, each with its number made whole."""
+    place, points = study.points.columns.index(column), study.points
+    kept = np.flatnonzero(np.array([column in it.columns for it in asked.files])[study.file])
+    for point in kept.tolist():
+        number = repr(float(points.numbers[point, place]))
+        yield points.identifiers[point], rounded.whole(number, points.path, point + 2, column, up=False)
+
+
+def words(asked: Asked) -> str:
+    """The words of a run, an option a line, as a shell reads them."""
+    folder = Path(asked.out)
+    options = {
+        "feed": folder / FEED,
+        "footpaths": folder / "footpaths.csv",
+        "walk": asked.limit,
+        "origins": folder / "origins.csv",
+    }
+    return "".join(f"--{name} {shlex.quote(str(value))}\n" for name, value in options.items())

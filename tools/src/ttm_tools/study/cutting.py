@@ -1,0 +1,199 @@
+"""The parts of a study's origins: how many, from what a run of few origins takes, and what each of them depends on."""
+
+import json
+import math
+import os
+import time
+from dataclasses import asdict, dataclass, replace
+from pathlib import Path
+from typing import Any, Sequence
+
+from ..files import remove, sum_of
+from ..parts import origins_in, parts_of
+from ..records import write_rows
+from .inputs import ORIGINS, Inputs
+from .stages import as_text, key_of, settle, write_settled
+from .ttm import Report, report_of, with_origins
+from .wishes import PartWish
+
+PARTS = "parts"
+CUT = "stages/cut.json"
+FEW = 8  # origins of the longer trial
+MOST_PARTS = 1000  # of those that are cut by time: as many as arrays of clusters have
+OF_THE_FREE = 0.8  # of the machine's memory
+MB = 1_000_000
+
+
+@dataclass(frozen=True)
+class Costs:
+    """What a run takes."""
+
+    setup: float  # seconds, before the first origin
+    each: float  # seconds of an origin, with one thread
+    network: int  # bytes, without rows
+    row: int  # bytes of an origin's rows
+    free: int  # bytes that the machine has
+
+
+@dataclass(frozen=True)
+class Shape:
+    """How the run is cut, and how many parts may run at once on this machine."""
+
+    parts: int
+    at_once: int
+    threads: int  # of each
+
+
+@dataclass(frozen=True)
+class Part:
+    """Some of the origins, in a folder of their own."""
+
+    number: int
+    origins: Sequence[str]
+    key: str  # the sum of all that the matrix depends on
+
+    @property
+    def folder(self) -> Path:
+        return Path(PARTS) / f"{self.number:04}"
+
+    @property
+    def matrix(self) -> Path:
+        return self.folder / "matrix.csv"
+
+    @property
+    def origins_file(self) -> Path:
+        return self.folder / "origins.csv"
+
+    @property
+    def told_file(self) -> Path:
+        """Why it failed where another machine ran it."""
+        return self.folder / "told.txt"
+
+    def begin(self) -> None:
+        """Makes the folder of a part that isn't done, with its origins and nothing else."""
+        self.folder.mkdir(parents=True, exist_ok=True)
+        for path in (self.folder / "key", self.told_file, self.matrix):
+            remove(path)
+        with open(self.origins_file, "wb") as file:
+            write_rows(file, ["stop_id"], [[stop] for stop in self.origins])
+
+    def finish(self) -> None:
+        """Notes that the matrix is whole."""
+        facts = {"key": self.key, "bytes": self.matrix.stat().st_size, "sum": sum_of(self.matrix)}
+        write_settled(self.folder / "key", as_text(facts))
+        settle(self.folder)
+
+    def noted(self) -> dict[str, Any]:
+        try:
+            made: dict[str, Any] = dict(json.loads((self.folder / "key").read_text(encoding="utf-8")))
+            return made
+        except (OSError, ValueError, TypeError):
+            return {}
+
+    def is_done(self) -> bool:
+        """Whether the matrix is there, and is that of this part."""
+        noted = self.noted()
+        try:
+            return noted.get("key") == self.key and noted.get("bytes") == self.matrix.stat().st_size
+        except OSError:
+            return False
+
+    def is_whole(self) -> bool:
+        """Whether it is done, and its bytes have the sum that was noted."""
+        return self.is_done() and self.noted().get("sum") == sum_of(self.matrix)
+
+
+def study_key(inputs: Inputs, version: Sequence[str]) -> str:
+    """The sum of all that rows depend on but their origins."""
+    run = replace(inputs.run, workers=1, files={**inputs.run.files, "origins": ""})
+    sums = {name: was for name, was in inputs.sums.items() if name != ORIGINS}
+    return key_of({"words": run.words(), "inputs": sums, "ttm": list(version)})
+
+
+def parts_for(origins: Sequence[str], count: int, key: str) -> list[Part]:
+    """So many parts of the origins."""
+    cut = parts_of(origins, count)
+    return [Part(number, some, key_of({"study": key, "origins": list(some)})) for number, some in enumerate(cut, 1)]
+
+
+def trial(inputs: Inputs, origins: Sequence[str], room: Path) -> tuple[float, Report]:
+    """How long a run of some origins takes, and what it reports."""
+    path = room / "origins.csv"
+    with open(path, "wb") as file:
+        write_rows(file, ["stop_id"], [[stop] for stop in origins])
+    begin = time.monotonic()
+    report = report_of(with_origins(inputs.run, str(path), 1))
+    return time.monotonic() - begin, report
+
+
+def costs_of(inputs: Inputs, origins: Sequence[str], room: Path) -> Costs:
+    """What an origin takes, from runs of one and of some, spread over all."""
+    some = origins[:: max(1, len(origins) // (FEW + 1))][: FEW + 1]
+    short, first = trial(inputs, some[:1], room)
+    long, report = trial(inputs, some, room) if len(some) > 1 else (short, first)
+    each = max(0.0, long - short) / max(1, len(some) - 1)
+    size = "bytes of the matrix and its text, about"
+    row = max(0, report.number(size) - first.number(size)) // max(1, len(some) - 1) or first.number(size)
+    free = report.number("bytes that the machine has free")
+    return Costs(max(0.0, short - each), each, first.number("bytes taken at most"), row, free)
+
+
+def shape_of(wish: PartWish, costs: Costs, origins: int, workers: int) -> Shape:
+    """Parts of about so many minutes, of which so many run at once as memory allows: where fewer do than there are
+    processors, each takes several.
+    """
+    memory = wish.memory * MB if wish.memory else int(OF_THE_FREE * costs.free)
+    least = costs.network + costs.row
+    at_once = max(1, min(workers, memory // least if memory and least else workers))
+    threads = max(1, workers // at_once)
+    by_memory = (memory // at_once - costs.network) // max(1, costs.row) if memory else origins
+    by_time = threads * (60 * wish.minutes - costs.setup) / costs.each if costs.each else origins
+    if wish.count is not None:
+        return Shape(min(wish.count, origins), at_once, threads)
+    largest = max(1, min(int(min(by_time, origins)), int(min(by_memory, origins))))
+    parts = max(math.ceil(origins / largest), min(at_once, origins))
+    if parts > at_once:
+        parts = math.ceil(parts / at_once) * at_once
+    parts = min(parts, origins, max(MOST_PARTS, math.ceil(origins / max(1, int(min(by_memory, origins))))))
+    return Shape(parts, at_once, threads)
+
+
+def processors() -> int:
+    return len(os.sched_getaffinity(0))
+
+
+def cut_of(wish: PartWish, inputs: Inputs, key: str, workers: int, room: Path) -> tuple[list[Part], Shape]:
+    """The parts as they were cut before, or as they are cut now; parts of another study are removed."""
+    origins = origins_in(str(inputs.run.files["origins"]))
+    facts = key_of([key, origins, asdict(wish) | {"keep": False}])
+    try:
+        noted = json.loads(Path(CUT).read_text(encoding="utf-8"))
+        known = noted["key"] == facts and noted["workers"] == workers
+        shape = Shape(**noted["shape"]) if noted["key"] == facts else None
+    except (OSError, ValueError, KeyError, TypeError):
+        known, shape = False, None
+    if shape is None or not known:
+        costs = costs_of(inputs, origins, room)
+        made = shape_of(wish, costs, len(origins), workers)
+        shape = Shape(shape.parts if shape else made.parts, made.at_once, made.threads)
+        noted = {"key": facts, "workers": workers, "shape": asdict(shape), "costs": asdict(costs)}
+        write_settled(Path(CUT), as_text(noted))
+    parts = parts_for(origins, shape.parts, key)
+    remove_others({part.folder.name for part in parts})
+    return parts, shape
+
+
+def parts_noted() -> int:
+    """How many parts there were."""
+    try:
+        return int(json.loads(Path(CUT).read_text(encoding="utf-8"))["shape"]["parts"])
+    except (OSError, ValueError, KeyError, TypeError):
+        return 1
+
+
+def remove_others(names: set[str]) -> None:
+    """Removes the folders of parts that the study doesn't have."""
+    Path(PARTS).mkdir(exist_ok=True)
+    for path in Path(PARTS).iterdir():
+        if path.is_dir() and path.name not in names:
+            remove(path)

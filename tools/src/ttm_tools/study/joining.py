@@ -1,0 +1,75 @@
+"""The matrix of a whole study from those of its parts, block by block: never whole in memory."""
+
+from bisect import bisect_right
+from typing import Sequence
+
+import numpy as np
+
+from ..faults import BadInput
+from ..files import output, remove
+from ..matrices import Matrix, Seconds, Share, Sums, write_open_matrix
+from ..matrices.chosen import Chosen
+from ..matrices.csv_matrix import CsvMatrix
+from ..parts import Part as CsvPart, write_whole
+from .cutting import Part
+
+MATRIX, CSV = "matrix.omx", "matrix.csv"
+
+
+class Joined(Matrix):
+    """The matrices of parts, one behind the other, as one matrix."""
+
+    def __init__(self, parts: Sequence[Part], left_out: Sequence[str] = ()) -> None:
+        self.parts = [CsvMatrix(str(part.matrix)) for part in parts]
+        first = self.parts[0]
+        self.path, self.layout = first.path, first.layout
+        self.scenarios, self.shares = [it for it in first.scenarios if it not in left_out], first.shares
+        self.all = first.scenarios
+        self.names: dict[tuple[str, Share], list[str]] = {}
+        self.begins = [0]
+        for part, matrix in zip(parts, self.parts):
+            self.take(part, matrix)
+
+    def take(self, part: Part, matrix: CsvMatrix) -> None:
+        """Takes the rows of a part, which has just its origins in each scenario and share."""
+        if (matrix.layout, matrix.scenarios, matrix.shares) != (self.layout, self.all, self.shares):
+            raise BadInput(matrix.path, f"has other columns, scenarios or shares than {self.path}")
+        for key in [(scenario, share) for scenario in self.scenarios for share in self.shares]:
+            if matrix.origins(*key) != list(part.origins):
+                raise BadInput(matrix.path, "has other origins than its part")
+            self.names.setdefault(key, []).extend(part.origins)
+        self.begins.append(self.begins[-1] + len(part.origins))
+
+    def origins(self, scenario: str, share: Share) -> list[str]:
+        return self.names.get((scenario, share), [])
+
+    def access(self, scenario: str, share: Share) -> Sums:
+        return np.concatenate([part.access(scenario, share) for part in self.parts])
+
+    def rows(self, scenario: str, share: Share, begin: int, end: int) -> Seconds:
+        found = [np.zeros((0, len(self.stops)), np.float32)]
+        for place in range(bisect_right(self.begins, begin) - 1, len(self.parts)):
+            first, last = max(begin, self.begins[place]), min(end, self.begins[place + 1])
+            if first >= last:
+                break
+            found.append(self.parts[place].rows(scenario, share, first - self.begins[place], last - self.begins[place]))
+        return np.concatenate(found)
+
+
+def join_parts(parts: Sequence[Part], with_csv: bool, left_out: Sequence[str], shown: Sequence[str]) -> list[str]:
+    """Writes the matrix of all parts, which are looked at once more, without some scenarios; with those columns alone
+    that are to be shown, where there are any.
+    """
+    for part in parts:
+        if not part.is_whole():
+            remove(part.folder / "key")
+            raise BadInput(part.matrix, "changed since it was made; the same command computes it again")
+    joined = Joined(parts, left_out)
+    matrix = Chosen(joined, shown) if shown else joined
+    write_open_matrix(matrix, MATRIX)
+    told = [f"{MATRIX}: {joined.begins[-1]:,} origins, {len(matrix.stops):,} {'points' if shown else 'stops'}"]
+    if with_csv:
+        with output(CSV) as file:
+            write_whole([CsvPart(str(part.matrix)) for part in parts], file)
+        told.append(f"{CSV}: the bytes of one run")
+    return told

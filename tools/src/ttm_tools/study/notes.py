@@ -1,0 +1,88 @@
+"""study.json: for who comes back after half a year, all that was run, from what, by which versions, and when."""
+
+import importlib.metadata
+import json
+import platform
+from pathlib import Path
+from typing import Any, Sequence
+
+from .. import __version__
+from ..engine import program_at
+from ..faults import BadInput
+from ..files import sum_of
+from .inputs import Inputs
+from .report import sources_of
+from .stages import Record, as_text, logged, sum_of_tools, write_settled
+from .wishes import Study
+
+NOTES, FORM = "study.json", 1
+PACKAGES = ("numpy", "pandas", "h5py", "matplotlib", "scipy", "osmium", "jinja2")
+
+
+def versions(ttm: Sequence[str]) -> dict[str, Any]:
+    """What made the folder."""
+    made: dict[str, Any] = {"ttm": ttm[0], "toolchain": ttm[1] if len(ttm) > 1 else "", "ttm_tools": __version__}
+    made |= {"ttm_sha256": sum_of(program_at(None)), "ttm_tools_sha256": sum_of_tools()}
+    made["python"] = platform.python_version()
+    for name in PACKAGES:
+        try:
+            made[name] = importlib.metadata.version(name)
+        except importlib.metadata.PackageNotFoundError:
+            continue
+    return made
+
+
+def run_facts(inputs: Inputs) -> dict[str, Any]:
+    """The words of the run, as data."""
+    return {**vars(inputs.run), "files": {name: str(path) for name, path in inputs.run.files.items()}}
+
+
+def write_notes(study: Study, inputs: Inputs, records: dict[str, Record], ttm: Sequence[str], parts: int) -> None:
+    """Writes what was done, unless that stands there already."""
+    made = {**inputs.records, **records}
+    facts: dict[str, Any] = {
+        "form": FORM,
+        "title": study.title,
+        "question": study.about.question,
+        "study_file": study.path.read_text(encoding="utf-8-sig"),
+        "sources": sources_of(study),
+        "words": inputs.run.words(),
+        "run": run_facts(inputs),
+        "parts": parts,
+        "stages": {name: {"key": it.key, "told": it.lines, "files": it.outputs} for name, it in made.items()},
+        "versions": versions(ttm),
+    }
+    try:
+        there = read_notes(Path("."))
+        there.pop("times", None)
+    except BadInput:
+        there = {}
+    if there != json.loads(json.dumps(facts)):
+        write_settled(Path(NOTES), as_text({**facts, "times": times()}))
+
+
+def times() -> dict[str, Any]:
+    """When the study's commands ran, and how long stages and parts took, as far as they came to an end."""
+    lines = logged()
+    parts = [line["seconds"] for line in lines if line["kind"] == "part"]
+    return {
+        "began": lines[0]["at"] if lines else "",
+        "ended": lines[-1]["at"] if lines else "",
+        "commands": [line["at"] for line in lines if line["kind"] == "command"],
+        "seconds": {line["name"]: line["seconds"] for line in lines if line["kind"] == "stage"},
+        "seconds_of_parts": round(sum(parts), 3),
+    }
+
+
+def read_notes(folder: Path) -> dict[str, Any]:
+    """What a study's folder says of itself."""
+    path = folder / NOTES
+    try:
+        made: dict[str, Any] = dict(json.loads(path.read_text(encoding="utf-8")))
+    except OSError as fault:
+        raise BadInput(path, f"{fault.strerror}: is it the folder of a study that is done?") from None
+    except (ValueError, TypeError) as fault:
+        raise BadInput(path, f"can't be read: {fault}") from None
+    if made.get("form") != FORM:
+        raise BadInput(path, f"is of another form than {FORM}")
+    return made

@@ -1,0 +1,199 @@
+"""Stages of a study, each done once: it counts as done when its record is there, bears the sum of all that its outputs
+depend on, and these have the sums that it states. Whatever else is found is removed, never taken.
+"""
+
+import contextlib
+import fcntl
+import hashlib
+import json
+import os
+import sys
+import time
+from dataclasses import dataclass
+from functools import cache
+from pathlib import Path
+from typing import Any, Callable, Iterator, Sequence
+
+from .. import __version__
+from ..faults import BadInput
+from ..files import remove, sum_of, written_aside
+
+RECORDS = "stages"
+LOCK = ".lock"
+LOG = "stages/log.jsonl"
+PACKAGE = Path(__file__).resolve().parents[1]
+
+
+@dataclass(frozen=True)
+class Stage:
+    """A step of a study."""
+
+    name: str
+    depends: dict[str, Any]  # all that its outputs depend on: words, and sums of files
+    outputs: Sequence[str]  # files and folders, from the study's folder on
+    make: Callable[[], list[str]]  # writes them, and says what was done
+
+
+@dataclass(frozen=True)
+class Record:
+    """What is known of a stage that was done."""
+
+    key: str
+    outputs: dict[str, str]  # files from the study's folder on, with their sums
+    lines: list[str]  # what was told
+    seconds: float
+
+    @property
+    def facts(self) -> dict[str, Any]:
+        return {"key": self.key, "outputs": self.outputs, "lines": self.lines, "seconds": self.seconds}
+
+
+def key_of(facts: Any) -> str:
+    """The sum of some facts."""
+    return hashlib.sha256(json.dumps(facts, sort_keys=True, ensure_ascii=True).encode()).hexdigest()
+
+
+@cache
+def sum_of_tools() -> str:
+    """The sum of the tools themselves, by their version and their files."""
+    files = sorted(path for path in PACKAGE.rglob("*") if path.is_file() and "__pycache__" not in path.parts)
+    return key_of([__version__, [[str(path.relative_to(PACKAGE)), sum_of(path)] for path in files]])
+
+
+def files_in(path: Path) -> list[Path]:
+    """A file, or all files of a folder."""
+    return sorted(it for it in path.rglob("*") if it.is_file()) if path.is_dir() else [path]
+
+
+def sums_of(paths: Sequence[str | Path]) -> dict[str, str]:
+    """The sums of files, and of all files of folders, by their names without the folders in which these lie."""
+    made = {}
+    for path in map(Path, paths):
+        for file in files_in(path):
+            name = path.name if file == path else str(Path(path.name) / file.relative_to(path))
+            while name in made:
+                name += "'"
+            made[name] = sum_of(file)
+    return made
+
+
+def settle(path: Path) -> None:
+    """Has the disk hold a file or folder, so that no power cut loses it."""
+    handle = os.open(path, os.O_RDONLY)
+    try:
+        os.fsync(handle)
+    finally:
+        os.close(handle)
+
+
+def write_settled(path: Path, text: str) -> None:
+    """Writes a text that is whole under its name even after a power cut."""
+    with written_aside(path) as made:
+        made.write_text(text, encoding="utf-8")
+        settle(made)
+    settle(path.parent)
+
+
+def as_text(facts: Any) -> str:
+    return json.dumps(facts, indent=2, ensure_ascii=False) + "\n"
+
+
+class Folder:
+    """The folder of a study: what is in it, and which of its stages are done."""
+
+    def __init__(self, path: Path) -> None:
+        self.path = path
+
+    def at(self, name: str) -> Path:
+        return self.path / name
+
+    def record(self, name: str) -> Record | None:
+        """What is known of a stage; nothing where it wasn't done to its end."""
+        try:
+            read = json.loads((self.path / RECORDS / f"{name}.json").read_text(encoding="utf-8"))
+            return Record(**read)
+        except (OSError, ValueError, TypeError):
+            return None
+
+    def is_done(self, stage: Stage, key: str) -> bool:
+        """Whether a stage was done from just this, and nothing was changed since."""
+        record = self.record(stage.name)
+        if record is None or record.key != key:
+            return False
+        there = {str(file.relative_to(self.path)) for name in stage.outputs for file in files_in(self.at(name))}
+        return there == set(record.outputs) and all(
+            self.at(name).is_file() and sum_of(self.at(name)) == was for name, was in record.outputs.items()
+        )
+
+    def do(self, stage: Stage) -> Record:
+        """Does a stage, unless it was done."""
+        key = key_of({"stage": stage.name, "tools": sum_of_tools(), "depends": stage.depends})
+        found = self.record(stage.name)
+        if found is not None and self.is_done(stage, key):
+            return found
+        say(f"{stage.name} ..")
+        self.forget(stage.name)
+        for name in stage.outputs:
+            remove(self.at(name))
+            self.at(name).parent.mkdir(parents=True, exist_ok=True)
+        begin = time.monotonic()
+        lines = stage.make()
+        files = [file for name in stage.outputs for file in files_in(self.at(name)) if file.is_file()]
+        for file in files:
+            settle(file)
+        sums = {str(file.relative_to(self.path)): sum_of(file) for file in files}
+        record = Record(key, sums, lines, round(time.monotonic() - begin, 3))
+        (self.path / RECORDS).mkdir(exist_ok=True)
+        write_settled(self.path / RECORDS / f"{stage.name}.json", as_text(record.facts))
+        log("stage", stage.name, record.seconds)
+        for line in lines:
+            say(f"  {line}")
+        return record
+
+    def forget(self, name: str) -> None:
+        (self.path / RECORDS / f"{name}.json").unlink(missing_ok=True)
+
+
+@contextlib.contextmanager
+def room() -> Iterator[Path]:
+    """A folder for a while, inside of the study's own: the next command removes it where this one is killed."""
+    made = Path(f".part.{os.getpid()}.room")
+    remove(made)
+    made.mkdir()
+    try:
+        yield made
+    finally:
+        remove(made)
+
+
+def log(kind: str, name: str, seconds: float) -> None:
+    """Notes what was done, when, and how long it took, behind what was noted before."""
+    facts = {"at": time.strftime("%Y-%m-%dT%H:%M:%SZ", time.gmtime()), "kind": kind, "name": name, "seconds": seconds}
+    with open(LOG, "a", encoding="utf-8") as file:
+        file.write(json.dumps(facts) + "\n")
+
+
+def logged() -> list[dict[str, Any]]:
+    """What was noted; a line that a kill cut short isn't."""
+    made = list[dict[str, Any]]()
+    for line in Path(LOG).read_text(encoding="utf-8").splitlines() if Path(LOG).is_file() else ():
+        with contextlib.suppress(ValueError):
+            made.append(json.loads(line))
+    return made
+
+
+def say(line: str) -> None:
+    """Tells what is done."""
+    print(line, file=sys.stderr, flush=True)
+
+
+@contextlib.contextmanager
+def held(folder: Path) -> Iterator[None]:
+    """Holds a study's folder, so that no two commands work in it at once."""
+    folder.mkdir(parents=True, exist_ok=True)
+    with open(folder / LOCK, "w") as file:
+        try:
+            fcntl.flock(file, fcntl.LOCK_EX | fcntl.LOCK_NB)
+        except OSError:
+            raise BadInput(folder, "another ttm-tools study works in this folder") from None
+        yield

@@ -1,0 +1,144 @@
+"""A study's file, read: each value of its kind, fields that go together, and files that are there. A fault names the
+line and the nearest right name.
+"""
+
+import os
+import tomllib
+from dataclasses import MISSING, fields
+from decimal import Decimal
+from pathlib import Path
+from typing import Any, TypeVar
+
+from ..faults import BadInput
+from ..plans.plan_file import Entry, key_of, statements
+from .kinds import FILE, FILES
+from .wishes import NAMES, NEEDED, TABLES, About, Study
+
+Wish = TypeVar("Wish")
+Lines = dict[str, tuple[int, dict[str, int]]]
+TOP = ""  # what stands before the first table
+
+
+def lines_of(text: str) -> Lines:
+    """Where each table of a file begins, and on which lines its keys stand."""
+    made: Lines = {TOP: (1, {})}
+    table = TOP
+    for line, statement in statements(text):
+        if statement.startswith("["):
+            table = statement.strip("[] \t").replace(" ", "")
+            made.setdefault(table, (line, {}))
+            made[TOP][1].setdefault(table, line)
+            continue
+        made[table][1].setdefault(key_of(statement), line)
+        if table == TOP:
+            made.setdefault(key_of(statement), (line, {}))
+    return made
+
+
+def read_study(path: str) -> Study:
+    """Reads and looks at all of a study's file."""
+    try:
+        text = Path(path).read_text(encoding="utf-8-sig")
+        values = tomllib.loads(text, parse_float=Decimal)
+    except OSError as fault:
+        raise BadInput(path, fault.strerror) from None
+    except (UnicodeDecodeError, tomllib.TOMLDecodeError) as fault:
+        raise BadInput(path, f"is no TOML file: {fault}") from None
+    lines = lines_of(text)
+    top = Entry(path, 1, values, lines[TOP][1])
+    top.only([*names_of(About), *TABLES])
+    entries = {name: table_of(top, name, lines) for name in TABLES if name in values}
+    for name in NEEDED:
+        if name not in entries:
+            raise top.fault(f"no table [{name}], which is needed")
+    about = Entry(path, 1, {key: it for key, it in values.items() if key not in TABLES}, top.lines)
+    read: dict[str, Any] = {name: wish_of(TABLES[name], entry) for name, entry in entries.items()}
+    study = Study(Path(os.path.abspath(path)), wish_of(About, about), **read)
+    for name, entry in entries.items():
+        tell_lost_files(study, TABLES[name], entry)
+    agree(study, {name: entries.get(name, Entry(path, 1, {}, {})) for name in TABLES})
+    return study
+
+
+def names_of(kind: type[Any]) -> list[str]:
+    """The fields of a table as the file has them."""
+    return [NAMES.get(it.name, it.name) for it in fields(kind)]
+
+
+def table_of(top: Entry, name: str, lines: Lines) -> Entry:
+    if not isinstance(top.values[name], dict):
+        raise top.fault("is no table", name, allowed=f"[{name}] with its fields in the lines below")
+    line, keys = lines.get(name, (1, {}))
+    return Entry(top.path, line, top.values[name], keys)
+
+
+def wish_of(kind: type[Wish], entry: Entry) -> Wish:
+    """A table's values, each of its kind."""
+    entry.only(names_of(kind))
+    made: dict[str, Any] = {}
+    for it in fields(kind):
+        key = NAMES.get(it.name, it.name)
+        if entry.has(key):
+            made[it.name] = it.metadata["kind"].read(entry, key)
+        elif it.default is MISSING:
+            raise entry.fault("is needed", key, allowed=it.metadata["kind"].allowed)
+    return kind(**made)
+
+
+def tell_lost_files(study: Study, kind: type[Any], entry: Entry) -> None:
+    """Tells the first file that a table names and that isn't there."""
+    for it in fields(kind):
+        if it.metadata["kind"] not in (FILE, FILES) or not entry.has(it.name):
+            continue
+        for path in [entry.values[it.name]] if it.metadata["kind"] is FILE else entry.texts(it.name):
+            if not os.path.exists(study.at(path)):
+                raise entry.fault("isn't there", it.name, path, "a path from the folder of this file")
+
+
+def refuse_both(entry: Entry, *keys: str) -> None:
+    """Tells the second of some fields that don't go together."""
+    found = [key for key in keys if entry.values.get(key) not in (None, False, [])]
+    if len(found) > 1:
+        raise entry.fault(f"doesn't go with {found[0]}", found[1], allowed=f"one of {', '.join(keys)}")
+
+
+def agree(study: Study, entries: dict[str, Entry]) -> None:
+    """Tells fields that don't go together."""
+    feed, run, walks, points = (entries[name] for name in ("feed", "run", "walks", "points"))
+    if study.run.last < study.run.first:
+        raise run.fault("is before from", "to", study.run.last)
+    if not study.feed.files:
+        raise feed.fault("names no feed", "files", allowed='["feed.zip"]')
+    if study.feed.ready and len(study.feed.files) != 1:
+        raise feed.fault("is for one folder, and files names several", "ready")
+    for key in ("repair", "box", "area", "routes", "agencies", "only_days"):
+        refuse_both(feed, "ready", key)
+    refuse_both(walks, "none", "streets", "table")
+    if study.points.all:
+        for key in ("none", "table"):
+            if walks.values.get(key):
+                raise walks.fault("doesn't go with [points], whose walks are made", key)
+        if run.has("origins"):
+            raise run.fault("doesn't go with [points], at which journeys begin", "origins")
+        for begin, end in (("origins", "destinations"), ("destinations", "origins")):
+            if not study.points.files and not points.values.get(end):
+                raise points.fault(f"without files, {begin} needs {end}", begin)
+    refuse_both(entries["scenarios"], "files", "plan")
+    agree_on_results(study, entries["results"], entries["opportunities"])
+
+
+def agree_on_results(study: Study, results: Entry, opportunities: Entry) -> None:
+    wish = study.results
+    for key, value, among in (("share", wish.share, study.run.shares), ("within", wish.within, study.run.limits)):
+        if value is not None and value not in among:
+            name = "shares" if key == "share" else "limits"
+            raise results.fault(f"is none of {name} of [run]", key, str(value), ", ".join(map(str, among)))
+    needs_value = wish.decay in ("linear", "logistic")
+    if needs_value and not wish.decay_value:
+        raise results.fault("needs decay_value, minutes above 0", "decay", wish.decay)
+    if wish.decay_value is not None and not needs_value:
+        raise results.fault(f"goes with linear and logistic, not with {wish.decay}", "decay_value")
+    if wish.decay == "exponential" and min(study.cutoffs) < 0.01:
+        raise results.fault("needs cutoffs above 0: they are half-lives", "decay", wish.decay)
+    if study.opportunities.column and not study.opportunities.files and not study.points.all:
+        raise opportunities.fault("is of no file: name it in files", "column", study.opportunities.column)

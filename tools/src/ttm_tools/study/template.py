@@ -1,0 +1,62 @@
+"""A study's file with a comment for each field, and the same as a table for docs/STUDIES.md."""
+
+import textwrap
+from dataclasses import MISSING, Field, fields
+from typing import Any, Iterator
+
+from .wishes import NAMES, TABLES, About
+
+HEAD = """\
+# A study of ttm-tools: `ttm-tools study THIS_FILE` makes all of it, in a folder of the same name.
+# A line that begins with # says what holds, or how it is said; take the # away where you want something else.
+"""
+
+
+def default_of(it: "Field[Any]") -> str:
+    """What holds where a field is left out."""
+    if it.default is MISSING:
+        return "needed"
+    value = list(it.default) if isinstance(it.default, tuple) else it.default
+    if value is None or value == [] or value == "":
+        return "" if "without it" in it.metadata["told"] else "without it, none"
+    return f"without it, {str(value).lower() if isinstance(value, bool) else value}"
+
+
+def lines_of_table(kind: type[Any]) -> Iterator[str]:
+    """The fields of a table, those that are needed as they stand and the others as comments."""
+    for it in fields(kind):
+        ends = [it.metadata["told"], it.metadata["kind"].allowed, default_of(it)]
+        yield from textwrap.wrap(
+            "; ".join(end for end in ends if end), 110, initial_indent="# ", subsequent_indent="#   "
+        )
+        mark = "" if it.default is MISSING else "#"
+        yield f"{mark}{NAMES.get(it.name, it.name)} = {it.metadata['example']}"
+
+
+def first_of(kind: type[Any]) -> str:
+    """What a table is for."""
+    return " ".join((kind.__doc__ or "").split())
+
+
+def template() -> str:
+    """The whole file."""
+    lines = [HEAD, *lines_of_table(About)]
+    for name, kind in TABLES.items():
+        lines += ["", f"[{name}]", f"# {first_of(kind)}", *lines_of_table(kind)]
+    return "\n".join(lines) + "\n"
+
+
+def page() -> str:
+    """The fields as tables of Markdown."""
+    lines = list[str]()
+    tables: list[tuple[str, type[Any]]] = [("", About), *TABLES.items()]
+    for name, kind in tables:
+        lines += [f"### `[{name}]`" if name else "### Before the first table", "", first_of(kind), ""]
+        lines += ["| Field | What it says | Values | Without it | As in |", "|---|---|---|---|---|"]
+        for it in fields(kind):
+            what, _, own = it.metadata["told"].partition("; without it, ")
+            without = own or default_of(it).removeprefix("without it, ")
+            cells = [f"`{NAMES.get(it.name, it.name)}`", what, it.metadata["kind"].allowed, without]
+            lines.append("| " + " | ".join([*cells, f"`{it.metadata['example']}`"]) + " |")
+        lines.append("")
+    return "\n".join(lines)

@@ -1,0 +1,125 @@
+"""Runs of the built `ttm` for a study: its version, what its report counts, and a run as a process whose matrix gets
+its name when it is whole.
+"""
+
+import contextlib
+import ctypes
+import os
+import re
+import signal
+import socket
+import subprocess
+import sys
+import tempfile
+import time
+from dataclasses import dataclass, replace
+from pathlib import Path
+from typing import Sequence
+
+from ..engine import EngineFault, Run, program_at
+from ..faults import one_line
+from ..files import written_aside
+from .stages import settle
+
+DIES = 1  # PR_SET_PDEATHSIG of Linux
+FACT = re.compile(r"ttm: (?P<name>[^:]+(?:: [^:]+)?): (?P<value>[0-9]+)")
+OF_THE_MACHINE = ("bytes that the machine has free", "rows done", "time", "bytes taken at most")
+
+
+def die_with_parent() -> None:
+    """Has a process end when the one that started it is killed."""
+    if sys.platform == "linux":
+        ctypes.CDLL(None).prctl(DIES, signal.SIGKILL)
+
+
+def version_of(program: str) -> list[str]:
+    """What a program says of itself: its version, and the line of the toolchain that proved it."""
+    ran = subprocess.run([program, "--version"], capture_output=True, text=True)
+    if ran.returncode != 0:
+        raise EngineFault(one_line(ran.stderr), ran.returncode)
+    return ran.stdout.splitlines()
+
+
+def with_origins(run: Run, origins: str, threads: int) -> Run:
+    return replace(run, workers=threads, files={**run.files, "origins": origins})
+
+
+@dataclass(frozen=True)
+class Report:
+    """What `ttm --report` tells."""
+
+    lines: list[str]
+
+    def number(self, name: str) -> int:
+        """A fact of the report; 0 where it isn't told."""
+        found = [FACT.fullmatch(line) for line in self.lines]
+        return next((int(it["value"]) for it in found if it and it["name"] == name), 0)
+
+    @property
+    def facts(self) -> list[str]:
+        """The lines that are the same on each machine, without the program's name."""
+        return [line.removeprefix("ttm: ") for line in self.lines if not self.is_of_the_machine(line)]
+
+    def is_of_the_machine(self, line: str) -> bool:
+        return line.removeprefix("ttm: ").startswith(OF_THE_MACHINE)
+
+
+def report_of(run: Run, program: str | None = None) -> Report:
+    """Runs `ttm` for its report alone."""
+    words = [program_at(program), *run.words(), "--report"]
+    ran = subprocess.run(words, stdout=subprocess.DEVNULL, stderr=subprocess.PIPE, preexec_fn=die_with_parent)
+    if ran.returncode != 0:
+        raise EngineFault(fault_of(ran.stderr, ran.returncode), ran.returncode)
+    return Report(ran.stderr.decode("utf-8", "replace").splitlines())
+
+
+def fault_of(told: bytes, status: int) -> str:
+    """The line that tells why a run ended, behind those of its report."""
+    lines = [line for line in told.decode("utf-8", "replace").splitlines() if line]
+    if not lines:
+        return f"ttm ended with status {status} and said nothing"
+    return one_line("; ".join(lines[-2:]) if lines[-1].startswith("ttm: column ") else lines[-1])
+
+
+class Running:
+    """A run that goes on: its matrix is written aside, and gets its name when `end` finds it whole."""
+
+    def __init__(self, run: Run, out: Path, words: Sequence[str] = ()) -> None:
+        self.out, self.begin = out, time.monotonic()
+        self.aside = out.with_name(f"{socket.gethostname()}.{out.name}")  # hosts may share the folder
+        self.room = contextlib.ExitStack()
+        self.made = self.room.enter_context(written_aside(self.aside))
+        self.told = self.room.enter_context(tempfile.TemporaryFile())
+        called = [program_at(None), *run.words(), *words]
+        with open(self.made, "wb") as matrix:
+            self.process = subprocess.Popen(called, stdout=matrix, stderr=self.told, preexec_fn=die_with_parent)
+
+    def is_over(self) -> bool:
+        return self.process.poll() is not None
+
+    def end(self) -> str | None:
+        """Names the matrix where the run ended well; else gives the line that `ttm` told."""
+        status = self.process.wait()
+        if status == 0:
+            settle(self.made)
+            self.room.close()
+            os.replace(self.aside, self.out)
+            settle(self.out.parent)
+            return None
+        self.told.seek(0)
+        told = fault_of(self.told.read(), status)
+        self.stop()
+        return told
+
+    def stop(self) -> None:
+        """Ends the run, and removes what it wrote."""
+        if self.process.poll() is None:
+            self.process.kill()
+            self.process.wait()
+        with contextlib.suppress(Dropped):
+            with self.room:
+                raise Dropped
+
+
+class Dropped(Exception):
+    """Ends what is written aside without a name."""

@@ -1,0 +1,140 @@
+"""All of a study, from its file to its folder, in order: what is done isn't done again."""
+
+import contextlib
+import os
+import re
+import shutil
+from pathlib import Path
+from typing import Iterator
+
+from ..engine import program_at
+from ..faults import BadInput, needs
+from ..feed import read_stops
+from ..files import is_running, remove
+from ..matrices import open_matrix
+from ..parts import origins_in
+from .cluster import Means, run_elsewhere
+from .cutting import PARTS, cut_of, parts_noted, study_key, trial
+from .inputs import POINTS, Inputs, make_inputs
+from .joining import CSV, MATRIX, join_parts
+from .maps import make_maps
+from .notes import write_notes
+from .report import TOLD, report_stage
+from .results import Whole, make_tables
+from .running import refuse_failed, run_parts
+from .stages import RECORDS, Folder, Record, Stage, held, log, room
+from .ttm import version_of
+from .wishes import Study
+
+OF_ONE_ORIGIN = ("origins: ", "rows: ", "cells: ", "bytes of ")  # what the report of a trial says of itself
+ASIDE = re.compile(r"\.part\.([0-9]+)\..*")
+
+
+def make_study(study: Study, out: Path, means: Means) -> None:
+    """Makes all of a study's folder that isn't there yet."""
+    needs(*packages_of(study))
+    with found_program(), held(out), contextlib.chdir(out):
+        folder, version = Folder(Path(".")), version_of(program_at(None))
+        Path(RECORDS).mkdir(exist_ok=True)
+        log("command", "began", 0.0)
+        sweep(Path("."), inside_parts=False)
+        inputs = make_inputs(study, folder)
+        refuse_wishes(study, inputs)
+        key = study_key(inputs, version)
+        records = {"told": folder.do(told_stage(inputs, key))}
+        records["matrix"] = folder.do(matrix_stage(study, inputs, key, version, means))
+        if not study.parts.keep:
+            remove(Path(PARTS))
+        sum_of_matrix = records["matrix"].outputs[MATRIX]
+        whole = Whole(study, inputs, sum_of_matrix, open_matrix(MATRIX).scenarios)
+        records |= make_results(whole, folder, records, version)
+        write_notes(study, inputs, records, version, parts_noted())
+        sweep(Path("."), inside_parts=True)
+
+
+def packages_of(study: Study) -> list[str]:
+    """What the results need, so that a lack is told before the run."""
+    wish = study.results
+    streets = ["osmium", "scipy"] if study.walks.streets else []
+    return ["h5py", *(["matplotlib"] if wish.maps else []), *(["shapely"] if study.feed.area else []), *streets]
+
+
+def refuse_wishes(study: Study, inputs: Inputs) -> None:
+    """Tells before the run what maps couldn't show after it."""
+    if not study.results.maps:
+        return
+    origins = set(origins_in(str(inputs.run.files["origins"])))
+    lost = next((stop for stop in study.results.map_origins if stop not in origins), None)
+    if lost is not None:
+        raise BadInput(study.path, f"map_origins of [results]: {lost} is no origin of the study")
+    if not read_stops(inputs.feed).placed.any():
+        raise BadInput(f"{inputs.feed}/stops.txt", "no stop has stop_lat and stop_lon: say maps = false in [results]")
+
+
+def make_results(whole: Whole, folder: Folder, records: dict[str, Record], version: list[str]) -> dict[str, Record]:
+    """Does all stages behind the matrix."""
+    made = make_tables(whole, folder)
+    maps = make_maps(whole, folder)
+    made |= {"maps": maps} if maps else {}
+    made["report"] = folder.do(report_stage(whole, {**records, **made}, version))
+    return made
+
+
+@contextlib.contextmanager
+def found_program() -> Iterator[None]:
+    """Has `ttm` be found from any folder."""
+    before, found = os.environ.get("TTM_PROGRAM"), shutil.which(program_at(None))
+    os.environ["TTM_PROGRAM"] = os.path.abspath(found or program_at(None))
+    try:
+        yield
+    finally:
+        os.environ.pop("TTM_PROGRAM")
+        if before is not None:
+            os.environ["TTM_PROGRAM"] = before
+
+
+def told_stage(inputs: Inputs, key: str) -> Stage:
+    """What `ttm` tells of the feed, its days and its scenarios: the report of a run of one origin."""
+
+    def make() -> list[str]:
+        with room() as made:
+            _, report = trial(inputs, origins_in(str(inputs.run.files["origins"]))[:1], made)
+        lines = [line for line in report.facts if not line.startswith(OF_ONE_ORIGIN)]
+        Path(TOLD).write_text("".join(line + "\n" for line in lines), encoding="utf-8")
+        return [line for line in lines if line.startswith(("runs in scenario", "warning"))]
+
+    return Stage("told", {"study": key}, [TOLD], make)
+
+
+def matrix_stage(study: Study, inputs: Inputs, key: str, version: list[str], means: Means) -> Stage:
+    """The matrix, by parts of the origins."""
+    with_csv = study.results.csv
+
+    def make() -> list[str]:
+        with room() as made:
+            parts, shape = cut_of(study.parts, inputs, key, means.at_once, made)
+        if means.is_elsewhere:
+            failed = run_elsewhere(inputs.run, parts, key, version, means)
+        else:
+            failed = run_parts(inputs.run, parts, shape.at_once, shape.threads)
+        refuse_failed(failed, len(parts))
+        return join_parts(parts, with_csv, inputs.left_out, shown_columns(inputs))
+
+    depends = {"study": key, "origins": inputs.records["origins"].outputs, "csv": with_csv}
+    return Stage("matrix", depends, [MATRIX, *([CSV] if with_csv else [])], make)
+
+
+def shown_columns(inputs: Inputs) -> list[str]:
+    """The points at which journeys end, where there are points: the matrix shows these alone."""
+    destinations = Path(POINTS) / "destinations.csv"
+    return origins_in(str(destinations)) if "points" in inputs.records else []
+
+
+def sweep(folder: Path, inside_parts: bool) -> None:
+    """Removes what commands that were killed left aside; that of parts when all are done, since other hosts may be at
+    work on some.
+    """
+    for path in sorted(folder.rglob(".part.*")):
+        found = ASIDE.fullmatch(path.name)
+        if found and (inside_parts if PARTS in path.parts else not is_running(int(found[1]))):
+            remove(path)

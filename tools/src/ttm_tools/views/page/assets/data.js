@@ -1,0 +1,112 @@
+"use strict";
+// The numbers of the page; the comment above them in the page says how they are written.
+
+const LATER = 254; // a cell of more than 253 minutes
+const NEVER = 255; // a cell that isn't reached
+const NOWHERE = 2147483647; // a latitude of a place without one
+const CHANGED_LINES = ["taken", "changed", "added"]; // kinds of lines that differ in a scenario from the base
+const BLOCKS_KEPT = 96; // blocks of cells that are kept inflated
+
+const head = JSON.parse(document.getElementById("head").textContent);
+
+/** The bytes of a part of the page. */
+async function inflated(name) {
+  const element = document.getElementById(name);
+  const text = atob(element.textContent);
+  const packed = new Uint8Array(text.length);
+  for (let place = 0; place < text.length; place++) {
+    packed[place] = text.charCodeAt(place);
+  }
+  const stream = new Blob([packed]).stream().pipeThrough(new DecompressionStream("deflate"));
+  return new Response(stream).arrayBuffer();
+}
+
+const numbers = {}; // what `readNumbers` has read, by the names of the parts
+
+/** Reads all that is shown before a place is chosen. */
+async function readNumbers() {
+  const kinds = { places: Int32Array, widths: Float32Array, counts: Float64Array, running: Int32Array };
+  for (const name of ["columns", "origins", "rows"]) {
+    kinds[name] = Int32Array;
+  }
+  for (let scenario = 0; scenario < head.scenarios.length; scenario++) {
+    for (const name of CHANGED_LINES) {
+      kinds[`${name}-${scenario}`] = Int32Array;
+    }
+    for (let share = 0; share < head.shares.length; share++) {
+      kinds[`access-${scenario}-${share}`] = Float64Array;
+      kinds[`marks-${scenario}-${share}`] = Uint8Array;
+    }
+  }
+  await Promise.all(Object.entries(kinds).map(async ([name, Kind]) => {
+    numbers[name] = new Kind(await inflated(name));
+  }));
+  for (const name of ["origins", "rows"]) {
+    const places = new Int32Array(head.names.length).fill(-1);
+    numbers[name].forEach((place, number) => { places[place] = number; });
+    numbers[`${name}At`] = places; // the number of each place among them, -1 where it isn't
+  }
+}
+
+const blocks = new Map(); // inflated blocks of cells by their names, the one that was asked for last at the end
+
+/** The cells of a block, as minutes. */
+async function readBlock(scenario, share, number) {
+  const name = `cells-${scenario}-${share}-${number}`;
+  let cells = blocks.get(name);
+  blocks.delete(name);
+  if (cells === undefined) {
+    cells = new Uint8Array(await inflated(name));
+    for (let place = head.columns; place < cells.length; place++) {
+      cells[place] += cells[place - head.columns];
+    }
+    if (scenario > 0) {
+      const below = await readBlock(0, share, number);
+      for (let place = 0; place < cells.length; place++) {
+        cells[place] += below[place];
+      }
+    }
+  }
+  blocks.set(name, cells);
+  if (blocks.size > BLOCKS_KEPT) {
+    blocks.delete(blocks.keys().next().value);
+  }
+  return cells;
+}
+
+/** Travel times from a place in minutes, for each column; null where the page hasn't them. */
+async function minutesFrom(place, scenario, share) {
+  const row = numbers.rowsAt[place];
+  if (row < 0) {
+    return null;
+  }
+  const block = Math.floor(row / head.rowsInBlock);
+  const begin = (row - block * head.rowsInBlock) * head.columns;
+  return (await readBlock(scenario, share, block)).subarray(begin, begin + head.columns);
+}
+
+/** Access from each origin, by a measure's number. */
+function accessOf(scenario, share, measure) {
+  const begin = measure * head.origins;
+  return numbers[`access-${scenario}-${share}`].subarray(begin, begin + head.origins);
+}
+
+/** For each origin 1 where it is cut off from half of what it reached, 2 where it is joined to so much, else 0. */
+function marksOf(scenario, share) {
+  return numbers[`marks-${scenario}-${share}`];
+}
+
+/** A column of counts, a number for each place. */
+function countsOf(number) {
+  return numbers.counts.subarray(number * head.names.length, (number + 1) * head.names.length);
+}
+
+function isPlaced(place) {
+  return numbers.places[2 * place] !== NOWHERE;
+}
+
+/** A place's name, with its identifier where they differ. */
+function nameOf(place) {
+  const name = head.names[place], identifier = head.identifiers[place];
+  return name === identifier ? name : `${name} (${identifier})`;
+}

@@ -1,0 +1,331 @@
+"use strict";
+// The map: Leaflet, with one canvas on which lines and places are drawn, and what lies where.
+
+const PAD = 0.3; // of the map's size, by which the canvas is larger on each side, so that it can be dragged
+const REACH = 22; // pixels from a place at which a click still takes it
+const LEAST_SQUARE = 2; // pixels
+const DEGREE = 111195; // metres of latitude
+const LINES = {
+  running: { colour: "#b9b9b9", width: 1.1, dash: [], label: "where vehicles run" },
+  taken: { colour: "#222222", width: 3.2, dash: [], label: "trips that are taken out" },
+  changed: { colour: "#882255", width: 3.2, dash: [2, 4], label: "trips that are changed" },
+  added: { colour: "#117733", width: 3.6, dash: [9, 5], label: "trips that are added" },
+};
+
+/** Degrees as places on the map of zoom 0, where the world is 256 wide; NaN where there is none. */
+function onWorld(degrees) {
+  const made = new Float64Array(degrees.length);
+  for (let place = 0; place < degrees.length; place += 2) {
+    if (degrees[place] === NOWHERE) {
+      made[place] = made[place + 1] = NaN;
+    } else {
+      const point = L.CRS.EPSG3857.latLngToPoint(L.latLng(degrees[place] / 1e6, degrees[place + 1] / 1e6), 0);
+      made[place] = point.x;
+      made[place + 1] = point.y;
+    }
+  }
+  return made;
+}
+
+const Drawing = L.Layer.extend({
+  initialize(paint) {
+    this.paint = paint;
+    this.canvas = L.DomUtil.create("canvas", "drawing");
+  },
+
+  onAdd(map) {
+    map.getPane("overlayPane").appendChild(this.canvas);
+    map.on("moveend zoomend resize viewreset", this.draw, this);
+    this.draw();
+  },
+
+  onRemove(map) {
+    this.canvas.remove();
+    map.off("moveend zoomend resize viewreset", this.draw, this);
+  },
+
+  draw() {
+    const map = this._map;
+    if (!map) {
+      return;
+    }
+    const size = map.getSize(), pad = size.multiplyBy(PAD).round(), whole = size.add(pad.multiplyBy(2));
+    const fine = Math.max(window.devicePixelRatio || 1, this.finest || 1);
+    this.canvas.width = whole.x * fine;
+    this.canvas.height = whole.y * fine;
+    this.canvas.style.width = `${whole.x}px`;
+    this.canvas.style.height = `${whole.y}px`;
+    const corner = map.containerPointToLayerPoint(L.point(0, 0)).subtract(pad);
+    L.DomUtil.setPosition(this.canvas, corner);
+    const pen = this.canvas.getContext("2d");
+    pen.scale(fine, fine);
+    const origin = map.getPixelOrigin().add(corner);
+    this.paint(pen, { scale: 2 ** map.getZoom(), x: origin.x, y: origin.y, width: whole.x, height: whole.y });
+  },
+});
+
+/** The map of the page. `draw()` shows what `shown` says; `chosen(place)` is called where one is clicked on. */
+class PageMap {
+  constructor(chosen, tipOf) {
+    this.points = onWorld(numbers.places);
+    this.lines = {};
+    this.shown = { classes: null, marks: [UNKNOWN], faint: null, place: -1, scenario: 0 };
+    this.map = L.map("map", { zoomControl: true, zoomSnap: 0.25, wheelPxPerZoomLevel: 90, zoomAnimation: false,
+      fadeAnimation: false, attributionControl: head.tiles !== null, maxZoom: 19, minZoom: 2 });
+    L.control.scale({ imperial: false }).addTo(this.map);
+    this.addNorth();
+    if (head.tiles !== null) {
+      this.addTiles();
+    }
+    this.fit();
+    this.drawing = new Drawing((pen, view) => this.paint(pen, view)).addTo(this.map);
+    this.map.on("click", (event) => {
+      const place = this.placeAt(event.containerPoint);
+      if (place >= 0) {
+        chosen(place);
+      }
+    });
+    this.addTip(tipOf);
+  }
+
+  addNorth() {
+    const north = L.control({ position: "topright" });
+    north.onAdd = () => {
+      const made = L.DomUtil.create("div", "north");
+      made.textContent = "↑ N";
+      made.title = "North is up";
+      return made;
+    };
+    north.addTo(this.map);
+  }
+
+  addTiles() {
+    this.map.attributionControl.setPrefix(false);
+    const text = document.createElement("span");
+    text.textContent = head.tiles.attribution;
+    L.tileLayer(head.tiles.url, { attribution: text.innerHTML, maxZoom: 19, opacity: 0.55 }).addTo(this.map);
+  }
+
+  addTip(tipOf) {
+    const tip = document.getElementById("tip");
+    this.map.on("mousemove", (event) => {
+      const place = this.placeAt(event.containerPoint);
+      tip.hidden = place < 0;
+      this.map.getContainer().style.cursor = place < 0 ? "" : "pointer";
+      if (place >= 0) {
+        tip.textContent = tipOf(place);
+        const left = Math.min(event.originalEvent.clientX + 14, window.innerWidth - tip.offsetWidth - 4);
+        tip.style.left = `${Math.max(4, left)}px`;
+        tip.style.top = `${event.originalEvent.clientY + 16}px`;
+      }
+    });
+    this.map.on("mouseout", () => { tip.hidden = true; });
+  }
+
+  /** Shows all places. */
+  fit() {
+    let [west, east, south, north] = [Infinity, -Infinity, Infinity, -Infinity];
+    for (let place = 0; place < head.names.length; place++) {
+      if (isPlaced(place)) {
+        const latitude = numbers.places[2 * place] / 1e6, longitude = numbers.places[2 * place + 1] / 1e6;
+        const half = numbers.widths[place] / 2 / DEGREE, wide = half / Math.cos((latitude * Math.PI) / 180);
+        [west, east] = [Math.min(west, longitude - wide), Math.max(east, longitude + wide)];
+        [south, north] = [Math.min(south, latitude - half), Math.max(north, latitude + half)];
+      }
+    }
+    this.map.fitBounds([[south, west], [north, east]], { padding: [14, 14], maxZoom: 16, animate: false });
+    this.fitZoom = this.map.getZoom();
+  }
+
+  /** Brings a place into the map where it is outside. */
+  bring(place) {
+    if (isPlaced(place)) {
+      const at = L.latLng(numbers.places[2 * place] / 1e6, numbers.places[2 * place + 1] / 1e6);
+      if (!this.map.getBounds().pad(-0.05).contains(at)) {
+        this.map.panTo(at, { animate: false });
+      }
+    }
+  }
+
+  show(shown) {
+    this.shown = shown;
+    this.drawing.draw();
+  }
+
+  /** Where a place lies in the map's own pixels. */
+  pixelOf(place) {
+    const scale = 2 ** this.map.getZoom();
+    const origin = this.map.getPixelOrigin().add(this.map.containerPointToLayerPoint(L.point(0, 0)));
+    return L.point(this.points[2 * place] * scale - origin.x, this.points[2 * place + 1] * scale - origin.y);
+  }
+
+  /** The place at a pixel: the nearest one within reach, or whose square it is in; -1 where there is none. */
+  placeAt(pixel) {
+    const scale = 2 ** this.map.getZoom();
+    const origin = this.map.getPixelOrigin().add(this.map.containerPointToLayerPoint(L.point(0, 0)));
+    const x = (pixel.x + origin.x) / scale, y = (pixel.y + origin.y) / scale;
+    let found = -1, least = (REACH / scale) ** 2;
+    for (let place = 0; place < head.names.length; place++) {
+      const east = this.points[2 * place] - x, south = this.points[2 * place + 1] - y;
+      const far = east * east + south * south;
+      const half = numbers.widths[place] > 0 ? this.sideOf(place) / 2 : 0;
+      if (far < least || (half > 0 && Math.max(Math.abs(east), Math.abs(south)) <= half && found < 0)) {
+        found = place;
+        least = Math.min(far, least);
+      }
+    }
+    return found;
+  }
+
+  /** The side of a place's square on the map of zoom 0. */
+  sideOf(place) {
+    const latitude = (numbers.places[2 * place] / 1e6) * (Math.PI / 180);
+    return (numbers.widths[place] * 256) / (2 * Math.PI * L.CRS.EPSG3857.R * Math.cos(latitude));
+  }
+
+  paint(pen, view) {
+    pen.clearRect(0, 0, view.width, view.height);
+    this.paintLines(pen, view, "running");
+    const squares = numbers.widths.some((width) => width > 0);
+    if (!squares) {
+      this.paintChanges(pen, view);
+    }
+    this.paintPlaces(pen, view);
+    if (squares) {
+      this.paintChanges(pen, view);
+    }
+    if (this.shown.place >= 0 && isPlaced(this.shown.place)) {
+      paintStar(pen, ...this.at(this.shown.place, view));
+    }
+  }
+
+  paintChanges(pen, view) {
+    if (this.shown.scenario > 0) {
+      for (const name of CHANGED_LINES) {
+        this.paintLines(pen, view, `${name}-${this.shown.scenario}`);
+      }
+    }
+  }
+
+  paintLines(pen, view, name) {
+    const how = LINES[name.split("-")[0]];
+    this.lines[name] ??= onWorld(numbers[name]);
+    const ends = this.lines[name];
+    pen.beginPath();
+    for (let place = 0; place < ends.length; place += 4) {
+      pen.moveTo(ends[place] * view.scale - view.x, ends[place + 1] * view.scale - view.y);
+      pen.lineTo(ends[place + 2] * view.scale - view.x, ends[place + 3] * view.scale - view.y);
+    }
+    pen.setLineDash(how.dash);
+    pen.lineWidth = how.width;
+    pen.strokeStyle = how.colour;
+    pen.stroke();
+    pen.setLineDash([]);
+  }
+
+  at(place, view) {
+    return [this.points[2 * place] * view.scale - view.x, this.points[2 * place + 1] * view.scale - view.y];
+  }
+
+  /** All places: faint ones first, then small marks, and what is cut off on top. */
+  paintPlaces(pen, view) {
+    const { classes, marks, faint } = this.shown;
+    const order = marks.map((mark, number) => number).sort((a, b) => marks[a].size - marks[b].size || b - a);
+    const groups = marks.map(() => [[], []]);
+    for (let place = 0; place < head.names.length; place++) {
+      const [x, y] = this.at(place, view);
+      if (x > -40 && y > -40 && x < view.width + 40 && y < view.height + 40) {
+        groups[classes === null ? 0 : classes[place]][faint !== null && faint[place] ? 0 : 1].push(place);
+      }
+    }
+    const radius = this.radius();
+    for (const bright of [0, 1]) {
+      pen.globalAlpha = bright ? 1 : 0.28;
+      for (const number of order) {
+        for (const place of groups[number][bright]) {
+          const side = numbers.widths[place] > 0 ? Math.max(this.sideOf(place) * view.scale, LEAST_SQUARE) : 0;
+          const [x, y] = this.at(place, view);
+          paintPlace(pen, marks[number], x, y, side || radius * (bright ? 1 : 0.7), side > 0);
+        }
+      }
+    }
+    pen.globalAlpha = 1;
+  }
+
+  /** The radius of an ordinary mark, so that marks don't hide one another where all places are shown. */
+  radius() {
+    const size = this.map.getSize(), count = Math.max(1, head.names.length);
+    const at = Math.min(6.5, Math.max(1.6, 0.2 * Math.sqrt((size.x * size.y) / count)));
+    return Math.min(10, at * 1.35 ** Math.max(0, this.map.getZoom() - this.fitZoom));
+  }
+}
+
+/** A place's mark, or its square with a mark of its class in it. */
+function paintPlace(pen, mark, x, y, size, square) {
+  if (!square) {
+    paintMark(pen, mark, x, y, size * mark.size);
+    return;
+  }
+  pen.fillStyle = mark.shape === "thin" || mark.shape === "dot" ? "#e4e4e4" : mark.colour;
+  pen.fillRect(x - size / 2, y - size / 2, size, size);
+  if (size >= 9 && mark.shape !== "circle" && mark.shape !== "dot") {
+    const colour = mark.shape === "cross" ? "#ffffff" : mark.shape === "thin" ? "#8a8a8a" : "#333333";
+    paintMark(pen, { ...mark, colour, inside: true }, x, y, size * 0.22);
+  }
+}
+
+/** A mark of a class, on which a colour isn't all that tells it from others. */
+function paintMark(pen, mark, x, y, radius) {
+  pen.beginPath();
+  pen.fillStyle = mark.colour;
+  pen.lineWidth = Math.min(1, radius / 5);
+  pen.strokeStyle = "#333333";
+  if (mark.shape === "down" || mark.shape === "up") {
+    const tip = mark.shape === "up" ? -radius : radius;
+    pen.moveTo(x, y + 1.1 * tip);
+    pen.lineTo(x - 1.1 * radius, y - 0.8 * tip);
+    pen.lineTo(x + 1.1 * radius, y - 0.8 * tip);
+    pen.closePath();
+  } else if (mark.shape === "cross" || mark.shape === "plus" || mark.shape === "thin") {
+    paintBars(pen, mark, x, y, radius);
+    return;
+  } else {
+    pen.arc(x, y, mark.shape === "dot" ? Math.min(radius, 1.5) : radius, 0, 2 * Math.PI);
+  }
+  pen.fill();
+  if (!mark.inside && mark.shape !== "dot" && radius > 2) {
+    pen.stroke();
+  }
+}
+
+/** Two bars, upright or not, with an edge of another colour. */
+function paintBars(pen, mark, x, y, radius) {
+  const [across, up] = mark.shape === "plus" ? [radius, 0] : [radius * 0.75, radius * 0.75];
+  pen.moveTo(x - across, y - up);
+  pen.lineTo(x + across, y + up);
+  pen.moveTo(x - up, y + across);
+  pen.lineTo(x + up, y - across);
+  if (mark.shape !== "thin" && !mark.inside) {
+    pen.lineWidth = radius * 0.95;
+    pen.strokeStyle = mark.shape === "cross" ? "#ffffff" : "#000000";
+    pen.stroke();
+  }
+  pen.lineWidth = mark.shape === "thin" ? Math.max(0.8, radius * 0.28) : radius * 0.55;
+  pen.strokeStyle = mark.colour;
+  pen.stroke();
+}
+
+/** The star at the place from which one starts. */
+function paintStar(pen, x, y) {
+  pen.beginPath();
+  for (let point = 0; point < 10; point++) {
+    const far = point % 2 ? 5 : 12, angle = (point * Math.PI) / 5 - Math.PI / 2;
+    pen.lineTo(x + far * Math.cos(angle), y + far * Math.sin(angle));
+  }
+  pen.closePath();
+  pen.fillStyle = "#111111";
+  pen.strokeStyle = "#ffffff";
+  pen.lineWidth = 2;
+  pen.stroke();
+  pen.fill();
+}

@@ -1,0 +1,195 @@
+"""What a page is made of: places, travel times in minutes, access, and lines, as numbers."""
+
+from dataclasses import dataclass, field
+from typing import Sequence
+
+import numpy as np
+import numpy.typing as npt
+
+from ... import progress
+from ...faults import BadInput
+from ...feed import Floats, Stops
+from ...matrices import Matrix, Share, lacking, pair_of
+from ...measures.access import STEP, Decay
+from ...measures.comparison import CUT_OFF, NEW, compare
+from ...measures.opportunities import Counts, read_counts
+from ...records import shown
+from .parts import Bytes, minutes_of
+from .places import Places, places_of
+
+MOST_CELLS = 60_000_000  # that a page takes
+CUT, JOINED = 1, 2  # origins that lose half of the stops that they reached, or more; that gain so many
+Numbers = npt.NDArray[np.intp]
+
+
+@dataclass(frozen=True)
+class Asked:
+    """What of a matrix a page is to show."""
+
+    scenarios: list[str]  # the base first
+    shares: list[Share]
+    cutoffs: Sequence[float]  # of access, minutes
+    what: str = "stops"  # or points
+    opportunities: list[str] = field(default_factory=list)  # files of what is counted
+    people: list[str] = field(default_factory=list)  # and of who lives at the origins
+    origins: list[str] | None = None  # whose travel times are taken; None for all that there is room for
+    seed: int = 1  # of the draw where there is no room for all
+    most_cells: int = MOST_CELLS
+
+
+@dataclass(frozen=True)
+class Ground:
+    """The places of a page, and what of the matrix stands for them."""
+
+    places: Places
+    columns: list[str]  # the stops to which travel times are told, in the order of places
+    origins: list[str]  # those from which access is told
+    rows: list[str]  # the origins whose travel times the page has
+
+    def at(self, names: Sequence[str]) -> npt.NDArray[np.int32]:
+        """The numbers of some of the places."""
+        numbers = {name: number for number, name in enumerate(self.places.identifiers)}
+        return np.array([numbers[name] for name in names], dtype=np.int32)
+
+
+@dataclass(frozen=True)
+class Times:
+    """Of a scenario and a share: the cells, access by origin and measure, and which origins are cut off or joined."""
+
+    cells: Bytes
+    access: Floats
+    marks: Bytes
+
+
+@dataclass(frozen=True)
+class Measure:
+    """What access is told of: what is counted, and within how many seconds; None where the matrix doesn't name it."""
+
+    of: str
+    short: str
+    seconds: int | None
+
+
+@dataclass(frozen=True)
+class Content:
+    """All numbers of a page."""
+
+    ground: Ground
+    counts: Counts  # by place
+    people: int  # the last so many columns of counts are people
+    measures: list[Measure]
+    times: list[list[Times]]  # by scenario and share
+
+
+def origins_of(matrix: Matrix, asked: Asked) -> list[str]:
+    """The origins, which each scenario and share has."""
+    base = asked.scenarios[0]
+    first = matrix.origins(base, asked.shares[0])
+    for scenario in asked.scenarios:
+        for share in asked.shares:
+            lost = lacking((base, first), (scenario, matrix.origins(scenario, share)))
+            if lost is not None:
+                raise BadInput(matrix.path, lost)
+    return first
+
+
+def ground_of(matrix: Matrix, stops: Stops, asked: Asked) -> Ground:
+    """The places in their order, and the rows that there is room for."""
+    origins = origins_of(matrix, asked)
+    places = places_of(stops, list(dict.fromkeys([*matrix.stops, *origins]))).in_order()
+    columns, starts = (
+        [name for name in places.identifiers if name in among] for among in (matrix.places, set(origins))
+    )
+    if np.isnan(places.latitudes).all():
+        raise BadInput(stops.path, f"none of the {asked.what} has a place, so there is nothing to show")
+    wanted = set(starts if asked.origins is None else asked.origins)
+    rows = [name for name in starts if name in wanted]
+    room = asked.most_cells // max(1, len(columns) * len(asked.scenarios) * len(asked.shares))
+    if asked.origins is None and len(rows) > room:
+        drawn = np.random.default_rng(asked.seed).choice(len(rows), room, replace=False)
+        rows = [rows[place] for place in np.sort(drawn).tolist()]
+    return Ground(places, columns, starts, rows)
+
+
+def counts_of(known: Sequence[str], ground: Ground, asked: Asked) -> tuple[Counts, int]:
+    """What is counted, by place, and how many of the columns are people; files name what the matrix has."""
+    numbers = {name: number for number, name in enumerate(known)}
+    chosen = np.array([numbers[name] for name in ground.places.identifiers], dtype=np.intp)
+    found = [read_counts(paths, known, "stop of the matrix") for paths in (asked.opportunities, asked.people)]
+    both = [name for name in found[1].names if name in found[0].names]
+    if both:
+        raise BadInput(", ".join(asked.people), f"a column {shown(both[0])} is among the opportunities too")
+    names = [shown(name) for it in found for name in it.names]
+    return Counts(names, np.concatenate([it.numbers[chosen] for it in found], axis=1)), len(found[1].names)
+
+
+def measures_of(matrix: Matrix, counts: Counts, asked: Asked, unit: str) -> list[Measure]:
+    """What access is told: that of the matrix, then stops (or points) and what is counted, within each cutoff."""
+    own = [Measure(f"{unit} (as ttm counted them)", unit, limit) for limit in matrix.layout.limits]
+    names = [asked.what, *counts.names]
+    return own + [Measure(name, name, round(60 * cutoff)) for name in names for cutoff in asked.cutoffs]
+
+
+def content_of(matrix: Matrix, stops: Stops, known: Sequence[str], asked: Asked, unit: str) -> Content:
+    """Everything that is read of a matrix for a page; `known` are all its stops, points or not."""
+    ground = ground_of(matrix, stops, asked)
+    counts, people = counts_of(known, ground, asked)
+    numbers = np.concatenate([np.ones((len(ground.columns), 1)), counts.numbers[ground.at(ground.columns)]], axis=1)
+    read = Reading(matrix, ground, numbers, asked.cutoffs)
+    base = asked.scenarios[0]
+    times = [[read.times(name, base, share) for share in asked.shares] for name in asked.scenarios]
+    return Content(ground, counts, people, measures_of(matrix, counts, asked, unit), times)
+
+
+@dataclass(frozen=True)
+class Reading:
+    """How a matrix is read for a page."""
+
+    matrix: Matrix
+    ground: Ground
+    numbers: Floats  # a row for each column of the page, a column for each thing that is counted
+    cutoffs: Sequence[float]  # minutes
+
+    def times(self, scenario: str, base: str, share: Share) -> Times:
+        found = self.matrix.origins(scenario, share)
+        numbers = {name: number for number, name in enumerate(found)}
+        order = np.array([numbers[name] for name in self.ground.origins], dtype=np.intp)
+        own = self.matrix.access(scenario, share).astype(np.float64)
+        cells, sums = self.cells_and_sums(scenario, share)
+        access = np.concatenate([own, sums], axis=1)[order]
+        return Times(cells, access, self.marks(scenario, base, share))
+
+    def cells_and_sums(self, scenario: str, share: Share) -> tuple[Bytes, Floats]:
+        """The cells of the page's rows, and the sums of all rows in the matrix' order."""
+        matrix, ground = self.matrix, self.ground
+        columns = np.array([matrix.places[name] for name in ground.columns], dtype=np.intp)
+        rows = {name: row for row, name in enumerate(ground.rows)}
+        cells = np.zeros((len(rows), len(columns)), np.uint8)
+        sums = [np.zeros((0, self.numbers.shape[1] * len(self.cutoffs)))]
+        count = -(-len(matrix.origins(scenario, share)) // matrix.rows_at_once())
+        for block in progress.told(matrix.blocks(scenario, share), count, f"{scenario} {share or ''}", "blocks"):
+            seconds = block.seconds[:, columns]
+            sums.append(self.sums(seconds))
+            taken = [place for place, name in enumerate(block.origins) if name in rows]
+            cells[[rows[block.origins[place]] for place in taken]] = minutes_of(seconds[taken])
+        return cells, np.concatenate(sums)
+
+    def sums(self, seconds: npt.NDArray[np.float32]) -> Floats:
+        """What is reached from some origins: for each thing that is counted, within each cutoff."""
+        decay = Decay(STEP)
+        found = np.stack([decay.weights(seconds, cutoff) @ self.numbers for cutoff in self.cutoffs], axis=2)
+        made: Floats = found.reshape(len(seconds), -1)
+        return made
+
+    def marks(self, scenario: str, base: str, share: Share) -> Bytes:
+        """CUT, JOINED or 0 for each of the page's origins, as a map has these classes."""
+        made = np.zeros(len(self.ground.origins), np.uint8)
+        if scenario == base:
+            return made
+        pair = pair_of(self.matrix, base, scenario, share)
+        numbers = {name: number for number, name in enumerate(pair.origins)}
+        order = np.array([numbers[name] for name in self.ground.origins], dtype=np.intp)
+        found = compare(pair, 0, with_pairs=False)
+        for mark, kind, reached in ((JOINED, NEW, found.reached_after), (CUT, CUT_OFF, found.reached_before)):
+            made[((2 * found.counts[:, kind] >= reached) & (reached > 0))[order]] = mark
+        return made

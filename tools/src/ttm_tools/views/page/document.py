@@ -1,0 +1,145 @@
+"""The document of a page: a template with the files of `assets`, Leaflet, and parts of numbers."""
+
+import base64
+import hashlib
+import json
+from dataclasses import asdict, dataclass, field
+from pathlib import Path
+from typing import Any, BinaryIO, Iterator, Sequence
+from urllib.parse import urlsplit
+
+import numpy as np
+
+from ...faults import Lacking
+from ...matrices import Share
+from ...records import shown
+from .content import Content
+from .lines import Lines
+from .parts import Part, blocks_of, part, rows_in_block
+
+ASSETS = Path(__file__).resolve().parent / "assets"
+LEAFLET = "/usr/share/javascript/leaflet"
+SCRIPTS = ("data.js", "classes.js", "layer.js", "figures.js", "panel.js", "search.js", "main.js")
+STYLES = ("page.css",)
+
+
+@dataclass(frozen=True)
+class Frame:
+    """What stands around the numbers of a page."""
+
+    title: str
+    note: str
+    scenarios: list[str]  # the base first
+    shares: list[Share]
+    meanings: list[str]  # for each share
+    sources: list[tuple[str, str]]
+    told: list[str]  # what a reader needs to know of what is shown
+    minutes: int  # at which the slider stands first
+    tiles: str | None = None  # where a map is fetched from that is drawn below
+    attribution: str = ""
+    leaflet: str = LEAFLET
+    parts: list[Part] = field(default_factory=list)
+
+
+def leaflet_files(folder: str) -> tuple[str, str]:
+    """Leaflet's script and style; which package lacks, where they aren't there."""
+    found = []
+    for name in ("leaflet.min.js", "leaflet.css"):
+        path = Path(folder) / name
+        if not path.is_file():
+            raise Lacking(f"no {path}, which the page needs: apt-get install libjs-leaflet")
+        found.append(path.read_text(encoding="utf-8"))
+    return found[0], found[1]
+
+
+def parts_of(content: Content, lines: Lines) -> Iterator[Part]:
+    """All numbers of a page, as `assets/data.js` reads them."""
+    ground = content.ground
+    yield part("places", ground.places.degrees())
+    yield part("widths", ground.places.widths.astype(np.float32))
+    for name, names in (("columns", ground.columns), ("origins", ground.origins), ("rows", ground.rows)):
+        yield part(name, ground.at(names))
+    yield part("counts", content.counts.numbers.T)
+    yield part("running", lines.running)
+    for scenario, change in enumerate(lines.changes):
+        for name in ("taken", "changed", "added"):
+            yield part(f"{name}-{scenario}", getattr(change, name))
+    for scenario, by_share in enumerate(content.times):
+        for share, times in enumerate(by_share):
+            key = f"{scenario}-{share}"
+            yield part(f"access-{key}", times.access.T)
+            yield part(f"marks-{key}", times.marks)
+            below = content.times[0][share].cells if scenario else None
+            for number, block in enumerate(blocks_of(times.cells, below)):
+                yield part(f"cells-{key}-{number}", block)
+
+
+def head_of(content: Content, lines: Lines, frame: Frame) -> dict[str, Any]:
+    """What a page's numbers are, as the first of its parts says it."""
+    ground, names = content.ground, content.counts.names
+    return {
+        "title": frame.title,
+        "scenarios": [shown(name) for name in frame.scenarios],
+        "shares": frame.shares,
+        "minutes": frame.minutes,
+        "identifiers": [shown(name) for name in ground.places.identifiers],
+        "names": ground.places.names,
+        "columns": len(ground.columns),
+        "origins": len(ground.origins),
+        "rows": len(ground.rows),
+        "rowsInBlock": rows_in_block(len(ground.columns)),
+        "counts": names,
+        "people": names[len(names) - content.people :],
+        "measures": [asdict(measure) for measure in content.measures],
+        "meanings": frame.meanings,
+        "lines": {"source": lines.source},
+        "tiles": {"url": frame.tiles, "attribution": frame.attribution} if frame.tiles else None,
+    }
+
+
+def as_json(head: dict[str, Any]) -> str:
+    """A text that no reader of HTML takes for more than text."""
+    made = json.dumps(head, ensure_ascii=False, separators=(",", ":"))
+    for letter in "<>&\u2028\u2029":
+        made = made.replace(letter, f"\\u{ord(letter):04x}")
+    return made
+
+
+def policy_of(scripts: Sequence[str], styles: Sequence[str], tiles: str | None) -> str:
+    """What a browser may run and fetch: these scripts and styles, by their sums, and tiles where they are asked for."""
+
+    def sums(texts: Sequence[str]) -> str:
+        found = [base64.b64encode(hashlib.sha256(text.encode()).digest()).decode("ascii") for text in texts]
+        return " ".join(f"'sha256-{it}'" for it in found)
+
+    images = "data:" if tiles is None else f"data: {urlsplit(tiles).scheme}:"
+    rest = "base-uri 'none'; form-action 'none'"
+    return f"default-src 'none'; script-src {sums(scripts)}; style-src {sums(styles)}; img-src {images}; {rest}"
+
+
+def write_page(out: BinaryIO, content: Content, lines: Lines, frame: Frame) -> None:
+    """Writes the page, some of it at a time."""
+    from jinja2 import Environment, FileSystemLoader, StrictUndefined
+
+    script, style = leaflet_files(frame.leaflet)
+    scripts = [script, *[(ASSETS / name).read_text(encoding="utf-8") for name in SCRIPTS]]
+    styles = [style, *[(ASSETS / name).read_text(encoding="utf-8") for name in STYLES]]
+    rooms = Environment(
+        loader=FileSystemLoader(ASSETS),
+        autoescape=True,
+        undefined=StrictUndefined,
+        trim_blocks=True,
+        lstrip_blocks=True,
+    )
+    known = {
+        "frame": frame,
+        "policy": policy_of(scripts, styles, frame.tiles),
+        "scripts": scripts,
+        "styles": styles,
+        "licence": (ASSETS / "leaflet_licence.txt").read_text(encoding="utf-8"),
+        "head": as_json(head_of(content, lines, frame)),
+        "parts": parts_of(content, lines),
+        "people": content.people,
+    }
+    for piece in rooms.get_template("page.html").generate(known):
+        out.write(piece.encode("utf-8", "replace"))

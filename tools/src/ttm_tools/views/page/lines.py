@@ -1,0 +1,110 @@
+"""The lines on which vehicles run, and those that scenarios take out, change or add, as pieces in degrees."""
+
+import os
+from dataclasses import dataclass
+from typing import Sequence
+
+import numpy as np
+import numpy.typing as npt
+
+from ...faults import BadInput
+from ...feed import GRID, Points, Projection, Stops, Trips, has_file, lines_of, pieces, read_trips, removed_trips
+from ...matrices import TODAY
+from ...records import shown
+from .places import MICRO
+
+Pieces = npt.NDArray[np.int32]  # latitude, longitude of both ends, in millionths of a degree
+OF_PLANS = "scenarios"  # the folder beside a feed where ttm-tools scenarios writes scenario files
+
+
+@dataclass(frozen=True)
+class Change:
+    """Pieces that differ in a scenario from the base; where trips go and others come, they are changed."""
+
+    taken: Pieces
+    changed: Pieces
+    added: Pieces
+
+
+@dataclass(frozen=True)
+class Lines:
+    """Pieces of lines; those of each scenario as they differ from the base."""
+
+    running: Pieces
+    changes: list[Change]
+    source: str
+
+
+@dataclass(frozen=True)
+class Drawn:
+    """What lines are drawn of."""
+
+    points: Points
+    trips: Trips
+    shaped: bool  # whether the lines are those of shapes
+    projection: Projection
+
+    def pieces(self, trips: set[str]) -> npt.NDArray[np.int32]:
+        """Where some trips run, on the grid."""
+        return pieces(self.points.of_lines(self.trips.lines(trips, self.shaped)))
+
+    def change(self, gone: set[str], new: set[str]) -> Change:
+        """What is another where some trips go and others come."""
+        before, after = self.pieces(gone), self.pieces(new)
+        both = among(after, before)
+        found = (before[~among(before, after)], after[both], after[~both])
+        return Change(*(in_degrees(it, self.projection) for it in found))
+
+
+def scenario_files(folder: str, scenarios: Sequence[str], edits: Sequence[str]) -> dict[str, str]:
+    """The scenario files by the scenarios, which the page has: those that are named, and of a plan's scenarios those
+    that lie in the feed's folder.
+    """
+    files = {}
+    if scenarios[0] == TODAY:
+        beside = {name: os.path.join(folder, OF_PLANS, f"{name}.csv") for name in scenarios}
+        files = {name: path for name, path in beside.items() if os.path.isfile(path)}
+    for path in edits:
+        name = os.path.basename(path).removesuffix(".csv")
+        if name not in scenarios:
+            raise BadInput(path, f"no scenario {shown(name)} on the page; it has {', '.join(map(shown, scenarios))}")
+        files[name] = path
+    return files
+
+
+def page_lines(folder: str, stops: Stops, scenarios: Sequence[str], files: dict[str, str]) -> Lines:
+    """The lines of a feed, but for those that none of the scenarios has, and by their files what each scenario takes
+    out of the base, which is the first of them, and what it adds to it.
+    """
+    projection = Projection(stops.latitudes, stops.longitudes)
+    points, shaped = lines_of(folder, stops, projection), has_file(folder, "shapes.txt")
+    source = "Lines are those of shapes.txt." if shaped else "Lines are drawn straight from stop to stop."
+    if not files:
+        running = in_degrees(pieces(points), projection)
+        return Lines(running, [Change(*[running[:0]] * 3) for _ in scenarios], source)
+    trips = read_trips(folder, shaped)
+    removed = {name: removed_trips(trips, path) for name, path in files.items()}
+    base = removed.get(scenarios[0], set())
+    each = [removed.get(name, base) for name in scenarios]
+    drawn = Drawn(points, trips, shaped, projection)
+    hidden = set.intersection(*each)
+    running = drawn.pieces(set(trips.trips) - hidden) if hidden else pieces(points)
+    changes = [drawn.change(it - base, base - it) for it in each]
+    return Lines(in_degrees(running, projection), changes, source)
+
+
+def among(some: npt.NDArray[np.int32], others: npt.NDArray[np.int32]) -> npt.NDArray[np.bool_]:
+    """Which of some rows are among others."""
+    whole = np.dtype((np.void, 4 * some.dtype.itemsize))
+    first, second = (np.ascontiguousarray(it).view(whole).ravel() for it in (some, others))
+    made: npt.NDArray[np.bool_] = np.isin(first, second)
+    return made
+
+
+def in_degrees(found: npt.NDArray[np.int32], projection: Projection) -> Pieces:
+    """Pieces on the grid in kilometres as pieces in degrees."""
+    kilometres = found.reshape(-1, 2).astype(np.float64) * GRID
+    longitudes = kilometres[:, 0] / (projection.degree * projection.narrow) + projection.longitude
+    latitudes = kilometres[:, 1] / projection.degree + projection.latitude
+    made: Pieces = np.rint(np.stack([latitudes, longitudes], axis=1) * MICRO).astype(np.int32).reshape(-1, 4)
+    return made

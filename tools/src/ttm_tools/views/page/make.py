@@ -1,0 +1,139 @@
+"""From a matrix and a feed to a page, and what is told of it."""
+
+import math
+import os
+import sys
+from dataclasses import dataclass, replace
+from typing import BinaryIO
+
+from ...faults import BadInput
+from ...feed import read_list
+from ...matrices import Matrix, Share
+from ...points.shown import points_in, shown_of
+from ...records import shown
+from . import sources
+from .content import MOST_CELLS, Asked, Content, content_of, origins_of
+from .document import LEAFLET, Frame, write_page
+from .lines import Lines, page_lines, scenario_files
+
+MINUTES, MOST_MINUTES = 30, 120  # of the slider: where it stands first, and where it ends
+
+
+@dataclass(frozen=True)
+class Wish:
+    """What is asked for, as words and names of files."""
+
+    feed: str
+    points: str | None
+    edits: list[str]
+    opportunities: list[str]
+    people: list[str]
+    scenarios: list[str]  # beside the base; none for all
+    base: str
+    share: int | None
+    cutoffs: list[float]  # minutes
+    origins: str | None
+    seed: int
+    unit: str
+    title: str | None
+    note: str | None
+    words: str | None
+    tiles: str | None
+    attribution: str | None
+    leaflet: str = LEAFLET
+
+
+@dataclass(frozen=True)
+class Page:
+    """All that stands in a page."""
+
+    content: Content
+    lines: Lines
+    frame: Frame
+
+    def write(self, out: BinaryIO) -> None:
+        write_page(out, self.content, self.lines, self.frame)
+
+
+def asked_of(matrix: Matrix, what: str, wish: Wish) -> Asked:
+    """What of the matrix is shown, stops or points; that it has it is looked at."""
+    base = matrix.scenario(wish.base or matrix.base)
+    others = [matrix.scenario(name) for name in wish.scenarios or matrix.compared]
+    scenarios = list(dict.fromkeys([base, *others]))
+    shares: list[Share] = matrix.shares if wish.share is None else [matrix.share(wish.share)]
+    files = (wish.opportunities, wish.people)
+    asked = Asked(scenarios, shares, wish.cutoffs, what, *files, None, wish.seed, MOST_CELLS)
+    if wish.origins is None:
+        return asked
+    named = read_list(wish.origins, origins_of(matrix, asked), "origin")
+    cells = len(named) * len(matrix.stops) * len(scenarios) * len(shares)
+    if cells > MOST_CELLS:
+        raise BadInput(wish.origins, f"travel times from its stops are {cells:,}, and a page takes {MOST_CELLS:,}")
+    return replace(asked, origins=named)
+
+
+def page_of(matrix: Matrix, wish: Wish) -> Page:
+    """The page that is asked for."""
+    chosen, stops = shown_of(matrix, wish.feed, wish.points)
+    assert stops is not None  # there is a feed
+    asked = asked_of(chosen, "stops" if chosen is matrix else "points", wish)
+    content = content_of(chosen, stops, matrix.stops_and_origins(), asked, wish.unit)
+    files = scenario_files(wish.feed, asked.scenarios, wish.edits)
+    lines = page_lines(wish.feed, stops, asked.scenarios, files)
+    return Page(content, lines, frame_of(matrix, content, asked, replace(wish, edits=list(files.values()))))
+
+
+def frame_of(matrix: Matrix, content: Content, asked: Asked, wish: Wish) -> Frame:
+    """What stands around the numbers."""
+    words = sources.Words(wish.words or "")
+    name = shown(os.path.basename(os.path.abspath(wish.feed)))
+    files = {
+        "Matrix": [matrix.path],
+        "Points": [path for path in [wish.points or points_in(wish.feed)] if path is not None],
+        "Opportunities": wish.opportunities,
+        "People": wish.people,
+        "Scenario": wish.edits,
+    }
+    return Frame(
+        wish.title or f"Travel times and access: {name}",
+        wish.note or "",
+        asked.scenarios,
+        asked.shares,
+        [sources.meaning(share, words) for share in asked.shares],
+        sources.table(files, wish.feed, words),
+        told_rows(content, asked),
+        first_minutes(matrix),
+        wish.tiles,
+        wish.attribution or "",
+        wish.leaflet,
+    )
+
+
+def first_minutes(matrix: Matrix) -> int:
+    """Where the slider stands first: at the first limit of the matrix, where it has one."""
+    limit = matrix.layout.limits[0]
+    return MINUTES if limit is None else min(max(1, math.ceil(limit / 60)), MOST_MINUTES)
+
+
+def told_rows(content: Content, asked: Asked) -> list[str]:
+    """What is told where the page hasn't the travel times from all origins, or can't draw all places."""
+    ground, told = content.ground, []
+    if len(ground.rows) < len(ground.origins):
+        how = "named" if asked.origins is not None else f"drawn with the seed {asked.seed}"
+        told.append(
+            f"The page has the travel times from {len(ground.rows):,} of {len(ground.origins):,} origins, which were "
+            f"{how}, and access from all."
+        )
+    lost = sum(1 for latitude in ground.places.latitudes if math.isnan(latitude))
+    if lost:
+        told.append(f"{lost:,} places have no coordinates: they are found by name, and aren't on the map.")
+    return told
+
+
+def tell(path: str, page: Page) -> None:
+    """Says on the standard error what was written."""
+    ground = page.content.ground
+    count, rows = len(ground.places.identifiers), len(ground.rows)
+    print(f"{path}: {count:,} places, travel times from {rows:,} of them", file=sys.stderr)
+    for line in page.frame.told:
+        print(line, file=sys.stderr)

@@ -1,0 +1,72 @@
+"""The stops or points that a page shows, in an order in which neighbours stand together."""
+
+from dataclasses import dataclass
+from typing import Sequence
+
+import numpy as np
+import numpy.typing as npt
+
+from ...feed import Floats, Stops
+
+MICRO = 1_000_000  # of a degree
+NOWHERE = np.iinfo(np.int32).max
+CELLS = 1 << 15  # of the square of the order, along a side
+
+
+@dataclass(frozen=True)
+class Places:
+    """Stops or points, by what a matrix calls them."""
+
+    identifiers: list[str]
+    names: list[str]  # for people
+    latitudes: Floats  # degrees, NaN where there is no place
+    longitudes: Floats
+    widths: Floats  # metres of a square, 0 where it is no square
+
+    def chosen(self, order: Sequence[int]) -> "Places":
+        identifiers, names = ([texts[place] for place in order] for texts in (self.identifiers, self.names))
+        numbers = (self.latitudes, self.longitudes, self.widths)
+        latitudes, longitudes, widths = (it[np.array(order, dtype=np.intp)] for it in numbers)
+        return Places(identifiers, names, latitudes, longitudes, widths)
+
+    def in_order(self) -> "Places":
+        """The same, neighbours together; those without a place last."""
+        return self.chosen(np.argsort(ranks(self.latitudes, self.longitudes), kind="stable").tolist())
+
+    def degrees(self) -> npt.NDArray[np.int32]:
+        """Latitude and longitude of each in millionths of a degree, NOWHERE where there is no place."""
+        made = np.stack([self.latitudes, self.longitudes], axis=1) * MICRO
+        return np.where(np.isnan(made), NOWHERE, np.rint(made)).astype(np.int32)
+
+
+def places_of(stops: Stops, identifiers: Sequence[str]) -> Places:
+    """The places of some stops or points, which the feed has."""
+    found = stops.of(identifiers)
+    widths = np.zeros(len(identifiers)) if found.widths is None else np.nan_to_num(found.widths)
+    return Places(found.identifiers, found.names, found.latitudes, found.longitudes, widths)
+
+
+def ranks(latitudes: Floats, longitudes: Floats) -> Floats:
+    """Where each place comes on a line that winds through all of them (that of Hilbert); infinite without a place."""
+    placed = ~np.isnan(latitudes)
+    made = np.full(len(latitudes), np.inf)
+    if placed.any():
+        low = np.array([latitudes[placed].min(), longitudes[placed].min()])
+        side = max(float(np.ptp(latitudes[placed])), float(np.ptp(longitudes[placed]))) or 1.0
+        scaled = (np.stack([latitudes[placed], longitudes[placed]], axis=1) - low) / side * (CELLS - 1)
+        made[placed] = along_hilbert(*np.rint(scaled).astype(np.int64).T)
+    return made
+
+
+def along_hilbert(x: npt.NDArray[np.int64], y: npt.NDArray[np.int64]) -> npt.NDArray[np.int64]:
+    """The numbers of cells of a square along Hilbert's curve, one halving of the square at a time."""
+    made = np.zeros(len(x), np.int64)
+    half = CELLS // 2
+    while half:
+        right, up = (x & half) > 0, (y & half) > 0
+        made += half * half * np.where(right, np.where(up, 2, 3), np.where(up, 1, 0))
+        flipped = right & ~up
+        x, y = np.where(flipped, CELLS - 1 - x, x), np.where(flipped, CELLS - 1 - y, y)
+        x, y = np.where(up, x, y), np.where(up, y, x)
+        half //= 2
+    return made

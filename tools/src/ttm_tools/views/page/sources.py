@@ -1,0 +1,73 @@
+"""Where a page comes from and what its numbers mean, in words."""
+
+import os
+import shlex
+from dataclasses import dataclass
+from pathlib import Path
+from typing import Mapping, Sequence
+
+from ... import __version__
+from ...faults import WrongWords
+from ...files import sum_of
+from ...matrices import Share
+from ...records import shown
+
+FEED = "stops routes trips stop_times calendar calendar_dates frequencies transfers shapes".split()
+
+
+@dataclass(frozen=True)
+class Words:
+    """The words of the run, as far as they are told."""
+
+    text: str = ""
+
+    def value(self, name: str) -> str | None:
+        """What stands behind an option, or None."""
+        try:
+            words = shlex.split(self.text)
+        except ValueError as fault:
+            raise WrongWords(f"--words {self.text!r}: {fault}") from None
+        for place, word in enumerate(words):
+            if word.startswith(f"{name}="):
+                return word.partition("=")[2]
+            if word == name and place + 1 < len(words):
+                return words[place + 1]
+        return None
+
+    @property
+    def date(self) -> str | None:
+        text = self.value("--date")
+        return f"{text[:4]}-{text[4:6]}-{text[6:]}" if text and text.isdigit() and len(text) == 8 else text
+
+    @property
+    def window(self) -> str | None:
+        ends = [self.value(name) for name in ("--from", "--to")]
+        return f"{ends[0]} to {ends[1]}" if all(ends) else None
+
+
+def meaning(share: Share, words: Words) -> str:
+    """What a travel time says, in one sentence."""
+    window = f" of the window {words.window}" if words.window else " of the window that was asked for"
+    often = "a share" if share is None else f"at least {share} of 100"
+    return (
+        f"A travel time of 30 minutes says: for {often} of the departures{window}, one each minute, one is there within"
+        " 30 minutes of the departure, with all waiting, walking and changing in it (rounded up to whole minutes); "
+        "'not reached' says that fewer departures lead there at all."
+    )
+
+
+def table(names: Mapping[str, Sequence[str]], feed: str, words: Words) -> list[tuple[str, str]]:
+    """Where the page comes from, as lines of a table: the feed, the day, the words of the run, and the sums of all
+    files, by what they are.
+    """
+    told = [
+        ("Feed", shown(os.path.basename(os.path.abspath(feed)))),
+        ("Date", words.date or "not told"),
+        ("Departures", words.window or "not told"),
+        ("Words of the run", words.text or "not told"),
+        ("Made by", f"ttm-tools {__version__}"),
+    ]
+    of_feed = [str(path) for path in (Path(feed) / f"{name}.txt" for name in FEED) if path.is_file()]
+    for kind, paths in [*names.items(), ("Feed", of_feed)]:
+        told += [(f"{kind}: {shown(os.path.basename(path))}", f"SHA-256 {sum_of(path)}") for path in paths]
+    return told

@@ -1,0 +1,240 @@
+"""Walks along streets: stops, entrances and points are put on the nearest way, and the shortest ways between them are
+looked for by Dijkstra's search, cut at the limit.
+
+The way between a place and its street counts as it is where it is near, and else as a straight line, with its detour.
+The search runs cube by cube of space, each as wide as the longest walk: whoever begins in a cube ends in it or in one
+beside it, so only the streets of these are looked at.
+"""
+
+from dataclasses import dataclass
+from typing import Any, Iterator
+
+import numpy as np
+
+from .. import progress
+from ..feed import Floats, Stops
+from .osm import Streets
+from .straight import Doors, Pace, Places, Walks, distances, doors_of, entrances_of, inside_ways, points_of, ranges
+
+PIECE = 100.0  # metres of the pieces in which streets are looked for
+LEAST_SIDE = 300.0  # metres of a cube
+SIDE = 1 << 20  # cubes along an axis, more than the globe is wide
+
+
+@dataclass(frozen=True)
+class Snapped:
+    """Where places are put: on a piece of a street, how far along it, and how far from it."""
+
+    piece: Places
+    along: Floats  # 0 at the piece's begin to 1 at its end
+    metres: Floats
+
+
+@dataclass(frozen=True)
+class Graph:
+    """One-way connections by the node at which they begin."""
+
+    points: Floats  # of each node, three numbers
+    begins: Places  # where the connections of each node begin, and behind the last one how many there are
+    end: Places
+    metres: Floats
+
+
+def snapped(streets: Streets, points: Floats) -> Snapped:
+    """The nearest street of each place."""
+    from scipy.spatial import cKDTree
+
+    nodes = points_of(streets.latitudes, streets.longitudes)
+    piece, low, high = short_pieces(nodes[streets.begin], nodes[streets.end])
+    ends = nodes[streets.begin], nodes[streets.end]
+    middle = at(*ends, piece, (low + high) / 2)
+    half = float(np.linalg.norm(at(*ends, piece, high) - at(*ends, piece, low), axis=1).max(initial=0)) / 2
+    tree = cKDTree(middle)
+    _, first = tree.query(points)
+    best = nearest_on(*ends, piece[first], points)
+    found = tree.query_ball_point(points, best.metres + half + 0.01, return_sorted=True)
+    counts = np.array([len(some) for some in found], dtype=np.int64)
+    place = np.repeat(np.arange(len(points)), counts)
+    others = piece[np.concatenate([np.zeros(0, np.int64), *map(np.asarray, found)]).astype(np.int64)]
+    every = nearest_on(*ends, others, points[place])
+    order = np.lexsort((every.piece, every.metres, place))
+    chosen = order[np.cumsum(counts) - counts]
+    return Snapped(every.piece[chosen], every.along[chosen], every.metres[chosen])
+
+
+def short_pieces(begin: Floats, end: Floats) -> tuple[Places, Floats, Floats]:
+    """Each piece cut into short ones: of which it is a part, from where on and up to where."""
+    counts = np.maximum(1, np.ceil(np.linalg.norm(end - begin, axis=1) / PIECE)).astype(np.int64)
+    piece = np.repeat(np.arange(len(counts)), counts)
+    number = np.arange(len(piece)) - np.repeat(np.cumsum(counts) - counts, counts)
+    return piece, number / counts[piece], (number + 1) / counts[piece]
+
+
+def at(begin: Floats, end: Floats, piece: Places, along: Floats) -> Floats:
+    """Points on pieces."""
+    made: Floats = begin[piece] + (end[piece] - begin[piece]) * along[:, None]
+    return made
+
+
+def nearest_on(begin: Floats, end: Floats, piece: Places, points: Floats) -> Snapped:
+    """The nearest point on a piece to each place."""
+    way = end[piece] - begin[piece]
+    length = np.maximum((way**2).sum(axis=1), 1e-12)
+    along = np.clip(((points - begin[piece]) * way).sum(axis=1) / length, 0, 1)
+    return Snapped(piece, along, np.linalg.norm(points - at(begin, end, piece, along), axis=1))
+
+
+def graph_of(streets: Streets, put: Snapped) -> Graph:
+    """The streets with a node more for each place that is put on them, behind the streets' own; one that is put on the
+    end of a piece is at the crossing, whichever way one may walk on the piece.
+    """
+    nodes = points_of(streets.latitudes, streets.longitudes)
+    own = at(nodes[streets.begin], nodes[streets.end], put.piece, put.along)
+    points, count = np.concatenate([nodes, own]), len(nodes)
+    order = np.lexsort((put.along, put.piece))
+    piece = put.piece[order]
+    new = np.ones(len(piece) + 1, dtype=np.bool_)
+    new[1:-1] = piece[1:] != piece[:-1]
+    before = np.where(new[:-1], streets.begin[piece], np.concatenate([[0], order[:-1]])[: len(order)] + count)
+    ends, last = order + count, np.flatnonzero(new[1:])
+    begin = np.concatenate([streets.begin, before, order[last] + count])
+    end = np.concatenate([streets.end, ends, streets.end[piece[last]]])
+    of = np.concatenate([np.arange(len(streets.begin)), piece, piece[last]])
+    metres = distances(points[begin], points[end])
+    there, back = streets.forward[of], streets.backward[of]
+    at_end = np.flatnonzero((put.along <= 0) | (put.along >= 1))
+    crossing = np.where(put.along <= 0, streets.begin[put.piece], streets.end[put.piece])[at_end]
+    begins = [begin[there], end[back], crossing, at_end + count]
+    ends = [end[there], begin[back], at_end + count, crossing]
+    lengths = np.concatenate([metres[there], metres[back], np.zeros(2 * len(at_end))])
+    return by_begin(points, np.concatenate(begins), np.concatenate(ends), lengths)
+
+
+def by_begin(points: Floats, begin: Places, end: Places, metres: Floats) -> Graph:
+    """Connections in order, of several between two nodes the shortest alone."""
+    order = np.lexsort((metres, end, begin))
+    begin, end, metres = begin[order], end[order], metres[order]
+    first = np.ones(len(begin), dtype=np.bool_)
+    first[1:] = (begin[1:] != begin[:-1]) | (end[1:] != end[:-1])
+    begins = np.searchsorted(begin[first], np.arange(len(points) + 1))
+    return Graph(points, begins, end[first], metres[first])
+
+
+@dataclass(frozen=True)
+class Cubes:
+    """Space in cubes: the nodes of each, in order."""
+
+    key: Places  # of each node
+    order: Places  # nodes by their key
+    ordered: Places  # these keys
+
+    def around(self, key: int) -> Places:
+        """The nodes in a cube and those beside it."""
+        found = []
+        for x in (-1, 0, 1):
+            for y in (-1, 0, 1):
+                middle = key + (x * SIDE + y) * SIDE
+                begin, end = np.searchsorted(self.ordered, [middle - 1, middle + 2])
+                found.append(self.order[begin:end])
+        return np.concatenate(found)
+
+
+def cubes_of(points: Floats, side: float) -> Cubes:
+    """Points in cubes of a side, metres."""
+    cubes = np.floor(points / side).astype(np.int64)
+    cubes -= cubes.min(axis=0, initial=0) - 1
+    key = (cubes[:, 0] * SIDE + cubes[:, 1]) * SIDE + cubes[:, 2]
+    order = np.argsort(key, kind="stable")
+    return Cubes(key, order, key[order])
+
+
+def inner(graph: Graph, nodes: Places, local: Places) -> Any:
+    """The connections among some nodes, as a matrix of scipy; `local` is -1 for each node before and afterwards."""
+    from scipy.sparse import csr_matrix
+
+    local[nodes] = np.arange(len(nodes))
+    number, chosen = (np.concatenate(part) for part in zip(*ranges_of(graph, nodes)))
+    ends = local[graph.end[chosen]]
+    local[nodes] = -1
+    there = ends >= 0
+    begins = np.searchsorted(number[there], np.arange(len(nodes) + 1))
+    return csr_matrix((graph.metres[chosen][there], ends[there], begins), shape=(len(nodes), len(nodes)))
+
+
+def ranges_of(graph: Graph, nodes: Places) -> Iterator[tuple[Places, Places]]:
+    yield np.zeros(0, np.int64), np.zeros(0, np.int64)
+    yield from ranges(graph.begins[nodes], graph.begins[nodes + 1])
+
+
+def close(points: Floats, nodes: Places, begins: Places, most: float) -> Places:
+    """Those nodes that may be at most so many metres from one of some others."""
+    low, high = points[begins].min(axis=0) - most, points[begins].max(axis=0) + most
+    made: Places = nodes[((points[nodes] >= low) & (points[nodes] <= high)).all(axis=1)]
+    return made
+
+
+def searched(graph: Graph, first: int, extra: Floats, most: float) -> Iterator[tuple[Places, Places, Floats]]:
+    """The shortest ways between the places that were put behind the streets' own nodes, from `first` on: from which to
+    which, and metres with those beside the streets, where these are at most so many.
+    """
+    from scipy.sparse.csgraph import dijkstra
+
+    cubes = cubes_of(graph.points, max(most, LEAST_SIDE))
+    local = np.full(len(graph.points), -1, dtype=np.int64)
+    sources = first + np.flatnonzero(extra <= most)
+    sources = sources[np.argsort(cubes.key[sources], kind="stable")]
+    keys, counts = np.unique(cubes.key[sources], return_counts=True)
+    groups = np.split(sources, np.cumsum(counts)[:-1]) if len(keys) else []
+    for key, begins in progress.told(zip(keys.tolist(), groups), len(keys), "streets", "cubes"):
+        nodes = close(graph.points, cubes.around(key), begins, most)
+        ends = nodes[nodes >= first]
+        ends = ends[extra[ends - first] <= most]
+        connections = inner(graph, nodes, local)
+        local[nodes] = np.arange(len(nodes))
+        found = dijkstra(connections, indices=local[begins], limit=most)[:, local[ends]]
+        local[nodes] = -1
+        metres = found + extra[begins - first][:, None] + extra[ends - first]
+        one, other = np.nonzero(metres <= most)
+        yield begins[one] - first, ends[other] - first, metres[one, other]
+
+
+def street_walks(stops: Stops, pace: Pace, streets: Streets, near: float) -> Walks:
+    """The footpaths along streets between all stops of a feed at which vehicles call."""
+    called = stops.kinds == 0
+    chosen = np.flatnonzero(called & stops.placed)
+    points = points_of(stops.latitudes[chosen], stops.longitudes[chosen])
+    stations, entrances = [stops.stations[place] for place in chosen], entrances_of(stops)
+    doors, most = doors_of(points, stations, entrances), pace.limit * pace.speed + 1e-6
+    put = snapped(streets, doors.point)
+    beside = np.where(put.metres <= near, put.metres, put.metres * pace.detour)
+    found = list(between_doors(graph_of(streets, put), doors, beside + doors.inside * pace.detour, most))
+    straight = inside_ways(points, stations, entrances, most / pace.detour)
+    found += [(a, b, metres * pace.detour) for a, b, metres in straight]
+    found += [(b, a, metres * pace.detour) for a, b, metres in straight]
+    origins, destinations, metres = least(found)
+    seconds = Pace(pace.limit, pace.speed, 1.0).seconds(metres)
+    kept = seconds <= pace.limit
+    lost, far = int((called & ~stops.placed).sum()), doors.stop[(put.metres > near) & (beside <= most)]
+    apart = len(chosen) - len(np.unique(doors.stop[beside <= most]))
+    ends = (chosen[origins[kept]], chosen[destinations[kept]])
+    return Walks(stops.identifiers, *ends, seconds[kept], lost, len(np.unique(far)), apart)
+
+
+def between_doors(graph: Graph, doors: Doors, extra: Floats, most: float) -> Iterator[tuple[Places, Places, Floats]]:
+    """The shortest ways between stops by way of their doors."""
+    first = len(graph.points) - len(doors.stop)
+    for one, other, metres in searched(graph, first, extra, most):
+        a, b = doors.stop[one], doors.stop[other]
+        apart = a != b
+        yield a[apart], b[apart], metres[apart]
+
+
+def least(found: list[tuple[Places, Places, Floats]]) -> tuple[Places, Places, Floats]:
+    """Of several ways from one stop to another the shortest."""
+    none = (np.zeros(0, np.int64), np.zeros(0, np.int64), np.zeros(0))
+    a, b, metres = (np.concatenate([columns[place] for columns in [none, *found]]) for place in range(3))
+    order = np.lexsort((metres, b, a))
+    a, b, metres = a[order], b[order], metres[order]
+    first = np.ones(len(a), dtype=np.bool_)
+    first[1:] = (a[1:] != a[:-1]) | (b[1:] != b[:-1])
+    return a[first], b[first], metres[first]

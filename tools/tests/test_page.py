@@ -1,0 +1,365 @@
+"""The page to send, in a real browser: what is clicked on and read is what the matrix says; and what is refused."""
+
+import math
+import random
+import shutil
+import subprocess
+from pathlib import Path
+from typing import Iterator
+
+import numpy as np
+import pytest
+
+from browser import LEAFLET, Browser
+from helpers import TOWN, Table, Town, read, town_matrix
+
+pytest.importorskip("jinja2")
+pytest.importorskip("pandas")
+
+from ttm_tools.matrices import open_matrix  # noqa: E402
+from ttm_tools.views.page import make, parts, places  # noqa: E402
+
+HOSTILE = [
+    '<script>document.title = "run"</script>',
+    '"><img src=x onerror="document.title=1">',
+    "</script><b>x",
+    "&amp;",
+]
+
+
+@pytest.fixture(scope="module")
+def browser() -> Iterator[Browser]:
+    made = Browser()
+    yield made
+    made.close()
+
+
+def page(town: Town, *words: str, name: str = "a page.html") -> Path:
+    """Writes a page of the town's matrix into a folder with spaces in its name."""
+    folder = town.folder / "to the council"
+    folder.mkdir(exist_ok=True)
+    out = folder / name
+    said, told, status = town.ran("page", "--feed", town.feed, "--out", str(out), *words, town.file)
+    assert (said, status) == ("", 0), told
+    return out
+
+
+def jobs(town: Town) -> list[str]:
+    town.write("jobs.csv", "stop_id,opportunities", [["A", 1], ["B", 20], ["C", 300], ["D", 4000]])
+    town.write("people.csv", "stop_id,residents", [["A", 7], ["D", 50]])
+    return ["--opportunities", town.path("jobs.csv"), "--people", town.path("people.csv")]
+
+
+def test_a_click_shows_the_travel_times_of_the_matrix(town: Town, browser: Browser) -> None:
+    town.matrix(town_matrix(True))
+    browser.open(page(town, *jobs(town)), "view=times&scenario=base")
+    browser.click("A")
+    assert browser.text("heading") == "Travel times from Alpha (A)"
+    assert browser.text("told") == "base: 4 of 4 places are reached."
+    browser.press("#all-part summary")
+    # 0, 300, 900 and 2400 seconds, in minutes rounded up
+    times = [["Alpha (A)", "0 min"], ['Béta, "the" square (B)', "5 min"], ["C", "15 min"], ["Delta (D)", "40 min"]]
+    assert browser.lines("all")[1:] == times
+    assert browser.key() == {"up to 10 min": "2", "11 to 20 min": "1", "31 to 45 min": "1"}
+    assert browser.colour("C") == browser.run("return timeClasses().marks[1].colour")
+    browser.choose("scenario", "cut")
+    browser.press("#difference")
+    # 360 seconds are 6 minutes, 1900 are 32; D isn't reached any more
+    assert [row[1] for row in browser.lines("all")[1:]] == ["0 min", "6 min", "32 min", "not reached"]
+    assert browser.complaints() == []
+
+
+def test_the_difference_has_who_is_cut_off_as_a_class(town: Town, browser: Browser) -> None:
+    town.matrix(town_matrix(True))
+    browser.open(page(town, *jobs(town)), "view=times&scenario=cut&difference=1&from=A")
+    told = "cut beside base: of 4 places 1 are cut off, 1 slower by 2 minutes or more, 0 faster, 0 new."
+    assert browser.text("told") == told
+    key = {"cut off: not reached now": "1", "15 min or more slower": "1", "at most 1 min either way": "2"}
+    assert browser.key() == key
+    assert browser.colour("D") == "#000000"
+    browser.press("#all-part summary")
+    assert browser.lines("all")[1:3] == [
+        ["Delta (D)", "40 min", "not reached", "cut off"],
+        ["C", "15 min", "32 min", "+17"],
+    ]
+    browser.click("D")
+    assert browser.key() == {"at most 1 min either way": "3", "new: not reached before": "1"}
+
+
+def test_the_slider_counts_what_is_reached(town: Town, browser: Browser) -> None:
+    town.matrix(town_matrix(True))
+    browser.open(page(town, *jobs(town)), "view=times&scenario=base&from=A&minutes=15")
+    lines = [["places", "3", "4"], ["jobs", "321", "4,321"], ["residents", "7", "57"]]
+    assert browser.lines("sums") == [["Within 15 minutes", "reached", "of"], *lines]
+    browser.type("minutes", "\ue012")  # the key to the left
+    assert browser.lines("sums")[1] == ["places", "2", "4"]
+    browser.open(page(town, *jobs(town)), "view=times&scenario=cut&from=A&minutes=31")
+    assert browser.lines("sums")[1:3] == [["places", "3", "2", "-1"], ["jobs", "321", "21", "-300"]]
+
+
+def test_access_its_change_and_who_loses_most(town: Town, browser: Browser) -> None:
+    town.matrix(town_matrix(True))
+    browser.open(page(town, *jobs(town)))
+    rows = read(town.ran("compare", "--by", "origin", "--feed", town.feed, town.file)[0])
+    losers = [row for row in rows if int(row["change"]) < 0]
+    wanted = [[f"{row['origin_name']} ({row['origin']})", row["access_before"], row["access_after"]] for row in losers]
+    assert [row[:3] for row in browser.lines("losers")[1:]] == wanted != []
+    assert "of 2 places 1 lose, 1 gain" in browser.text("told")
+    assert browser.key() == {"25 % or more lost": "1", "25 % or more gained": "1", "no origin of the matrix": "2"}
+    browser.press("#losers button")
+    assert browser.lines("sums")[1] == ["opportunities", "3", "2", "-1", "-33.3 %"]
+    browser.choose("counted", "jobs")
+    browser.choose("within", "60 minutes")
+    # from A 4,321 jobs within an hour, now 321; from D 1 + 300 + 4000, now with B's 20, too
+    assert browser.lines("losers")[1:] == [["Alpha (A)", "4,321", "321", "-4,000", "-92.6 %", "7"]]
+    browser.choose("weight", "residents")
+    bars = browser.run("return [...document.querySelectorAll('#histogram title')].map((it) => it.textContent)")
+    assert [bar for bar in bars if not bar.endswith(": 0 residents")] == [bars[0], bars[-1]]
+    assert bars[0].endswith(": 7 residents") and bars[-1].endswith(": 50 residents")
+    browser.press("#from-here")
+    assert browser.text("heading") == "Travel times from Alpha (A)"
+
+
+def test_names_are_text_and_nothing_is_fetched(town: Town, browser: Browser) -> None:
+    town.write(
+        "stops.txt",
+        "stop_id,stop_name,stop_lat,stop_lon",
+        [[f"S{n}", name, n / 50, 9] for n, name in enumerate(HOSTILE)],
+    )
+    town.write("stop_times.txt", "trip_id,arrival_time,departure_time,stop_id,stop_sequence", [])
+    stops = [f"S{number}" for number in range(4)]
+    scenarios: dict[str, dict[str, list[int | str]]] = {
+        "base": {"S0": [0, 60, 120, 180]},
+        "<i>&": {"S0": [0, 60, 60, ""]},
+    }
+    town.matrix(town_matrix(True, scenarios, stops=stops))
+    town.write("jobs.csv", "stop_id,<u>jobs</u>", [["S1", 5]])
+    words = ["--title", HOSTILE[0], "--note", HOSTILE[1], "--words", "--date '</script><b>'", "--unit", "<b>jobs"]
+    browser.open(page(town, *words, "--opportunities", town.path("jobs.csv"), name="x & <y>.html"))
+    assert browser.driver.title == browser.driver.find_element("tag name", "h1").text == HOSTILE[0]
+    browser.open(page(town, *words, "--opportunities", town.path("jobs.csv")), "view=times&from=S0")
+    browser.press("#all-part summary")
+    assert sorted(row[0] for row in browser.lines("all")[1:]) == sorted(
+        f"{name} (S{n})" for n, name in enumerate(HOSTILE)
+    )
+    assert browser.lines("sums")[2][0] == "<u>jobs</u>"
+    browser.type("search", "onerror")
+    assert browser.text("found") == f"{HOSTILE[1]} (S1)"
+    assert browser.run("return document.querySelectorAll('img, b, i, u').length") == 0
+    assert browser.run("return performance.getEntriesByType('resource').length") == 0
+    assert browser.complaints() == []
+
+
+def test_by_keyboard_on_a_phone_and_on_paper(town: Town, browser: Browser) -> None:
+    town.matrix(town_matrix(True))
+    browser.size(360, 740)
+    browser.open(page(town, *jobs(town)), "view=times&scenario=cut")
+    browser.type("search", "BETA")  # without its accent
+    assert browser.text("found") == 'Béta, "the" square (B)'
+    browser.type("search", "\ue007")  # Enter
+    assert browser.text("told") == "It is no origin of the matrix: choose another place."
+    browser.run("document.getElementById('search').value = ''")
+    browser.type("search", "a", "\ue015", "\ue015", "\ue007")  # down twice: Alpha, then those with an a within
+    assert browser.text("heading") == "Travel times from Delta (D)"
+    assert browser.run("return document.documentElement.scrollWidth") == 360
+    browser.press("input[value=access]")
+    assert browser.lines("losers")[0] == ["Place", "before", "after", "change", "", "residents"]
+    assert browser.run("return document.documentElement.scrollWidth") == 360
+    browser.size(1280, 800)
+    printed = browser.driver.execute_cdp_cmd("Page.printToPDF", {"preferCSSPageSize": True})["data"]
+    assert printed.startswith("JVBERi0")  # %PDF- in base64
+    assert browser.run("return document.body.className") == ""
+
+
+def test_drawn_matrices_come_out_as_they_are(town: Town, browser: Browser) -> None:
+    """All cells of some scenarios and shares, of which the page draws some rows, read in the browser."""
+    seed = random.randrange(1 << 30)
+    print("seed", seed)
+    draw = np.random.default_rng(seed)
+    stops = [f"S{number}" for number in range(40)]
+    town.write("stops.txt", "stop_id,stop_lat,stop_lon", [[it, *draw.uniform(1, 1.2, 2)] for it in stops])
+    town.write("stop_times.txt", "trip_id,arrival_time,departure_time,stop_id,stop_sequence", [])
+    cells = draw.choice([*range(0, 7200, 7), 15240, 20000, -1], (3, 30, 40))
+    scenarios: dict[str, dict[str, list[int | str]]] = {
+        name: {stops[row]: ["" if it < 0 else it for it in cells[place, row].tolist()] for row in range(30)}
+        for place, name in enumerate(["base", "one", "two"])
+    }
+    town.matrix(town_matrix(True, scenarios, shares=(25, 50), stops=stops))
+    browser.open(page(town))
+    script = "return Promise.all(Array.from(numbers.rows, async (it) => Array.from(await minutesFrom(it, %d, %d))))"
+    rows, columns = (
+        browser.run(f"return Array.from(numbers.{it}, (at) => head.identifiers[at])") for it in ("rows", "columns")
+    )
+    matrix = open_matrix(town.file)
+    assert (sorted(rows), sorted(columns)) == (sorted(stops[:30]), sorted(stops))
+    for scenario, name in enumerate(matrix.scenarios):
+        for place, share in enumerate(matrix.shares):
+            wanted = [[minutes(matrix.seconds(name, share, row)[matrix.places[it]]) for it in columns] for row in rows]
+            assert browser.awaited(script % (scenario, place)) == wanted
+
+
+def minutes(seconds: float) -> int:
+    """A cell by its definition."""
+    return 255 if math.isnan(seconds) else min(254, math.ceil(seconds / 60))
+
+
+def test_where_there_is_no_room_for_all_rows_are_drawn_or_named(
+    town: Town, browser: Browser, monkeypatch: pytest.MonkeyPatch
+) -> None:
+    town.matrix(town_matrix(True))
+    monkeypatch.setattr(make, "MOST_CELLS", 8)
+    out = town.path("few.html")
+    told = town.ran("page", "--feed", town.feed, "--out", out, "--seed", "3", town.file)[1]
+    line = "The page has the travel times from 1 of 2 origins, which were drawn with the seed 3, and access from all."
+    assert told.splitlines()[1] == line
+    browser.open(Path(out), "view=times&from=A")
+    assert line in browser.text("meaning-part")
+    drawn = browser.run("return head.identifiers[numbers.rows[0]]")
+    other = {"A": "D", "D": "A"}[drawn]
+    assert browser.key() == {"travel times from there are in the page": "1", "not from there": "3"} or drawn == "A"
+    browser.open(Path(out), f"view=times&from={other}")
+    assert browser.text("told") == "The page hasn't its travel times, but its access: choose another place."
+    named = town.write("named.csv", "stop_id", [[other]])
+    told = town.ran("page", "--feed", town.feed, "--out", out, "--origins", named, town.file)[1]
+    assert "from 1 of 2 origins, which were named" in told
+    named = town.write("both.csv", "stop_id", [["A"], ["D"]])
+    told = f"{named}: travel times from its stops are 16, and a page takes 8"
+    town.refused(told, "page", "--feed", town.feed, "--origins", named, town.file)
+
+
+def test_points_alone_as_squares_and_a_new_line(town: Town, browser: Browser) -> None:
+    """A study on points: the scenario `today` lacks trip U, which the scenario `tram` has; stop B is no point."""
+    scenarios = {"base": TOWN["base"], "today": TOWN["cut"], "tram": TOWN["base"]}
+    town.matrix(town_matrix(True, scenarios))
+    points: Table = [["A", 0.0, 9.0, "First cell", 500], ["C", 0.01, 9.01, "", 500], ["D", 0.02, 9.0, "Last cell", 500]]
+    cells = town.write("cells.csv", "id,lat,lon,name,width", [*points, ["Z", 1, 1, "elsewhere", 1]])
+    files = [town.write("today.csv", "action,id,seconds", [["remove_trip", "U", ""]])]
+    files += [town.write("tram.csv", "action,id,seconds", [])]
+    words = [word for path in files for word in ("--edits", path)] + ["--base", "today", "--scenario", "tram"]
+    browser.open(page(town, *words, "--points", cells), "view=times&from=A&minutes=120")
+    assert sorted(browser.run("return head.identifiers")) == ["A", "C", "D"]
+    assert browser.run("return head.scenarios") == ["today", "tram"]
+    assert (
+        browser.text("told")
+        == "tram beside today: of 3 places 0 are cut off, 0 slower by 2 minutes or more, 1 faster, 1 new."
+    )
+    assert "trips that are added" in browser.text("lines-key") and "taken out" not in browser.text("lines-key")
+    aside = int(browser.run("return 0.4 * page.sideOf(0) * 2 ** page.map.getZoom()"))  # pixels, within the square
+    assert [browser.colour(it, right=aside) for it in "CD"] == ["#1b5a9c", "#ffd92f"]
+    browser.open(page(town, *words, "--points", cells), "view=access&of=points")
+    assert browser.text("heading") == "Access: points within 15 minutes"
+
+
+def test_a_plan_brings_its_scenario_files_and_leaves_the_base_out(town: Town, browser: Browser) -> None:
+    """Route Q gives way to others on A, B and C, and no longer goes to D; what is new stands in trip T."""
+    town.matrix(town_matrix(True, {"base": TOWN["base"], "today": TOWN["cut"], "tram": TOWN["base"]}))
+    (town.folder / "scenarios").mkdir()
+    town.write("scenarios/today.csv", "action,id,seconds", [["remove_trip", "T", ""]])
+    town.write("scenarios/tram.csv", "action,id,seconds", [["remove_trip", "U", ""]])
+    told = town.ran("page", "--feed", town.feed, "--out", town.path("plan.html"), town.file)[1]
+    assert told.splitlines()[0] == f"{town.file}: base, which has the trips of all scenarios at once, is left out"
+    browser.open(Path(town.path("plan.html")))
+    assert browser.run("return head.scenarios") == ["today", "tram"]
+    key = ["where vehicles run", "trips that are taken out", "trips that are changed"]
+    assert browser.text("lines-key").splitlines()[:3] == key
+    counts = "return CHANGED_LINES.map((it) => numbers[`${it}-1`].length / 4)"
+    assert browser.run(counts) == [1, 2, 0]  # from A to D; A to B to C
+
+
+def test_a_background_map_is_fetched_from_where_it_is_asked_for(town: Town, browser: Browser) -> None:
+    town.matrix(town_matrix(True))
+    tiles = ["--tiles", "http://127.0.0.1:9/{z}/{x}/{y}.png", "--attribution", "© <b>Somebody</b>"]
+    browser.open(page(town, *tiles))
+    assert browser.driver.find_element("class name", "leaflet-control-attribution").text == "© <b>Somebody</b>"
+    assert browser.run("return [...document.images].every((it) => it.src.startsWith('http://127.0.0.1:9/'))")
+    assert browser.run("return document.images.length") > 0
+    told = "ttm-tools page: --tiles and --attribution go together\n"
+    assert town.ran("page", "--feed", town.feed, "--tiles", "https://x", town.file) == ("", told, 2)
+    told = "ttm-tools page: --tiles begins with https:// or http://\n"
+    assert town.ran("page", "--feed", town.feed, "--tiles", "x", "--attribution", "y", town.file) == ("", told, 2)
+
+
+def test_the_town_as_the_program_computes_it(town: Town, browser: Browser, program: str) -> None:
+    feedgen = Path(__file__).resolve().parents[2] / "bench" / "feedgen.py"
+    if not feedgen.is_file():
+        pytest.skip("without the maker of the town")
+    subprocess.run(
+        ["/usr/bin/env", "python3", str(feedgen), "town", town.path("made")], check=True, capture_output=True
+    )
+    town.feed = town.path("made")
+    cut = town.write("no13.csv", "action,id,seconds", [["remove_route", "L0013", ""]])
+    run = "--date 20260504 --from 07:30 --to 07:59 --trips 4 --walk 600 --share 50 --within 1800 --workers 1 --tries 1"
+    town.take(program, f"--feed {town.feed} {run} --footpaths {town.feed}/footpaths.csv {cut}")
+    browser.open(page(town, "--edits", cut, "--words", run))
+    matrix = open_matrix(town.file)
+    for origin in random.Random(1).sample(matrix.stops, 3):
+        browser.run("return set({ view: 'times', scenario: 1, difference: true })")
+        browser.click(origin)
+        browser.press("#all-part summary")
+        chosen = browser.run("return head.identifiers[state.place]")  # another place may lie over it
+        times = [matrix.seconds(name, 50, chosen) for name in ("base", "no13")]
+        shown = {row[0]: row[1:3] for row in browser.lines("all")[1:]}
+        names = browser.run("return head.identifiers.map((_, place) => nameOf(place))")
+        told = dict(zip(browser.run("return head.identifiers"), names))
+        texts = [["not reached" if minutes(it) == 255 else f"{minutes(it)} min" for it in row] for row in times]
+        assert shown == {told[stop]: list(pair) for stop, pair in zip(matrix.stops, zip(*texts))}
+        browser.press("#all-part summary")
+    sources = browser.run("return document.getElementById('sources').textContent")
+    assert "2026-05-04" in sources and "07:30 to 07:59" in sources
+
+
+def test_bad_input_is_told_in_one_line(town: Town) -> None:
+    town.matrix(town_matrix(True))
+    if not LEAFLET.is_file():
+        pytest.skip("without libjs-leaflet")
+
+    def refused(told: str, *words: str) -> None:
+        town.refused(told, "page", "--feed", town.feed, "--out", town.path("page.html"), *words, town.file)
+
+    lost = town.path("no")
+    refused(f"no {lost}/leaflet.min.js, which the page needs: apt-get install libjs-leaflet", "--leaflet", lost)
+    late = town.write("late.csv", "action,id,seconds", [])
+    refused(f"{late}: no scenario late on the page; it has base, cut", "--edits", late)
+    points = town.write("cells.csv", "id,lat,lon", [["X", 1, 2]])
+    refused(f"{town.file}: it has no point of {points}", "--points", points)
+    origins = town.write("origins.csv", "stop_id", [["B"]])
+    refused(f"{origins}: record 2: B is no origin of the matrix", "--origins", origins)
+    words = jobs(town)
+    town.write("people.csv", "stop_id,jobs", [["A", 7]])
+    refused(f"{town.path('people.csv')}: a column jobs is among the opportunities too", *words)
+    town.matrix(town_matrix(True).replace("cut,D,", "cut,C,"))
+    refused(f"{town.file}: 1 of 2 origins of base aren't in cut: D; 1 of 2 origins of cut aren't in base: C")
+    town.matrix(town_matrix(True))
+    town.write("stops.txt", "stop_id", [["A"], ["B"], ["C"], ["D"]])
+    refused(f"{town.feed}/stops.txt: none of the stops has a place, so there is nothing to show")
+
+
+def test_the_same_words_give_the_same_bytes_and_a_fault_leaves_nothing(town: Town) -> None:
+    if not LEAFLET.is_file():
+        pytest.skip("without libjs-leaflet")
+    town.matrix(town_matrix(False))
+    first, second = (page(town, *jobs(town), name=name).read_bytes() for name in ("one.html", "two.html"))
+    assert first == second
+    assert b'"seconds":null' in first  # a matrix that doesn't name its limit
+    shutil.rmtree(town.folder / "to the council")
+    assert town.ran("page", "--feed", town.feed, "--out", town.path("no/page.html"), town.file)[2] == 1
+    assert not any(".part." in name for name in town.names())
+
+
+def test_cells_are_minutes_rounded_up_and_written_less_those_before(town: Town) -> None:
+    seconds = np.array([[0, 1, 60, 61, 15180, 15181, 99999, np.nan]], np.float32)
+    cells = parts.minutes_of(seconds)
+    assert cells.tolist() == [[0, 1, 1, 2, 253, 254, 254, 255]]
+    both = np.array([[1, 2], [3, 255]], np.uint8)
+    assert [it.tolist() for it in parts.blocks_of(both, None)] == [[[1, 2], [2, 253]]]
+    assert [it.tolist() for it in parts.blocks_of(both, np.array([[1, 1], [1, 1]], np.uint8))] == [[[0, 1], [2, 253]]]
+
+
+def test_neighbours_stand_together() -> None:
+    """Along the line no step is longer than to a neighbour on a grid, each of whose cells comes once."""
+    at = np.arange(16) * (places.CELLS // 16) + 5
+    x, y = (it.ravel() for it in np.meshgrid(at, at))
+    order = np.argsort(places.along_hilbert(x.astype(np.int64), y.astype(np.int64)))
+    steps = np.abs(np.diff(x[order])) + np.abs(np.diff(y[order]))
+    assert (steps == places.CELLS // 16).all()
+    assert places.ranks(np.array([1.0, np.nan]), np.array([2.0, np.nan]))[1] == np.inf

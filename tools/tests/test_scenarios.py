@@ -1,0 +1,508 @@
+"""Plans and the feeds that are made of them: each action with numbers by hand, what is told, and what is refused."""
+
+import csv
+import random
+import shutil
+from pathlib import Path
+
+import pytest
+
+from helpers import Cell, Room, Town, read, town_matrix
+from test_damages import damaged
+
+STOPS = [["A", "Alpha", 50.0, 8.0], ["B", "Beta", 50.0, 8.014], ["C", "", 50.0, 8.028], ["D", "Delta", 50.0, 8.042]]
+CALENDAR = "service_id,monday,tuesday,wednesday,thursday,friday,saturday,sunday,start_date,end_date"
+NEW_STOP = '[[stop]]\nid = "N"\nname = "New"\nlat = 50.01\nlon = 8.014\n'
+
+
+def clock(minutes: float) -> str:
+    seconds = round(minutes * 60)
+    return f"{seconds // 3600:02}:{seconds // 60 % 60:02}:{seconds % 60:02}"
+
+
+@pytest.fixture
+def small(room: Room) -> Room:
+    """Route R runs from A to D in 20 minutes at 8:00, 8:20 (in 21) and 9:00, and back at 8:10; half a minute's stand at
+    B and C. Route Q runs from A to D at 8:00 in half an hour. Weekdays have service M, and Mondays W too.
+    """
+    (room.folder / "feed").mkdir()
+    room.write("feed/stops.txt", "stop_id,stop_name,stop_lat,stop_lon", STOPS)
+    room.write("feed/routes.txt", "route_id,route_short_name,route_type", [["R", "13", 3], ["Q", "14", 3]])
+    days = [["M", 1, 1, 1, 1, 1, 0, 0, 20260504, 20260510], ["W", 1, 0, 0, 0, 0, 0, 0, 20260504, 20260510]]
+    room.write("feed/calendar.txt", CALENDAR, days)
+    trips = [["R", "M", "R1", 0], ["R", "M", "R2", 0], ["R", "W", "R3", 0], ["R", "M", "S1", 1], ["Q", "M", "Q1", 0]]
+    room.write("feed/trips.txt", "route_id,service_id,trip_id,direction_id", trips)
+    rows = [["Q1", clock(480), clock(480), "A", 1, 0, 1], ["Q1", clock(510), clock(510), "D", 2, 1, 0]]
+    for trip, start, last in (("R1", 480, 20), ("R2", 500, 21), ("R3", 540, 20)):
+        for number, (stop, minutes, stand) in enumerate((("A", 0, 0), ("B", 5, 0.5), ("C", 11, 0.5), ("D", last, 0))):
+            rows.append([trip, clock(start + minutes), clock(start + minutes + stand), stop, number, 0, 0])
+    for number, (stop, minutes, stand) in enumerate((("D", 0, 0), ("C", 9, 0.5), ("B", 15, 0.5), ("A", 20, 0))):
+        rows.append(["S1", clock(490 + minutes), clock(490 + minutes + stand), stop, number, 0, 0])
+    heads = "trip_id,arrival_time,departure_time,stop_id,stop_sequence,pickup_type,drop_off_type"
+    room.write("feed/stop_times.txt", heads, rows)
+    return room
+
+
+def plan_of(room: Room, *actions: str, before: str = "") -> str:
+    """A plan of one scenario, `new`."""
+    text = before + '[[scenario]]\nname = "new"\n' + "".join(f"[[scenario.action]]\n{it}\n" for it in actions)
+    (room.folder / "plan.toml").write_text(text)
+    return room.path("plan.toml")
+
+
+def made(room: Room, *actions: str, before: str = "") -> tuple[dict[str, list[str]], list[str]]:
+    """The calls of each trip of the feed in which the actions were carried out and nothing else, and what was told."""
+    plan = plan_of(room, *actions, before=before)
+    out, told, status = room.ran("scenarios", room.path("feed"), plan, "--only", "new", "--out", room.path("out"))
+    assert (out, status) == ("", 0), told
+    return calls(room, "out"), told.splitlines()
+
+
+def calls(room: Room, folder: str) -> dict[str, list[str]]:
+    """The calls of each trip of a feed: stop, arrival, and departure where that is another time."""
+    found: dict[str, list[str]] = {}
+    with open(room.folder / folder / "stop_times.txt", newline="") as file:
+        for row in csv.DictReader(file):
+            times = list(dict.fromkeys((row["arrival_time"], row["departure_time"])))
+            found.setdefault(row["trip_id"], []).append(" ".join([row["stop_id"], *times]))
+    return found
+
+
+def rows(room: Room, name: str) -> list[dict[str, str]]:
+    return read((room.folder / name).read_text())
+
+
+R1 = ["A 08:00:00", "B 08:05:00 08:05:30", "C 08:11:00 08:11:30", "D 08:20:00"]
+
+
+def test_routes_and_trips_are_taken_out_and_shifted(small: Room) -> None:
+    feed, told = made(
+        small,
+        'do = "remove_route"\nroute = "Q"',
+        'do = "remove_trip"\ntrip = ["R2", "R3"]',
+        'do = "shift_route"\nroute = "R"\nseconds = 90',
+        'do = "shift_trip"\ntrip = "S1"\nseconds = -30',
+    )
+    assert feed == {
+        "R1": ["A 08:01:30", "B 08:06:30 08:07:00", "C 08:12:30 08:13:00", "D 08:21:30"],
+        "S1": ["D 08:11:00", "C 08:20:00 08:20:30", "B 08:26:00 08:26:30", "A 08:31:00"],
+    }
+    assert told[:4] == [
+        "new: 1 remove_route Q: trips 1 taken out; trips 5 to 4, stops 4, stop times 18 to 16",
+        "new: 2 remove_trip R2, R3: trips 2 taken out; trips 4 to 2, stops 4, stop times 16 to 8",
+        "new: 3 shift_route R: trips 2 shifted; trips 2, stops 4, stop times 8",
+        "new: 4 shift_trip S1: trips 1 shifted; trips 2, stops 4, stop times 8",
+    ]
+
+
+def test_trips_no_longer_call_at_a_stop(small: Room) -> None:
+    feed, told = made(small, 'do = "remove_stop"\nstop = ["A", "B"]')
+    assert feed["R1"] == R1[2:] and feed["S1"] == ["D 08:10:00", "C 08:19:00 08:19:30"] and "Q1" not in feed
+    assert told[1] == "  1 trips taken out that were left with a single call"
+    (small.folder / "out").rename(small.folder / "before")
+    feed, _ = made(small, 'do = "remove_stop"\nstop = "A"\nroute = "Q"\n', 'do = "remove_stop"\nstop = "C"')
+    assert "Q1" not in feed and feed["R1"] == [R1[0], R1[1], R1[3]]
+
+
+def test_a_new_line_runs_both_ways(small: Room) -> None:
+    action = """do = "add_line"
+route = "T"
+name = "Tram"
+type = 0
+stops = ["A", "N", "D"]
+seconds = [120, 180]
+dwell = 20
+departures = [{ first = "08:00", last = "08:20", every = 600 }, { first = 08:10:00, last = "08:20:00", every = 300 }]
+days = ["saturday", "sunday"]"""
+    feed, told = made(small, action, before=NEW_STOP)
+    assert len(feed) == 5 + 2 * 4  # at 8:00, 8:10, 8:15 and 8:20
+    assert feed["T-0#3"] == ["A 08:15:00", "N 08:17:00 08:17:20", "D 08:20:20"]
+    assert feed["T-1#1"] == ["D 08:00:00", "N 08:03:00 08:03:20", "A 08:05:20"]
+    assert told[:2] == [
+        "new: 1 add_line T: trips 8 added; trips 5 to 13, stops 4 to 5, stop times 18 to 42",
+        "  route T: 3 stops in 00:05:20; 4 departures from each end",
+    ]
+    assert rows(small, "out/stops.txt")[-1] == dict(stop_id="N", stop_name="New", stop_lat="50.01", stop_lon="8.014")
+    assert rows(small, "out/routes.txt")[-1] == {"route_id": "T", "route_short_name": "Tram", "route_type": "0"}
+    days = [[row["date"], row["exception_type"]] for row in rows(small, "out/calendar_dates.txt")]
+    assert days == [["20260509", "1"], ["20260510", "1"]]  # those that the feed's calendars know
+
+
+def test_a_new_line_by_its_speed_in_one_direction(small: Room) -> None:
+    """From A to N are 1,496 metres: 1,001 east (0.014 degrees at 50 degrees north) and 1,112 north."""
+    words = 'stops = ["A", "N"]\nspeed = 36\nboth = false\nservice = "M"'
+    times = 'departures = [{ first = "08:00", last = "08:09", every = 600 }]'
+    feed, _ = made(small, f'do = "add_line"\nroute = "T"\n{words}\n{times}', before=NEW_STOP)
+    assert feed["T-0#1"] == ["A 08:00:00", "N 08:02:30"] and "T-1#1" not in feed
+
+
+def test_copies_of_a_typical_trip_run_every_so_often(small: Room) -> None:
+    """From A to D three trips leave from 8:00 to 9:00, in 20, 21 and 20 minutes: the median is 20, first R1."""
+    feed, told = made(small, 'do = "headway"\nroute = "R"\nevery = 1200\nfrom = "08:00"\nto = "09:01"')
+    assert sorted(feed) == ["Q1", "R1#1", "R1#2", "R1#3", "R1#4", "S1#1", "S1#2", "S1#3", "S1#4"]
+    assert feed["R1#2"] == ["A 08:20:00", "B 08:25:00 08:25:30", "C 08:31:00 08:31:30", "D 08:40:00"]
+    assert told[1:3] == [
+        "  route R, A to D: 3 departures give way to 4, copies of trip R1 (4 calls, 00:20:00)",
+        "  route R, D to A: 1 departures give way to 4, copies of trip S1 (4 calls, 00:20:00)",
+    ]
+    services = {row["trip_id"]: row["service_id"] for row in rows(small, "out/trips.txt")}
+    assert services["R1#4"] == "M"  # whose days are those of W too
+
+
+def test_only_the_trips_of_a_period_and_of_a_direction_give_way(small: Room) -> None:
+    words = 'route = "R"\ndirection = 0\nservice = "M"\nevery = 900\nfrom = "08:20"\nto = "09:00"'
+    feed, _ = made(small, f'do = "headway"\n{words}')
+    assert sorted(feed) == ["Q1", "R1", "R2#1", "R2#2", "R2#3", "R3", "S1"]
+    assert [feed[f"R2#{number}"][0] for number in (1, 2, 3)] == ["A 08:20:00", "A 08:35:00", "A 08:50:00"]
+
+
+def test_departures_by_headways_give_way_too(small: Room) -> None:
+    """Q1 leaves at 7:40, 7:50, .. 8:50 by its headways; from 8:00 to 8:30 three of them give way to two."""
+    small.write("feed/frequencies.txt", "trip_id,start_time,end_time,headway_secs", [["Q1", "7:40:00", "8:55:00", 600]])
+    feed, told = made(small, 'do = "headway"\nroute = "Q"\nevery = 900\nfrom = "08:00"\nto = "08:30"')
+    assert feed["Q1#2"] == ["A 08:15:00", "D 08:45:00"] and "Q1" in feed
+    found = [[row["trip_id"], row["start_time"], row["end_time"]] for row in rows(small, "out/frequencies.txt")]
+    assert found == [["Q1", "07:40:00", "07:50:01"], ["Q1", "08:30:00", "08:50:01"]]
+    assert "3 departures give way to 2, copies of trip Q1" in told[1]
+
+
+def test_run_times_by_a_factor_add_up_without_drift(small: Room) -> None:
+    """Run times 300, 330 and 510 seconds: times 0.855 they add up to 256.5, 538.65 and 974.7, so 257, 539 and 975."""
+    feed, _ = made(small, 'do = "speed"\nroute = "R"\nfactor = 0.855')
+    assert feed["R1"] == ["A 08:00:00", "B 08:04:17 08:04:47", "C 08:09:29 08:09:59", "D 08:17:15"]
+    assert feed["Q1"] == ["A 08:00:00", "D 08:30:00"]
+
+
+def test_run_times_between_two_stops_and_dwell_times(small: Room) -> None:
+    """From B to C 330 seconds become 165; all later times move along."""
+    feed, told = made(small, 'do = "speed"\nroute = "R"\nfrom_stop = "B"\nto_stop = "C"\nfactor = 0.5')
+    assert feed["R1"] == ["A 08:00:00", "B 08:05:00 08:05:30", "C 08:08:15 08:08:45", "D 08:17:15"]
+    assert feed["S1"][1] == "C 08:19:00 08:19:30" and told[0].startswith("new: 1 speed R: trips 3 changed;")
+    (small.folder / "out").rename(small.folder / "before")
+    feed, _ = made(small, 'do = "speed"\nroute = "R"\ndwell = -20')
+    assert feed["R1"] == ["A 08:00:00", "B 08:05:00 08:05:10", "C 08:10:40 08:10:50", "D 08:19:20"]
+
+
+def test_a_route_goes_on_and_begins_earlier(small: Room) -> None:
+    actions = [
+        'do = "extend"\nroute = "Q"\nafter = "D"\nstops = ["C", "N"]\nseconds = [100, 200]\ndwell = 15',
+        'do = "extend"\nroute = "Q"\nbefore = "A"\nstops = ["C", "B"]\nseconds = [60, 90]\ndwell = 10',
+    ]
+    feed, _ = made(small, *actions, before=NEW_STOP)
+    assert feed["Q1"] == [
+        "C 07:57:10",
+        "B 07:58:10 07:58:20",
+        "A 07:59:50 08:00:00",
+        "D 08:30:00 08:30:15",
+        "C 08:31:55 08:32:10",
+        "N 08:35:30",
+    ]
+    found = [row for row in rows(small, "out/stop_times.txt") if row["trip_id"] == "Q1"]
+    assert {(row["pickup_type"], row["drop_off_type"]) for row in found} == {("", "")}  # it goes on, so one may board
+
+
+def test_a_route_ends_earlier_and_begins_later(small: Room) -> None:
+    feed, _ = made(
+        small,
+        'do = "cut"\nroute = "R"\ndirection = 0\nafter = "C"',
+        'do = "cut"\nroute = "R"\npattern = "S1"\nbefore = "C"',
+        'do = "remove_route"\nroute = "Q"',
+    )
+    assert feed["R1"] == R1[:3] and feed["S1"] == ["C 08:19:00 08:19:30", "B 08:25:00 08:25:30", "A 08:30:00"]
+
+
+def test_headways_move_with_the_first_stop(small: Room) -> None:
+    """R1 leaves A at 7:00, 7:30, .. by its headways, and so B 5 minutes 30 seconds later."""
+    small.write(
+        "feed/frequencies.txt", "trip_id,start_time,end_time,headway_secs", [["R1", "7:00:00", "8:00:00", 1800]]
+    )
+    made(small, 'do = "cut"\nroute = "R"\npattern = "R1"\nbefore = "B"', 'do = "shift_trip"\ntrip = "R1"\nseconds = 60')
+    (row,) = rows(small, "out/frequencies.txt")
+    assert (row["trip_id"], row["start_time"], row["end_time"]) == ("R1", "07:06:30", "07:36:31")
+
+
+TWO = """[[scenario]]
+name = "late"
+[[scenario.action]]
+do = "shift_route"
+route = "R"
+seconds = 60
+[[scenario.action]]
+do = "remove_trip"
+trip = "R3"
+[[scenario]]
+name = "fast"
+[[scenario.action]]
+do = "speed"
+route = "Q"
+factor = 0.5
+"""
+
+
+def test_the_feed_of_all_scenarios_has_files_that_take_out_what_each_has_not(small: Room) -> None:
+    (small.folder / "plan.toml").write_text(TWO)
+    before = {path.name: path.read_bytes() for path in (small.folder / "feed").iterdir()}
+    out, _, status = small.ran("scenarios", small.path("feed"), small.path("plan.toml"), "--out", small.path("out"))
+    files = [f"{small.path('out')}/scenarios/{name}.csv" for name in ("today", "late", "fast")]
+    assert (out, status) == (" ".join(["--feed", small.path("out"), *files]) + "\n", 0)
+    assert (small.folder / "out" / "scenarios.words").read_text() == out
+    for name, whole in before.items():
+        assert (small.folder / "out" / name).read_bytes().startswith(whole)  # the feed as it is, and what is new behind
+    assert [(small.folder / path).read_text() for path in files] == [
+        "action,id,seconds\nremove_route,Q@fast,\n",
+        "action,id,seconds\nremove_trip,R3,\n"
+        "shift_trip,R1,60\nshift_trip,R2,60\nshift_trip,S1,60\nremove_route,Q@fast,\n",
+        "action,id,seconds\nremove_route,Q,\n",
+    ]
+    assert calls(small, "out")["Q1@fast"] == ["A 08:00:00", "D 08:15:00"]
+    assert rows(small, "out/changes.csv")[-1] == {
+        **{"scenario": "fast", "action": "1", "line": "12", "do": "speed", "what": "changed", "trip": "Q1"},
+        **{"now": "Q1@fast", "route": "Q", "seconds": ""},
+    }
+    assert [row["line"] for row in rows(small, "out/actions.csv")] == ["3", "7", "12"]
+
+
+def test_shapes_are_cut_and_go_on(small: Room) -> None:
+    trips = [["R", "M", trip, 0, "s"] for trip in ("R1", "R2", "R3")] + [
+        ["R", "M", "S1", 1, ""],
+        ["Q", "M", "Q1", 0, ""],
+    ]
+    small.write("feed/trips.txt", "route_id,service_id,trip_id,direction_id,shape_id", trips)
+    bent = [["s", 50.001, 8.0, 1], ["s", 50.002, 8.014, 2], ["s", 50.003, 8.028, 3], ["s", 50.004, 8.042, 4]]
+    small.write("feed/shapes.txt", "shape_id,shape_pt_lat,shape_pt_lon,shape_pt_sequence", bent)
+    actions = [
+        'do = "cut"\nroute = "R"\ndirection = 0\nafter = "C"',
+        'do = "extend"\nroute = "R"\ndirection = 0\nafter = "C"\nstops = ["N"]\nseconds = [60]',
+        'do = "remove_route"\nroute = "Q"',
+    ]
+    made(small, *actions, before=NEW_STOP)
+    found = [list(row.values()) for row in rows(small, "out/shapes.txt") if row["shape_id"] != "s"]
+    line = [["50.001000", "8.000000"], ["50.002000", "8.014000"], ["50.003000", "8.028000"], ["50.010000", "8.014000"]]
+    assert found == [["R-1", *place, str(number)] for number, place in enumerate(line, 1)]
+    assert {row["shape_id"] for row in rows(small, "out/trips.txt")} == {"R-1", ""}
+
+
+FAULTS = [
+    ('do = "remove_rout"\nroute = "R"', "line 4: do 'remove_rout' is no action; the nearest is 'remove_route'"),
+    ('do = "remove_route"\nroutes = "R"', "line 5: routes isn't known; the nearest is 'route'; allowed: do, route"),
+    (
+        'do = "remove_route"\n\nroute = "13"',
+        "line 6: route '13' is no route of the feed or of the scenario; the nearest is 'R', which bears this name",
+    ),
+    ('do = "remove_trip"\ntrip = "R11"', "line 5: trip 'R11' is no trip of the feed; the nearest is 'R1'"),
+    (
+        'do = "remove_stop"\nstop = "Delta"',
+        "line 5: stop 'Delta' is no stop of the feed or of the plan; the nearest is 'D', which bears this name",
+    ),
+    (
+        'do = "shift_trip"\ntrip = "R1"\nseconds = -30000',
+        "line 4: do 'shift_trip' trip R1 would be under way at -00:20:00; times go from 0:00:00 to 167:59:59",
+    ),
+    ('do = "shift_route"\nroute = "R"\nseconds = 0', "line 6: seconds '0' changes nothing"),
+    (
+        'do = "speed"\nroute = "R"\ndwell = -40',
+        "line 4: do 'speed' makes times of trip R1 go back",
+    ),
+    ('do = "speed"\nroute = "R"\nfactor = 1.0', "line 6: factor changes no time"),
+    (
+        'do = "speed"\nroute = "R"\nfactor = "1"',
+        "line 6: factor '1' isn't one; allowed: a number from 0 to 100, of at most six decimals",
+    ),
+    (
+        'do = "speed"\nroute = "Q"\nfrom_stop = "B"\nfactor = 2',
+        "line 6: from_stop no trip of the route calls there and at to_stop afterwards",
+    ),
+    (
+        'do = "headway"\nroute = "R"\nevery = 600\nfrom = "9:00"\nto = "08:00"',
+        "line 8: to '08:00:00' isn't after from, 09:00:00",
+    ),
+    (
+        'do = "headway"\nroute = "R"\nevery = 600\nfrom = "9:60"\nto = "10:00"',
+        "line 7: from '9:60' is no time; allowed: HH:MM or HH:MM:SS, from 00:00 to 167:59:59",
+    ),
+    (
+        'do = "extend"\nroute = "R"\nafter = "C"\nstops = ["B"]\nseconds = [1]',
+        "line 6: after 'C' is no stop at which trips of the route end",
+    ),
+    (
+        'do = "extend"\nroute = "R"\nafter = "D"\nstops = ["B"]\nseconds = [1, 2]',
+        "line 8: seconds '[1, 2]' isn't that; allowed: 1 whole numbers between brackets, 0 to 86,400",
+    ),
+    ('do = "cut"\nroute = "Q"\nafter = "C"', "line 6: after 'C' leaves all trips of the route as they are"),
+    (
+        'do = "cut"\nroute = "Q"\nafter = "D"\nbefore = "D"',
+        "line 7: before is there beside after; allowed: one of after, before",
+    ),
+    (
+        'do = "add_line"\nroute = "Q"\nstops = ["A", "B"]',
+        "line 5: route 'Q' is a route already",
+    ),
+    (
+        'do = "add_line"\nroute = "R@new"\nstops = ["A", "B"]',
+        "line 5: route 'R@new' can't be a new route's name; behind an @ stands a scenario",
+    ),
+    ('name = "x"', "line 3: do needed"),
+]
+
+
+@pytest.mark.parametrize("action, told", FAULTS)
+def test_what_a_plan_can_not_mean_is_told_with_its_line(small: Room, action: str, told: str) -> None:
+    plan = plan_of(small, action)
+    small.refused(f"{plan}: {told}", "scenarios", small.path("feed"), plan, "--out", small.path("out"))
+
+
+def test_plans_that_are_none(small: Room) -> None:
+    plan, one = (
+        small.folder / "plan.toml",
+        '[[scenario]]\nname = "{}"\n[[scenario.action]]\ndo = "remove_route"\nroute = "R"\n',
+    )
+    allowed = "at most 100 bytes, no dot or space in front, none of / \\ @ # , and quotes; base and today are taken"
+    for text, told in (
+        ("[[scenario]\n", ": is no TOML file: Expected ']]' at the end of an array declaration (at line 1, column 11)"),
+        ("# nothing\n", ": line 1: scenario needed"),
+        ("[[szenario]]\n", ": line 1: szenario isn't known; the nearest is 'scenario'; allowed: scenario, stop"),
+        ('[[scenario]]\nname = "x"\n', ": line 1: action needed"),
+        (one.format("today"), f": line 2: name 'today' can't be a scenario's name; allowed: {allowed}"),
+        (one.format("a/b"), f": line 2: name 'a/b' can't be a scenario's name; allowed: {allowed}"),
+        (2 * one.format("x"), ": line 7: name 'x' is there twice"),
+        (
+            "".join(one.format(f"s{number}") for number in range(15)),
+            ": line 72: name 's14' is scenario 15; ttm takes 14 beside base and today",
+        ),
+        (one.format("x") + '[[stop]]\nid = "A"\n', ": line 7: id 'A' is there already"),
+    ):
+        plan.write_text(text)
+        small.refused(f"{plan}{told}", "scenarios", small.path("feed"), str(plan), "--out", small.path("out"))
+    plan.write_text(one.format("x"))
+    words = ["scenarios", small.path("feed"), str(plan), "--out", small.path("out")]
+    small.refused(f"{plan}: no scenario y", *words, "--only", "y")
+    Path(small.path("feed/stop_times.txt")).write_text("trip_id,stop_id,stop_sequence\nR1,X,1\n")
+    told = "2 faults, first stop_times.txt: record 2: unknown stop (ttm-tools prepare tells and mends them)"
+    small.refused(f"{small.path('feed')}: {told}", *words)
+
+
+def test_lines_are_counted_past_comments_and_long_texts(small: Room) -> None:
+    text = '# [[scenario]]\n[[scenario]]\nname = """\\\n  new"""\n[[ scenario.action ]]\n'
+    text += '"do" = "cut" # [\nroute = [\n "R",\n]\nafter = "X"\n'
+    Path(small.path("plan.toml")).write_text(text)
+    told = f"{small.path('plan.toml')}: line 10: after 'X' is no stop of the feed or of the plan"
+    small.refused(told, "scenarios", small.path("feed"), small.path("plan.toml"), "--out", small.path("out"))
+
+
+def test_today_is_the_base_and_what_has_everything_is_left_out(town: Town) -> None:
+    """Of three scenarios, as a run with the files of a plan prints them; `--base base` compares with it too."""
+    today: list[Cell] = [0, 300, 900, ""]
+    town.matrix(
+        town_matrix(True, {"base": {"A": [0, 1, 2, 3]}, "today": {"A": today}, "tram": {"A": [0, 200, 900, 800]}})
+    )
+    out, told, status = town.ran("compare", town.file)
+    assert (read(out)[0]["what"], told.split(":")[0], status) == ("new", "tram beside today", 0)
+    assert town.ran("compare", "--base", "base", "--scenario", "tram", town.file)[1].startswith("tram beside base")
+    left = f"{town.file}: base, which has the trips of all scenarios at once, is left out\n"
+    out, told, _ = town.ran("long", town.file)
+    assert (list(dict.fromkeys(row["scenario"] for row in read(out))), told) == (["today", "tram"], left)
+    assert town.ran("long", "--scenario", "base", town.file)[1] == ""
+    pytest.importorskip("h5py")
+    assert town.ran("omx", "--out", town.path("m.omx"), town.file)[1] == left
+    out, told, _ = town.ran("compare", town.path("m.omx"))
+    assert (read(out)[0]["what"], told.split(":")[0]) == ("new", "tram beside today")
+    jobs = town.write("jobs.csv", "stop_id,jobs", [["A", 7], ["D", 8]])
+    out, told, _ = town.ran("access", "--opportunities", jobs, town.file)
+    assert ([row["scenario"] for row in read(out)], told) == (["today", "tram"], left)
+    Path(town.path("access.csv")).write_text(out)
+    out, _, _ = town.ran("equity", town.path("access.csv"), "--people", town.write("p.csv", "id,all", [["A", 3]]))
+    assert [(row["scenario"], row["mean"]) for row in read(out)] == [("today", "7"), ("tram", "15")]
+
+
+def test_walks_that_bring_old_stops_nearer_are_told(small: Room) -> None:
+    """From A to B by way of N 590 seconds; straight lines and these three sides of a triangle bring nothing nearer."""
+    line = 'do = "add_line"\nroute = "T"\nstops = ["A", "N"]\nspeed = 30\nservice = "M"'
+    made(small, f'{line}\ndepartures = [{{ first = "8:00", last = "8:00", every = 60 }}]', before=NEW_STOP)
+    told = f"{small.path('out/footpaths.csv')}: {{}} footpaths; {{}}\n"
+    assert small.ran("walks", "--limit", "3000", small.path("out"))[1] == told.format(20, "0 stops have no coordinates")
+    table = [["A", "N", 290], ["N", "B", 300], ["A", "B", 590], ["B", "A", 600]]
+    small.write("walks.csv", "from_stop_id,to_stop_id,seconds", table)
+    words = ["walks", "--table", small.path("walks.csv"), small.path("out")]
+    assert small.ran(*words)[1] == told.format(4, "0 seconds with decimals were rounded up")
+    small.write("walks.csv", "from_stop_id,to_stop_id,seconds", [*table[:2], ["A", "B", 591], ["B", "A", 600]])
+    nearer = "walks to new stops bring 1 pairs of old stops nearer, so today isn't as it was: A and B, "
+    assert small.ran(*words)[1].splitlines()[1] == f"{nearer}590 seconds apart by way of them, and 591 without"
+    small.write("walks.csv", "from_stop_id,to_stop_id,seconds", [*table[:2], ["B", "A", 600]])
+    assert small.ran(*words)[1].endswith("590 seconds apart by way of them, and out of reach without\n")
+
+
+def test_limits_of_ttm_are_told_before_anything_is_written(small: Room, monkeypatch: pytest.MonkeyPatch) -> None:
+    (small.folder / "plan.toml").write_text(TWO)
+    plan = small.path("plan.toml")
+    words = ["scenarios", small.path("feed"), plan, "--out", small.path("out")]
+    for name, most, told in (
+        ("limits.MOST_TRIPS", 5, ": the feed of all scenarios would have 6 trips, and ttm takes 5: {}"),
+        ("limits.MOST_STOP_TIMES", 19, ": the feed of all scenarios would have 20 stop times, and ttm takes 19: {}"),
+        (
+            "scenario_files.MOST_RECORDS",
+            4,
+            ": line 2: name 'late' takes a scenario file of 5 records, and ttm 4: fewer trips, or whole routes",
+        ),
+        ("base.MOST_STOPS", 4, ": line 17: id makes 5 stops and stations, and ttm takes 4"),
+    ):
+        (small.folder / "plan.toml").write_text(TWO + NEW_STOP * name.endswith("STOPS"))
+        with monkeypatch.context() as patch:
+            patch.setattr(f"ttm_tools.plans.{name}", most)
+            small.refused(plan + told.format("fewer scenarios, or actions on fewer trips"), *words)
+
+
+def test_what_a_day_of_all_scenarios_has_is_told(small: Room, monkeypatch: pytest.MonkeyPatch) -> None:
+    """On Monday run all five trips and another one of Q, with 20 calls, on Tuesday and Wednesday all but R3."""
+    (small.folder / "plan.toml").write_text(TWO)
+    what = "all scenarios together: on a day at most 6 runs with 20 stop times (2026-05-04)"
+    more = "with a day before and one after {}: --back 0 --ahead 0, since ttm takes 1,000,000 and 20"
+    for most, told in (
+        (60, what),
+        (20, f"{what}; {more.format('16 runs with 52')}"),
+        (19, f"{what}, and ttm takes 1,000,000 and 19: fewer scenarios, or actions on fewer trips"),
+    ):
+        with monkeypatch.context() as patch:
+            patch.setattr("ttm_tools.plans.limits.MOST_STOP_TIMES", most)
+            patch.setattr("ttm_tools.plans.make.refuse_limits", lambda *_: None)
+            out = small.path(f"out{most}")
+            lines = small.ran("scenarios", small.path("feed"), small.path("plan.toml"), "--out", out)[1].splitlines()
+        assert lines[-1] == told
+
+
+@pytest.mark.parametrize("seed", range(4))
+def test_whatever_is_damaged_is_told_in_a_line(small: Room, seed: int) -> None:
+    draw, statuses = random.Random(seed), set()
+    line = 'do = "add_line"\nroute = "T"\nstops = ["A", "N"]\nspeed = 30\nservice = "M"\n'
+    line += 'departures = [{ first = "8:00", last = 9:00:00, every = 600 }]'
+    headway = 'do = "headway"\nroute = "R"\nevery = 600\nfrom = "08:00"\nto = "09:00"'
+    small.write(
+        "feed/frequencies.txt", "trip_id,start_time,end_time,headway_secs", [["R1", "7:00:00", "8:00:00", 1800]]
+    )
+    plan_of(small, line, headway, 'do = "speed"\nroute = ["Q", "R"]\nfactor = 0.9', before=NEW_STOP)
+    names = ["plan.toml"] * 5 + [f"feed/{path.name}" for path in (small.folder / "feed").iterdir()]
+    for _ in range(15):
+        name = draw.choice(names)
+        whole = (small.folder / name).read_bytes()
+        (small.folder / name).write_bytes(damaged(draw, whole))
+        before = small.names()
+        _, told, status = small.ran(
+            "scenarios", small.path("feed"), small.path("plan.toml"), "--out", small.path("out")
+        )
+        assert status in (0, 1), told
+        assert status == 0 or len(told.splitlines()) == 1 and small.names() == before, told
+        statuses.add(status)
+        shutil.rmtree(small.folder / "out", ignore_errors=True)
+        (small.folder / name).write_bytes(whole)
+    assert 1 in statuses
+
+
+def test_the_journey_behind_a_cell_of_a_scenario_beside_today(small: Room, program: str) -> None:
+    """From A to D at 8:00 half an hour by Q, or 20 minutes by R1; a fast Q takes 15."""
+    (small.folder / "plan.toml").write_text(TWO)
+    small.ran("scenarios", small.path("feed"), small.path("plan.toml"), "--out", small.path("out"))
+    files = [small.path(f"out/scenarios/{name}.csv") for name in ("today", "fast")]
+    words = ["--origin", "A", "--destination", "D", "--date", "20260504", "--from", "08:00", "--to", "08:00"]
+    out, told, status = small.ran("explain", small.path("out"), *files, *words, "--program", program)
+    assert (told, status) == ("", 0)
+    (heads,) = [line for line in out.splitlines() if line.startswith("today: ")]
+    assert heads.split() == ["today:", "1200", "seconds", "fast:", "900", "seconds"]
