@@ -60,8 +60,8 @@ returns-clause-tables c =
       few_destinations = few_origins i.destinations feed c.in-Ok-read_origins-2.destinations.items c.in-Ok-read_origins-2.ensures.good.0 c.in-Ok-read_origins-2.ensures.good.1;
     }
 
-pub read_origins-2-requires : goal.read_origins-2-requires
-read_origins-2-requires c = c.requires.destinations
+pub read_origins-requires-2 : goal.read_origins-requires-2
+read_origins-requires-2 c = c.requires.destinations
 
 pub returns-in-Err-read_origins-2-clause-fault : goal.returns-in-Err-read_origins-2-clause-fault
 returns-in-Err-read_origins-2-clause-fault c =
