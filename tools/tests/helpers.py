@@ -4,6 +4,7 @@ import csv
 import io
 import itertools
 import math
+import signal
 import subprocess
 import sys
 from pathlib import Path
@@ -50,6 +51,12 @@ def town_matrix(
             access = [sum(isinstance(cell, int) and cell <= limit for cell in cells) for limit in limits]
             writer.writerow([scenario, origin, *[share] * second_form, *access, *cells])
     return out.getvalue()
+
+
+def as_in_a_terminal() -> None:
+    """Sets the signals of a new process as a shell on a terminal does, whatever what runs the tests ignores (nohup)."""
+    for number in (signal.SIGHUP, signal.SIGINT, signal.SIGQUIT):
+        signal.signal(number, signal.SIG_DFL)
 
 
 def read(text: str) -> list[dict[str, str]]:

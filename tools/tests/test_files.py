@@ -10,7 +10,7 @@ from pathlib import Path
 
 import pytest
 
-from helpers import LAUNCHER, Cell, Room, Town, town_matrix
+from helpers import LAUNCHER, Cell, Room, Town, as_in_a_terminal, town_matrix
 from ttm_tools.files import aside_name, many_written_aside, output, sum_of, written_aside
 
 
@@ -66,7 +66,7 @@ with files.written_aside(sys.argv[2]) as made:
 def test_a_signal_leaves_nothing_behind(room: Room, name: str) -> None:
     source = str(Path(LAUNCHER).parent / "src")
     words = [sys.executable, "-c", SLOW, source, room.path("a.csv")]
-    with subprocess.Popen(words, stdout=subprocess.PIPE, stderr=subprocess.DEVNULL) as run:
+    with subprocess.Popen(words, stdout=subprocess.PIPE, stderr=subprocess.DEVNULL, preexec_fn=as_in_a_terminal) as run:
         assert run.stdout is not None and run.stdout.readline() == b"begun\n"
         run.send_signal(getattr(signal, name))
         assert run.wait(10) != 0
@@ -101,7 +101,7 @@ def test_a_command_that_is_ended_at_a_drawn_moment_leaves_the_whole_or_nothing(t
     whole = (town.folder / "made").stat().st_size
     for _ in range(6):
         (town.folder / "made").unlink(missing_ok=True)
-        with subprocess.Popen(words, stderr=subprocess.DEVNULL) as run:
+        with subprocess.Popen(words, stderr=subprocess.DEVNULL, preexec_fn=as_in_a_terminal) as run:
             time.sleep(draw.uniform(0.1, 1.2))
             run.send_signal(draw.choice([signal.SIGTERM, signal.SIGINT, signal.SIGHUP]))
         assert town.names() in (before, before | {"made"})
