@@ -486,6 +486,43 @@ fn dates_and_headers_that_are_refused(rt: HostRuntime) {
     );
 }
 
+#[test]
+fn sixty_bytes_of_a_value_are_told_and_the_rest_is_cut(rt: HostRuntime) {
+    let alloc = rt.alloc();
+    let inputs = Inputs {
+        feed: FeedBytes {
+            calendar_dates: Some(
+                b"service_id,date,exception_type\nMON,123456789_123456789_123456789_123456789_123456789_123456789_,1\n",
+            ),
+            ..small_inputs().feed
+        },
+        ..small_inputs()
+    };
+    expect(
+        &rt,
+        alloc,
+        &inputs,
+        MONDAY,
+        "ttm: column date is \"123456789_123456789_123456789_123456789_123456789_123456789_\"; a date is YYYYMMDD\n",
+    );
+    let inputs = Inputs {
+        feed: FeedBytes {
+            calendar_dates: Some(
+                b"service_id,date,exception_type\nMON,123456789_123456789_123456789_123456789_123456789_123456789_1,1\n",
+            ),
+            ..small_inputs().feed
+        },
+        ..small_inputs()
+    };
+    expect(
+        &rt,
+        alloc,
+        &inputs,
+        MONDAY,
+        "ttm: column date is \"123456789_123456789_123456789_123456789_123456789_123456789_..\"; a date is YYYYMMDD\n",
+    );
+}
+
 /// That this is told of the fault of a scenario file.
 fn expect_edit<R: Threads + Wait + Sync + Abort>(rt: &R, alloc: Global, bytes: &[u8], text: &str) {
     let Some(file) = scenario_file(alloc, b"cut", bytes) else {

@@ -395,8 +395,11 @@ ttm: bytes taken at most: 500
 
 #[test]
 fn memory_is_read_in_kilobytes(rt: HostRuntime) {
-    let text = b"MemTotal:       24689000 kB\nMemAvailable:   16102636 kB\nBad: x kB\n";
+    let text =
+        b"MemTotal:       24689000 kB\nMemAvailable:   16102636 kB\nBad: x kB\nMemAvailable: 1 kB\nOf Twice: 2 kB\n";
+    assert_eq!(rt; memory_of(text, b"MemTotal:"), Some(25_281_536_000));
     assert_eq!(rt; memory_of(text, b"MemAvailable:"), Some(16_489_099_264));
+    assert_eq!(rt; memory_of(text, b"Twice:"), None);
     assert_eq!(rt; memory_of(text, b"VmHWM:"), None);
     assert_eq!(rt; memory_of(text, b"Bad:"), None);
 }
