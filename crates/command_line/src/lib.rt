@@ -9,16 +9,8 @@
 //! `specs/Words` says what the words ask for, `specs/Numbers` which numbers a text lists, `specs/Lines` which line tells a fault.
 #![tactic(auto)]
 
-#[cfg(test)]
-mod file_tests;
 mod files;
-#[cfg(test)]
-mod help_tests;
-#[cfg(test)]
-mod line_tests;
 mod lines;
-#[cfg(test)]
-mod number_tests;
 mod numbers;
 mod option_text;
 mod options;
@@ -28,8 +20,6 @@ mod task;
 mod telling;
 mod version;
 mod window;
-#[cfg(test)]
-mod word_tests;
 mod words;
 
 pub use files::{ReadFault, read_all};

@@ -1,10 +1,20 @@
-//! Tests of the program's edge: what `reports` tells, and how a study is run, by public calls.
+//! Tests of the program's edge: what words ask for, which line tells a fault, what `reports` tells, and how a study is run, by public calls.
 //!
+//! - `words`, `numbers`, `help`: what words ask for, the numbers that a text lists, and what help and version say.
+//! - `fault_lines`, `files`: the line and the status of each fault; files read whole, windows, paths, and lines put out.
 //! - `told_studies`, `told_faults`: what is told of studies of the small feed, and of their faults. `small_study` and `pages`: the feed, and
 //!   consoles that keep what is told.
 //! - `watched_studies`: by how many workers a study is run, how often each row is begun, and in which order a watch is told.
 #![tactic(auto)]
 
+#[cfg(test)]
+mod fault_lines;
+#[cfg(test)]
+mod files;
+#[cfg(test)]
+mod help;
+#[cfg(test)]
+mod numbers;
 #[cfg(test)]
 mod pages;
 #[cfg(test)]
@@ -15,3 +25,5 @@ mod told_faults;
 mod told_studies;
 #[cfg(test)]
 mod watched_studies;
+#[cfg(test)]
+mod words;

@@ -1,11 +1,9 @@
 //! Files read whole, windows, paths and the names of scenarios, and lines put out.
 
-use crate::files::{ReadFault, read_all};
-use crate::lines::{path_line, path_status};
-use crate::paths::{path_in, scenario_of};
-use crate::statuses::REFUSED;
-use crate::telling::{tell, tell_short};
-use crate::window::window_of;
+use command_line::{
+    REFUSED, ReadFault, path_in, path_line, path_status, read_all, scenario_of, tell, tell_short,
+    window_of,
+};
 use std::alloc::Global;
 use std::io::Read;
 use std::process::ExitCode;

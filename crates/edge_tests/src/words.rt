@@ -1,7 +1,6 @@
 //! What the words of the command line ask for.
 
-use crate::task::{Opt, WordFault};
-use crate::words::{task_of, word_status};
+use command_line::{Opt, WordFault, task_of, word_status};
 use jiff::civil::Date;
 use std::alloc::{AllocError, Global};
 use studies::Settings;

@@ -1,7 +1,6 @@
 //! What the help says of each option: the name of its value, its unit and its limits; and what is told of the version.
 
-use crate::task::WordFault;
-use crate::words::task_of;
+use command_line::{WordFault, task_of};
 use std::alloc::{AllocError, Global};
 use std::test::Fail;
 

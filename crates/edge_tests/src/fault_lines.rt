@@ -1,7 +1,6 @@
 //! The line and the exit status of each fault.
 
-use crate::lines::{bad_line, fault_line, status};
-use crate::task::Opt;
+use command_line::{Opt, bad_line, fault_line, status};
 use footpaths::FootFault;
 use gtfs_tables::{FeedBytes, FeedFault, FileName, What};
 use matrix_text::TextFault;

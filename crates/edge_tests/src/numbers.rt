@@ -1,6 +1,6 @@
 //! The numbers that a text lists.
 
-use crate::numbers::numbers_of;
+use command_line::numbers_of;
 use std::alloc::{AllocError, Global};
 
 /// Whether a text lists these numbers.
