@@ -61,11 +61,12 @@ fn lease(number: u64, job: u32, pass: u32) -> Answer {
 }
 
 /// A book of two jobs, two tries and two seats.
-fn two_by_two(alloc: Global) -> Result<Book, AllocError>
-    ensures jobs { IfOk result (λ book. book.jobs ≡ 2) }
-    ensures seats { IfOk result (λ book. length book.seats ≡ 2) }
+fn two_by_two(alloc: Global) -> Result<Box<Book>, AllocError>
+    ensures jobs { IfOk result (λ book. book.value.jobs ≡ 2) }
+    ensures seats { IfOk result (λ book. length book.value.seats ≡ 2) }
 {
-    Book::new(alloc, 2, 2, 2)
+    let book = Book::new(alloc, 2, 2, 2)?;
+    Ok(Box::new(alloc, book)?)
 }
 
 /// The trial of `Book::new`.
@@ -78,7 +79,7 @@ pub(crate) fn try_book(alloc: Global) -> Outcome {
 
 /// Whether nothing was drawn, kept or settled yet in a new book.
 fn makes_book(alloc: Global) -> Result<bool, AllocError> {
-    let book = two_by_two(alloc)?;
+    let book = Book::new(alloc, 2, 2, 2)?;
     Ok(
         book.next() == 0
             && !book.mark(0)
@@ -127,17 +128,30 @@ fn ask(book: &mut Book, call: Call) -> Result<bool, AllocError> {
 
 /// The trial of `run_core`: the same steps, and then a row that seat 1 hands over twice.
 pub(crate) fn try_core(alloc: Global) -> Outcome {
-    match (core(alloc), core_steps(alloc)) {
-        (Ok((book, collector)), Ok(steps)) => try_steps(alloc, book, collector, steps),
-        _ => Outcome::Inputs,
+    match two_by_two(alloc) {
+        Ok(mut book) => try_book_of_core(alloc, &mut book),
+        Err(_) => Outcome::Inputs,
     }
 }
 
-/// A book of two jobs, two tries and two seats, and the places of its rows.
-fn core(alloc: Global) -> Result<(Book, Collector), AllocError> {
-    let book = two_by_two(alloc)?;
+fn try_book_of_core(alloc: Global, book: &mut Book) -> Outcome {
+    match places(alloc) {
+        Ok(mut collector) => try_places(alloc, book, &mut collector),
+        Err(_) => Outcome::Inputs,
+    }
+}
+
+fn try_places(alloc: Global, book: &mut Book, collector: &mut Collector) -> Outcome {
+    match core_steps(alloc) {
+        Ok(steps) => try_steps(alloc, book, collector, steps),
+        Err(_) => Outcome::Inputs,
+    }
+}
+
+/// The places of the rows of that book.
+fn places(alloc: Global) -> Result<Box<Collector>, AllocError> {
     let collector = Collector::new(alloc, 1, 1, 2, 1, 1, 1)?;
-    Ok((book, collector))
+    Ok(Box::new(alloc, collector)?)
 }
 
 fn core_steps(alloc: Global) -> Result<Vec<CoreStep>, AllocError> {
@@ -146,24 +160,41 @@ fn core_steps(alloc: Global) -> Result<Vec<CoreStep>, AllocError> {
         all.push(CoreStep::Book(step))?;
     }
     for _ in 0..2 {
-        all.push(CoreStep::Hand(1, row_with(alloc, 1, 1, &[None])?))?;
+        push_hand(alloc, &mut all)?;
     }
     Ok(all)
 }
 
+fn push_hand(alloc: Global, steps: &mut Vec<CoreStep>) -> Result<(), AllocError> {
+    let row = row_with(alloc, 1, 1, &[None])?;
+    steps.push(CoreStep::Hand(1, row))?;
+    Ok(())
+}
+
 fn try_steps(
     alloc: Global,
-    mut book: Book,
-    mut collector: Collector,
+    book: &mut Book,
+    collector: &mut Collector,
     steps: Vec<CoreStep>,
 ) -> Outcome {
-    match run_core(alloc, &mut book, &mut collector, steps) {
-        Ok(told) => Outcome::at_once(are_told(&told) && book.next() == 4),
-        Err(steps) => match run_core(alloc, &mut book, &mut collector, steps) {
-            Ok(told) => Outcome::again(Ok(are_told(&told) && book.next() == 4)),
+    match makes_steps(alloc, book, collector, steps) {
+        Ok(is_right) => Outcome::at_once(is_right),
+        Err(steps) => match makes_steps(alloc, book, collector, steps) {
+            Ok(is_right) => Outcome::again(Ok(is_right)),
             Err(_) => Outcome::again(Err(AllocError)),
         },
     }
+}
+
+/// Whether the steps are answered as they should be; the steps where they tell want of memory.
+fn makes_steps(
+    alloc: Global,
+    book: &mut Book,
+    collector: &mut Collector,
+    steps: Vec<CoreStep>,
+) -> Result<bool, Vec<CoreStep>> {
+    let told = run_core(alloc, book, collector, steps)?;
+    Ok(are_told(&told) && book.next() == 4)
 }
 
 /// Whether the answers are those of the book's steps, and then of a row that was handed over twice.
@@ -243,27 +274,34 @@ fn rows_to_offer(alloc: Global) -> Result<Vec<Row>, AllocError> {
 fn try_rows(alloc: Global, rows: Vec<Row>) -> Outcome {
     match Collector::new(alloc, 1, 3, 3, 3, 1, 1) {
         Ok(collector) => Outcome::at_once(takes_rows(collector, rows)),
-        Err(_) => match Collector::new(alloc, 1, 3, 3, 3, 1, 1) {
-            Ok(collector) => Outcome::again(Ok(takes_rows(collector, rows))),
-            Err(error) => Outcome::again(Err(error)),
-        },
+        Err(_) => Outcome::again(try_rows_again(alloc, rows)),
     }
+}
+
+fn try_rows_again(alloc: Global, rows: Vec<Row>) -> Result<bool, AllocError> {
+    let collector = Collector::new(alloc, 1, 3, 3, 3, 1, 1)?;
+    Ok(takes_rows(collector, rows))
 }
 
 /// Whether the first row is kept, the second comes back, the others are strangers, and the second origin's place is empty.
 fn takes_rows(mut collector: Collector, rows: Vec<Row>) -> bool {
-    let mut is_right = rows.len() == 4;
-    for (at, row) in rows.into_iter().enumerate() {
-        is_right = is_right && is_taken(&mut collector, at, row);
-    }
+    let is_right = are_taken(&mut collector, rows);
     match collector.finish() {
         Ok(_) => false,
         Err(unfinished) => is_right && unfinished.scenario == 0 && unfinished.origin == 1,
     }
 }
 
+fn are_taken(collector: &mut Collector, rows: Vec<Row>) -> bool {
+    let mut is_right = rows.len() == 4;
+    for (at, row) in rows.into_iter().enumerate() {
+        is_right = is_right && is_taken(collector, at, row);
+    }
+    is_right
+}
+
 fn is_taken(collector: &mut Collector, at: usize, row: Row) -> bool {
-    match (at, collector.offer(row)) {
+    match (at, &collector.offer(row)) {
         (0, Offer::Kept) => true,
         (1, Offer::Double(_)) => true,
         (2 | 3, Offer::Stranger(_)) => true,

@@ -25,7 +25,7 @@ mod trials;
 mod words;
 
 use crate::outcomes::Outcome;
-use crate::trials::{TRIALS, Trial, make};
+use crate::trials::{Trial, make, trials};
 use std::process::ExitCode;
 use std::rt::Env;
 use std::sync::Wait;
@@ -66,7 +66,7 @@ fn words_of<R: Env + AllocGlobal>(rt: &R) -> io::Result<Vec<String>> {
 /// Makes every trial.
 fn make_all<R: Print + AllocGlobal + Threads + Wait + Sync>(rt: &R) -> io::Result<bool> {
     let mut are_right = true;
-    for (name, trial) in TRIALS.iter() {
+    for (name, trial) in trials().iter() {
         are_right = make_one(rt, name, *trial)? && are_right;
     }
     Ok(are_right)
@@ -77,7 +77,7 @@ fn make_named<R: Print + AllocGlobal + Threads + Wait + Sync>(
     rt: &R,
     named: &str,
 ) -> io::Result<bool> {
-    for (name, trial) in TRIALS.iter() {
+    for (name, trial) in trials().iter() {
         if *name == named {
             return make_one(rt, name, *trial);
         }

@@ -151,14 +151,15 @@ fn makes_network(
     trips: Vec<Trip>,
 ) -> Result<bool, Vec<Trip>> {
     match Network::new(alloc, case.stops, trips, feet) {
-        Ok(network) => Ok(
-            case.gives.is_ok()
-                && network.stops() == case.stops
-                && have_rides(network.trips(), case.rides),
-        ),
+        Ok(network) => Ok(case.gives.is_ok() && is_of(&network, case)),
         Err((NetFault::Memory, trips)) => Err(trips),
         Err((fault, trips)) => Ok(case.gives == Err(fault) && have_rides(&trips, case.rides)),
     }
+}
+
+/// Whether a network has a case's stops and rides.
+fn is_of(network: &Network, case: NetCase) -> bool {
+    network.stops() == case.stops && have_rides(network.trips(), case.rides)
 }
 
 /// Whether there is a trip for each ride, in order.
@@ -288,13 +289,25 @@ fn small_scenarios(alloc: Global, feed: &Feed) -> Option<Vec<Scenario>> {
     let mut scenarios = Vec::with_capacity(alloc, 3).ok()?;
     scenarios.push(base(alloc)).ok()?;
     for (name, bytes) in [(b"cut".as_slice(), CUT), (b"late".as_slice(), LATE)] {
-        if bytes.len() > MOST_BYTES {
-            return None;
-        }
-        let scenario = read_scenario(alloc, name, bytes, feed).ok()?;
-        scenarios.push(scenario).ok()?;
+        push_scenario(alloc, feed, &mut scenarios, name, bytes)?;
     }
     Some(scenarios)
+}
+
+fn push_scenario(
+    alloc: Global,
+    feed: &Feed,
+    scenarios: &mut Vec<Scenario>,
+    name: &[u8],
+    bytes: &[u8],
+) -> Option<()> {
+    if bytes.len() > MOST_BYTES {
+        return None;
+    }
+    match read_scenario(alloc, name, bytes, feed) {
+        Ok(scenario) => scenarios.push(scenario).ok(),
+        Err(_) => None,
+    }
 }
 
 /// The rides of each scenario's network, on the second day of the axis.

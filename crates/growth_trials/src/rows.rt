@@ -33,24 +33,26 @@ const SCENARIOS: [&[Ride]; 3] = [&[FIRST, SECOND], &[FIRST], &[LATER, SECOND]];
 /// What a row gives: its access, and its cells.
 type Given = (u64, [Option<u32>; 3]);
 
-/// What the rows of each scenario give, from each stop.
-const ROWS: [[Given; 3]; 3] = [
+/// What the rows of each scenario give, from each stop. A function, so that proofs don't compute the whole list.
+fn all_rows() -> [[Given; 3]; 3] {
     [
-        (3, [Some(0), Some(600), Some(1_800)]),
-        (2, [None, Some(0), Some(1_800)]),
-        (1, [None, None, Some(0)]),
-    ],
-    [
-        (2, [Some(0), Some(600), None]),
-        (1, [None, Some(0), None]),
-        (1, [None, None, Some(0)]),
-    ],
-    [
-        (3, [Some(0), Some(900), Some(1_800)]),
-        (2, [None, Some(0), Some(1_800)]),
-        (1, [None, None, Some(0)]),
-    ],
-];
+        [
+            (3, [Some(0), Some(600), Some(1_800)]),
+            (2, [None, Some(0), Some(1_800)]),
+            (1, [None, None, Some(0)]),
+        ],
+        [
+            (2, [Some(0), Some(600), None]),
+            (1, [None, Some(0), None]),
+            (1, [None, None, Some(0)]),
+        ],
+        [
+            (3, [Some(0), Some(900), Some(1_800)]),
+            (2, [None, Some(0), Some(1_800)]),
+            (1, [None, None, Some(0)]),
+        ],
+    ]
+}
 
 /// The study of these networks from each stop: two rides, half of the minutes of 08:00 alone, and half an hour's reach.
 fn study_of(networks: &[Network]) -> Study<'_> {
@@ -76,9 +78,14 @@ fn study_of(networks: &[Network]) -> Study<'_> {
 fn networks(alloc: Global) -> Option<Vec<Network>> {
     let mut networks = Vec::with_capacity(alloc, 3).ok()?;
     for rides in SCENARIOS {
-        networks.push(small_network(alloc, rides)?).ok()?;
+        push_network(alloc, &mut networks, rides)?;
     }
     Some(networks)
+}
+
+fn push_network(alloc: Global, networks: &mut Vec<Network>, rides: &[Ride]) -> Option<()> {
+    let network = small_network(alloc, rides)?;
+    networks.push(Box::into_inner(network)).ok()
 }
 
 /// Whether a row gives this.
@@ -92,16 +99,22 @@ fn gives(row: &Row, given: &Given) -> bool {
     }
 }
 
+/// Whether it is the row of the second scenario and the first origin.
+fn is_of_a_cut(row: &Row) -> bool {
+    gives(row, &all_rows()[1][0])
+}
+
 /// Whether a matrix has each row.
 fn has_rows(matrix: &Matrix) -> bool {
     if matrix.scenarios() != 3 || matrix.origins() != 3 {
         return false;
     }
+    let rows = all_rows();
     for scenario in 0..3u32 {
         for origin in 0..3u32 {
             if !gives(
                 matrix.row(scenario, origin),
-                &ROWS[scenario as usize][origin as usize],
+                &rows[scenario as usize][origin as usize],
             ) {
                 return false;
             }
@@ -131,7 +144,7 @@ fn ask(alloc: Global, study: &Study<'_>, call: Call) -> Result<bool, AllocError>
         return Ok(false);
     }
     match call {
-        Call::RowOf => Ok(gives(&row_of(alloc, study, 1, 0)?, &ROWS[1][0])),
+        Call::RowOf => Ok(is_of_a_cut(&row_of(alloc, study, 1, 0)?)),
         Call::OneThread => match one_thread(alloc, study) {
             Ok(matrix) => Ok(has_rows(&matrix)),
             Err(fault) => told(fault == RunFault::Memory),
@@ -171,8 +184,7 @@ fn try_runs<R: Threads + Wait + Sync>(
     }
 }
 
-/// Whether a run at a new board gives all rows; none where there is no memory for the board. The start of a thread takes memory
-/// too, so that a run without any thread tells want of it.
+/// Whether a run at a new board gives all rows; none where there is no memory for the board.
 fn runs<R: Threads + Wait + Sync>(
     rt: &R,
     alloc: Global,
@@ -186,8 +198,14 @@ fn runs<R: Threads + Wait + Sync>(
     }
     let jobs = study.networks.len() as u32 * study.origins.len() as u32;
     let (board, mut seat) = Board::new(alloc, jobs, 2).ok()?;
-    match run_workers(rt, alloc, study, &board, &mut seat, workers, &Open) {
-        Ok(matrix) => Some(Ok(has_rows(&matrix))),
-        Err(fault) => Some(told(fault == RunFault::Memory || fault == RunFault::Spawn)),
+    let made = run_workers(rt, alloc, study, &board, &mut seat, workers, &Open);
+    Some(are_all(made))
+}
+
+/// Whether a run gave all rows. The start of a thread takes memory too, so that a run without any thread tells want of it.
+fn are_all(made: Result<Matrix, RunFault>) -> Result<bool, AllocError> {
+    match made {
+        Ok(matrix) => Ok(has_rows(&matrix)),
+        Err(fault) => told(fault == RunFault::Memory || fault == RunFault::Spawn),
     }
 }

@@ -74,21 +74,28 @@ pub(crate) fn small_files() -> FeedBytes<'static> {
     }
 }
 
-/// The small feed. None where there is no memory for it; so it is with all inputs of trials.
-pub(crate) fn small_feed(alloc: Global) -> Option<Feed> {
+/// The small feed. None where there is no memory for it; so it is with all inputs of trials. They stand in boxes, so that
+/// whoever holds them lets go of them in one step.
+pub(crate) fn small_feed(alloc: Global) -> Option<Box<Feed>> {
     let files = small_files();
     if !files.fits() {
         return None;
     }
-    read_feed(alloc, &files).ok()
+    match read_feed(alloc, &files) {
+        Ok(feed) => Box::new(alloc, feed).ok(),
+        Err(_) => None,
+    }
 }
 
 /// The direct footpaths of the two walks.
-pub(crate) fn small_walks(alloc: Global, feed: &Feed) -> Option<Direct> {
+pub(crate) fn small_walks(alloc: Global, feed: &Feed) -> Option<Box<Direct>> {
     if !file_fits(Some(WALKS)) {
         return None;
     }
-    direct(alloc, feed, Some(WALKS)).ok()
+    match direct(alloc, feed, Some(WALKS)) {
+        Ok(walks) => Box::new(alloc, walks).ok(),
+        Err(_) => None,
+    }
 }
 
 /// The same, closed.

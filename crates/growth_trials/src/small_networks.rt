@@ -63,19 +63,24 @@ pub(crate) fn no_walks(alloc: Global, stops: u32) -> Option<Feet> {
 }
 
 /// The network of these trips, among so many stops.
-fn network_of(alloc: Global, stops: u32, trips: Vec<Trip>) -> Option<Network> {
+fn network_of(alloc: Global, stops: u32, trips: Vec<Trip>) -> Option<Box<Network>> {
     let feet = no_walks(alloc, stops)?;
-    Network::new(alloc, stops, trips, &feet).ok()
+    let made = Network::new(alloc, stops, trips, &feet);
+    drop(feet);
+    match made {
+        Ok(network) => Box::new(alloc, network).ok(),
+        Err(_) => None,
+    }
 }
 
 /// The network of these rides, among three stops.
-pub(crate) fn small_network(alloc: Global, rides: &[Ride]) -> Option<Network> {
+pub(crate) fn small_network(alloc: Global, rides: &[Ride]) -> Option<Box<Network>> {
     let trips = trips_of(alloc, rides).ok()?;
     network_of(alloc, 3, trips)
 }
 
 /// 400 trips, one a minute from 05:00, along 20 stops that lie two minutes apart.
-pub(crate) fn a_line(alloc: Global) -> Option<Network> {
+pub(crate) fn a_line(alloc: Global) -> Option<Box<Network>> {
     let trips = trips_of_the_line(alloc).ok()?;
     network_of(alloc, LINE, trips)
 }

@@ -24,9 +24,19 @@ pub(crate) fn row_with(
 }
 
 /// The matrix of one row, from A to all stops of the small feed.
-pub(crate) fn small_matrix(alloc: Global) -> Option<Matrix> {
+pub(crate) fn small_matrix(alloc: Global) -> Option<Box<Matrix>> {
     let row = row_with(alloc, 1, 0, &[Some(0), Some(600), Some(1_800)]).ok()?;
-    let mut collector = Collector::new(alloc, 1, 1, 1, 3, 1, 1).ok()?;
+    match Collector::new(alloc, 1, 1, 1, 3, 1, 1) {
+        Ok(collector) => matrix_of(alloc, collector, row),
+        Err(_) => None,
+    }
+}
+
+/// The matrix of places that a row fills.
+fn matrix_of(alloc: Global, mut collector: Collector, row: Row) -> Option<Box<Matrix>> {
     collector.offer(row);
-    collector.finish().ok()
+    match collector.finish() {
+        Ok(matrix) => Box::new(alloc, matrix).ok(),
+        Err(_) => None,
+    }
 }

@@ -200,9 +200,21 @@ pub(crate) fn try_study<R: Threads + Wait + Sync>(
     alloc: Global,
     case: StudyCase,
 ) -> Outcome {
-    match (scenarios(alloc), settings(alloc, case)) {
-        (Ok(scenarios), Some(settings)) => try_inputs(rt, alloc, &scenarios, &settings, case),
-        _ => Outcome::Inputs,
+    match scenarios(alloc) {
+        Ok(scenarios) => try_scenarios(rt, alloc, case, &scenarios),
+        Err(_) => Outcome::Inputs,
+    }
+}
+
+fn try_scenarios<R: Threads + Wait + Sync>(
+    rt: &R,
+    alloc: Global,
+    case: StudyCase,
+    scenarios: &[NamedFile],
+) -> Outcome {
+    match settings(alloc, case) {
+        Some(settings) => try_inputs(rt, alloc, scenarios, &settings, case),
+        None => Outcome::Inputs,
     }
 }
 
