@@ -67,8 +67,18 @@ function secondsTold(seconds) {
   return seconds % 60 ? `${told(seconds)} seconds` : `${told(seconds / 60)} minutes`;
 }
 
+const swatches = new Map(); // by what they look like
+
 /** The mark of a class as the key shows it. */
 function swatch(mark) {
+  const look = `${mark.colour} ${mark.shape} ${mark.size}`;
+  if (!swatches.has(look)) {
+    swatches.set(look, newSwatch(mark));
+  }
+  return swatches.get(look);
+}
+
+function newSwatch(mark) {
   const canvas = made("canvas", "", { width: 36, height: 36, "aria-hidden": "true", class: "swatch" });
   const pen = canvas.getContext("2d");
   pen.scale(2, 2);
