@@ -11,6 +11,8 @@ from typing import Any
 import pytest
 
 from helpers import CALENDAR, METRE, STOP_TIMES, Room
+from streets import write_osm
+from test_damages import damaged
 from ttm_tools.points import study
 
 BENCH = Path(__file__).resolve().parents[2] / "bench"
@@ -70,6 +72,19 @@ def test_the_folder_has_what_a_run_needs(room: Room) -> None:
     ]
     for name in ("routes.txt", "calendar.txt", "trips.txt", "stop_times.txt"):
         assert made[f"feed/{name}"] == (Path(town) / name).read_text()
+
+
+def test_the_scenarios_of_a_plan_stay_beside_its_feed(room: Room) -> None:
+    town, out = feed(room), room.path("doors")
+    Path(town, "scenarios").mkdir()
+    Path(town, "scenarios", "today.csv").write_text("action,id,seconds\nremove_trip,T,\n")
+    Path(town, "new_stops.csv").write_text("stop_id\nB\n")
+    Path(town, "footpaths.csv").write_text("from_stop_id,to_stop_id,seconds\n")
+    assert room.ran("points", town, cells(room), "--out", out, *PACE)[2] == 0
+    made = {str(path.relative_to(town)): path.read_text() for path in Path(town).rglob("*.csv")}
+    del made["footpaths.csv"]
+    assert {name: Path(out, "feed", name).read_text() for name in made} == made
+    assert not Path(out, "feed", "footpaths.csv").exists()
 
 
 def test_points_without_a_stop_in_reach_are_left_out_if_asked_for(room: Room) -> None:
@@ -172,8 +187,6 @@ def test_areas_become_points_inside_of_them(room: Room) -> None:
 def test_points_are_reached_along_streets_too(room: Room) -> None:
     pytest.importorskip("osmium")
     pytest.importorskip("scipy")
-    from streets import write_osm
-
     nodes = {1: (0.0, 0.0), 2: (100.5, 0.0), 3: (100.5, 1040.0)}
     streets = write_osm(room.folder / "s.osm", nodes, [([1, 2, 3], {"highway": "footway"})])
     points = room.write("cells.csv", "id,lat,lon", [["1", *place(29.5, 0)], ["2", *place(100.5, 79.8)]])
@@ -298,3 +311,27 @@ def test_drawn_towns_have_the_durations_of_journeys_that_begin_and_end_with_a_wa
             assert [int(row[name]) if row[name] else None for name in names] == expected, (seed, minute, row["origin"])
             reached += sum(time is not None and time > limit for time in expected)
     assert reached > 0, f"seed {seed}: nobody rides"
+
+
+@pytest.mark.parametrize("seed", range(3))
+def test_whatever_is_damaged_is_told_in_a_line(room: Room, seed: int) -> None:
+    pytest.importorskip("osmium")
+    pytest.importorskip("scipy")
+    draw, town = random.Random(seed), feed(room)
+    nodes = {1: (0.0, 0.0), 2: (100.5, 0.0), 3: (100.5, 1040.0)}
+    streets = write_osm(room.folder / "s.osm", nodes, [([1, 2, 3], {"highway": "footway"})])
+    inputs = [cells(room), f"{town}/stops.txt", streets]
+    whole = {name: Path(name).read_bytes() for name in inputs}
+    statuses = set()
+    for trial in range(20):
+        name, out = draw.choice(inputs), room.path(f"doors{trial}")
+        Path(name).write_bytes(damaged(draw, whole[name]))
+        before = room.names()
+        words = ["points", town, inputs[0], "--out", out, *(["--streets", streets] if name == streets else [])]
+        _, told, status = room.ran(*words)
+        statuses.add(status)
+        lines = [line for line in told.splitlines() if line.startswith("ttm-tools points: ")]
+        assert (status, len(lines)) in ((0, 0), (1, 1)), (seed, trial, told)
+        assert status == 0 or room.names() == before
+        Path(name).write_bytes(whole[name])
+    assert statuses == {0, 1}

@@ -12,7 +12,7 @@ from typing import Any, Callable
 
 import pytest
 
-from helpers import CALENDAR, STOP_TIMES, Room, launched
+from helpers import CALENDAR, STOP_TIMES, Room
 from ttm_tools.faults import BadInput
 from ttm_tools.files import sum_of
 from ttm_tools.study.cluster import Means, ranges
@@ -51,6 +51,9 @@ count = 4
 """
 
 
+NO_MAPS = STUDY.replace("csv = true", "csv = true\nmaps = false")
+
+
 class Place(Room):
     """A room with a feed of nine stops in a row, of which one trip goes along and another one back."""
 
@@ -86,8 +89,10 @@ class Place(Room):
 
 
 @pytest.fixture
-def place(tmp_path: Path, capsysbinary: pytest.CaptureFixture[bytes], program: str) -> Place:
-    os.environ["TTM_PROGRAM"] = program
+def place(
+    tmp_path: Path, capsysbinary: pytest.CaptureFixture[bytes], program: str, monkeypatch: pytest.MonkeyPatch
+) -> Place:
+    monkeypatch.setenv("TTM_PROGRAM", program)
     return Place(tmp_path, capsysbinary)
 
 
@@ -146,8 +151,193 @@ def test_the_matrix_is_that_of_one_run_and_every_result_is_there(place: Place, p
     assert made["matrix.csv"] == whole
     report = made["report.md"].decode()
     assert made["compare_cut.csv"].splitlines()[1].startswith(b"S8,Stop S8,")
-    for told in ("Who loses if Q goes?", "9 times mended", sum_of(place.path("jobs.csv")), "proved"):
+    for told in ("Who loses if Q goes?", "18 times mended", sum_of(place.path("jobs.csv")), "proved"):
         assert told in report
     assert {"access.csv", "equity.csv", "maps/access.png", "maps/access_cut.png", "matrix.omx"} < set(made)
     # who sets out from S0 after 08:00 reaches S1 on foot and nothing else today: 0.4 and 100.4 jobs
     assert made["access.csv"].splitlines()[1:3] == [b"base,S0,jobs,25,10,100.8", b"base,S0,jobs,25,30,100.8"]
+
+
+def test_parts_of_any_number_and_processes_give_the_same_results(place: Place) -> None:
+    make_study(read_study(place.lay_out()), place.folder / "nine", Means(2))
+    wanted = place.made()
+    for count, workers in ((1, 1), (9, 3)):
+        study = read_study(place.say(NO_MAPS.replace("count = 4", f"count = {count}\nkeep = true")))
+        make_study(study, place.folder / str(count), Means(workers))
+        made = place.made(str(count))
+        assert sorted(path.name for path in (place.folder / str(count) / "parts").iterdir())[-1] == f"{count:04}"
+        for name in ("matrix.csv", "matrix.omx", "access.csv", "equity.csv", "compare_cut.csv"):
+            assert made[name] == wanted[name]
+
+
+def test_what_is_done_is_not_done_again_and_what_changed_is(place: Place) -> None:
+    path = place.lay_out(STUDY.replace("count = 4", "count = 4\nkeep = true"))
+
+    def stages() -> list[str]:
+        _, told, status = place.ran("study", path)
+        assert status == 0, told
+        return [line.removesuffix(" ..") for line in told.splitlines() if line.endswith(" ..")]
+
+    before = ["feed", "scenarios", "walks", "origins", "opportunities", "told"]
+    results = ["access", "equity", "compare_cut", "maps", "report"]
+    assert stages() == [*before, "matrix", *results]
+    notes = (place.folder / "nine/study.json").read_bytes()
+    assert stages() == []
+    assert (place.folder / "nine/study.json").read_bytes() == notes
+    (place.folder / "nine/access.csv").write_text("spoilt\n")
+    assert stages() == ["access"]
+    place.write("people.csv", "stop_id,residents", [[stop, 5] for stop in STOPS])
+    assert stages() == ["equity", "report"]
+    place.write("cut.csv", "action,id,seconds", [["remove_route", "R", ""]])
+    assert stages() == ["scenarios", "told", "matrix", *results]
+
+
+def test_a_part_of_other_inputs_or_with_other_bytes_is_never_taken(place: Place, program: str) -> None:
+    study = read_study(place.lay_out(NO_MAPS.replace("count = 4", "count = 4\nkeep = true")))
+    make_study(study, place.folder / "nine", Means(2))
+    wanted = place.made()
+    parts = place.folder / "nine/parts"
+
+    def computed() -> list[str]:
+        """The parts that are made when the matrix is lost."""
+        before = {path: path.stat().st_mtime_ns for path in sorted(parts.glob("*/matrix.csv"))}
+        (place.folder / "nine/matrix.omx").unlink()
+        make_study(study, place.folder / "nine", Means(2))
+        assert place.made() == wanted
+        return [path.parent.name for path in before if path.stat().st_mtime_ns != before[path]]
+
+    assert computed() == []
+    (parts / "0002/key").unlink()
+    (parts / "0003/matrix.csv").write_bytes((parts / "0003/matrix.csv").read_bytes()[:-1])
+    (parts / "0004/key").write_bytes((parts / "0001/key").read_bytes())
+    assert computed() == ["0002", "0003", "0004"]
+    rotten = (parts / "0001/matrix.csv").read_bytes()
+    (parts / "0001/matrix.csv").write_bytes(rotten.replace(b"base,S0,25,100,", b"base,S0,25,200,"))
+    (place.folder / "nine/matrix.omx").unlink()
+    with pytest.raises(BadInput, match="parts/0001/matrix.csv: changed since it was made"):
+        make_study(study, place.folder / "nine", Means(2))
+    assert computed_after(study, place) == wanted
+
+
+def computed_after(study: Any, place: Place) -> dict[str, bytes]:
+    make_study(study, place.folder / "nine", Means(2))
+    return place.made()
+
+
+def test_a_part_that_fails_is_named_and_the_others_go_on(
+    place: Place, program: str, monkeypatch: pytest.MonkeyPatch
+) -> None:
+    path = place.lay_out(NO_MAPS)
+    bad = place.folder / "bad"
+    words = f'#!/bin/sh\ncase "$*" in *parts/0002/*) echo ttm: out of memory >&2; exit 3 ;; esac\nexec {program} "$@"\n'
+    bad.write_text(words)
+    bad.chmod(0o755)
+    monkeypatch.setenv("TTM_PROGRAM", str(bad))
+    _, told, status = place.ran("study", path)
+    line = "parts/0002: ttm: out of memory (1 of 4 parts have no matrix; the same command tries them again)"
+    assert (status, told.splitlines()[-1]) == (1, f"ttm-tools study: {line}")
+    assert "part 2: ttm: out of memory" in told.splitlines()
+    there = sorted(path.parent.name for path in (place.folder / "nine/parts").glob("*/key"))
+    assert there == ["0001", "0003", "0004"]
+    monkeypatch.setenv("TTM_PROGRAM", program)
+    _, told, status = place.ran("study", path)
+    assert (status, "parts: 3 of 4 are there already" in told) == (0, True)
+
+
+def test_verification_computes_rows_again_and_tells_what_was_changed(place: Place) -> None:
+    make_study(read_study(place.lay_out(NO_MAPS)), place.folder / "nine", Means(2))
+    folder = place.path("nine")
+    told = (
+        "sums: 19 files are as study.json says\nrows: those of 1 of 9 origins, drawn by --seed 7, have the same bytes\n"
+    )
+    assert place.ran("study", "--verify", folder, "--seed", "7") == ("", told, 0)
+    (place.folder / "nine/access.csv").write_text("spoilt\n")
+    told = "ttm-tools study: access.csv: has another sum than study.json says: it was changed\n"
+    assert place.ran("study", "--verify", folder) == ("", told, 1)
+
+
+def test_verification_finds_a_row_that_ttm_does_not_compute(place: Place) -> None:
+    make_study(read_study(place.lay_out(NO_MAPS)), place.folder / "nine", Means(2))
+    notes = json.loads((place.folder / "nine/study.json").read_text())
+    text = (place.folder / "nine/matrix.csv").read_text()
+    assert "base,S0,25,100,100,0,435," in text
+    (place.folder / "nine/matrix.csv").write_text(
+        text.replace("base,S0,25,100,100,0,435,", "base,S0,25,100,100,0,436,")
+    )
+    notes["stages"]["matrix"]["files"]["matrix.csv"] = sum_of(place.folder / "nine/matrix.csv")
+    (place.folder / "nine/study.json").write_text(json.dumps(notes))
+    drawn = {random.Random(seed).sample(range(9), 1)[0]: seed for seed in range(99)}
+    told = "matrix.csv: the row of base, share 25, origin S0 isn't what ttm computes"
+    for origin, (line, status) in {0: (f"ttm-tools study: {told}", 1), 1: ("rows: those of 1", 0)}.items():
+        _, said, ended = place.ran("study", "--verify", place.path("nine"), "--seed", str(drawn[origin]))
+        assert (said.splitlines()[-1].startswith(line), ended) == (True, status)
+
+
+def test_wrong_words_of_a_study_are_told_with_their_line_and_the_nearest_name(bare: Place) -> None:
+    bare.lay_out()
+    cases = {
+        ('files = ["published"]', 'fles = ["published"]'): "line 4: fles isn't known; the nearest is 'files'; allowed:",
+        ("[scenarios]", "[scenario]"): "line 15: scenario isn't known; the nearest is 'scenarios'; allowed:",
+        (
+            "shares = [25, 50]",
+            "shares = [50, 25]",
+        ): "line 9: shares '[50, 25]' isn't that; allowed: 1 to 8 whole numbers",
+        ('to = "08:04"', 'to = "07:59"'): "line 8: to '07:59' is before from",
+        ('to = "08:04"', 'to = "8:04"'): "line 8: to '8:04' is no time; allowed: HH:MM between quotes, 00:00 to 23:59",
+        ("date = 2026-05-04", 'date = "20260532"'): "line 6: date '20260532' is no date; allowed: YYYY-MM-DD",
+        ("date = 2026-05-04\n", ""): "line 5: date is needed; allowed: YYYY-MM-DD, or YYYYMMDD between quotes",
+        ('files = ["jobs.csv"]', 'files = ["job.csv"]'): "line 12: files 'job.csv' isn't there; allowed: a path from",
+        ("csv = true", "csv = 1"): "line 18: csv '1' isn't one; allowed: true or false",
+        ("csv = true", "within = 900"): "line 18: within '900' is none of limits of [run]; allowed: 600, 1800",
+        ("csv = true", 'decay = "linear"'): "line 18: decay 'linear' needs decay_value, minutes above 0",
+        ("csv = true", 'decay = "steep"'): "line 18: decay 'steep' isn't one of",
+        ("count = 4", "count = 0"): "line 20: count '0' isn't one; allowed: a whole number from 1 to 9,999",
+        ("count = 4", "count = "): "is no TOML file: Invalid value (at line 20, column 9)",
+        ("[feed]\n", "[feed]\nready = true\nrepair = true\n"): "line 5: repair doesn't go with ready; allowed: one of",
+    }
+    for (old, new), told in cases.items():
+        assert STUDY.count(old) == 1
+        path = bare.say(STUDY.replace(old, new))
+        with pytest.raises(BadInput) as seen:
+            read_study(path)
+        assert str(seen.value).startswith(f"{path}: {told}"), (new, str(seen.value))
+
+
+def test_the_file_that_new_prints_can_be_read_with_every_field(bare: Place) -> None:
+    out, told, status = bare.ran("study", "--new")
+    assert (out, told, status) == (template(), "", 0)
+    for name in ("feed.zip", "region.geojson"):
+        (bare.folder / name).touch()
+    study = read_study(bare.say(out))
+    assert (study.run.first, study.run.shares, study.results.access) == ("07:30", (50,), True)
+    assert page() in (ROOT / "docs" / "STUDIES.md").read_text()
+
+
+def test_words_that_do_not_go_together_are_wrong_words(bare: Place) -> None:
+    path = bare.lay_out()
+    wrong: list[list[str]] = [[], ["--new", path], [path, "--slurm", "--hosts", ":"], [path, "--option", "time=1"]]
+    for words in wrong:
+        assert bare.ran("study", *words)[2] == 2
+
+
+def test_parts_are_cut_by_time_and_memory() -> None:
+    # a second for each of 10,000 origins, after 20: five minutes are 280 of them, 36 parts
+    costs = Costs(setup=20, each=1, network=10**9, row=10**6, free=10**11)
+    assert shape_of(PartWish(), costs, 10_000, 4).parts == 36
+    # with 8 GB four share 6.4 GB: 1.6 GB each, 1 GB of which is the network, leave 600 rows
+    tight = Costs(setup=0, each=0.01, network=10**9, row=10**6, free=8 * 10**9)
+    made = shape_of(PartWish(), tight, 10_000, 4)
+    assert (made.parts, made.at_once, made.threads) == (20, 4, 1)
+    # a network of 3 GB fits twice into 6.4 GB, so two run at once with two threads each
+    made = shape_of(PartWish(count=7), Costs(0, 1, 3 * 10**9, 10**6, 8 * 10**9), 10_000, 4)
+    assert (made.parts, made.at_once, made.threads) == (7, 2, 2)
+
+
+def test_arrays_name_the_parts_that_are_missing() -> None:
+    assert ranges([1, 2, 3, 7, 9, 10]) == "1-3,7,9-10"
+    assert Part(12, ["A"], "").matrix == Path("parts/0012/matrix.csv")
+
+
+def test_one_part_is_computed_where_the_folder_says_so(place: Place) -> None:
+    words = ["study", "--part", "1", place.path("nine")]
+    assert place.ran(*words)[1].startswith(f"ttm-tools study: {place.path('nine')}")

@@ -17,6 +17,7 @@ HELP = """\
 Tells the journey behind a cell of the matrix: of the first departure whose duration the cell is, leg by leg, with
 stops, route, trip, times, waits, changes and walks, for the feed as it is and for each scenario side by side; and the
 durations of all departures (minutes and seconds; a star at the departure of the journey, - where nobody gets there).
+--picture draws these, minute by minute.
 
 It is found by a second search, in Python, by the definitions of docs/DEFINITIONS.md. This search isn't proved; `ttm`
 runs as well (or a cell of --matrix is taken), and where its travel time is another an error tells both numbers. A time

@@ -54,8 +54,9 @@ def page() -> str:
         lines += [f"### `[{name}]`" if name else "### Before the first table", "", first_of(kind), ""]
         lines += ["| Field | What it says | Values | Without it | As in |", "|---|---|---|---|---|"]
         for it in fields(kind):
-            without = default_of(it).removeprefix("without it, ")
-            cells = [f"`{NAMES.get(it.name, it.name)}`", it.metadata["told"], it.metadata["kind"].allowed, without]
+            what, _, own = it.metadata["told"].partition("; without it, ")
+            without = own or default_of(it).removeprefix("without it, ")
+            cells = [f"`{NAMES.get(it.name, it.name)}`", what, it.metadata["kind"].allowed, without]
             lines.append("| " + " | ".join([*cells, f"`{it.metadata['example']}`"]) + " |")
         lines.append("")
     return "\n".join(lines)

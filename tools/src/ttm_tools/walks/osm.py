@@ -141,7 +141,7 @@ def read_streets(path: str) -> Streets:
     collector = Collector()
     try:
         osmium.make_simple_handler(way=collector.take).apply_file(path, locations=True)
-    except (RuntimeError, ValueError) as fault:
+    except (RuntimeError, ValueError, KeyError, osmium.InvalidLocationError) as fault:
         raise BadInput(path, f"not read as OpenStreetMap: {fault}") from None
     found = collector.streets(path)
     if not len(found.begin):
