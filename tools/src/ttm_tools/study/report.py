@@ -11,6 +11,7 @@ from ..records import records as records_in, shown
 from .document import Document
 
 from .maps import maps_of
+from .page import PAGE
 from .results import ACCESS_TABLE, EQUITY_TABLE, Whole
 from .stages import Record, Stage, sums_of
 from .wishes import Study
@@ -98,6 +99,8 @@ def write_figures(made: Document, whole: Whole, records: dict[str, Record]) -> N
         made.heading("How it is spread over people", 3)
         header, *lines = first_rows(EQUITY_TABLE, 4 * FEW)
         made.table(header, lines)
+    if "page" in records:
+        made.paragraph(f"To look at in a browser: {PAGE}.")
     if "maps" in records:
         made.heading("Maps", 3)
         for it in maps_of(whole):
