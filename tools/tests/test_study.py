@@ -249,7 +249,7 @@ def test_verification_computes_rows_again_and_tells_what_was_changed(place: Plac
     make_study(read_study(place.lay_out(NO_MAPS)), place.folder / "nine", Means(2))
     folder = place.path("nine")
     told = (
-        "sums: 19 files are as study.json says\nrows: those of 1 of 9 origins, drawn by --seed 7, have the same bytes\n"
+        "sums: 21 files are as study.json says\nrows: those of 1 of 9 origins, drawn by --seed 7, have the same bytes\n"
     )
     assert place.ran("study", "--verify", folder, "--seed", "7") == ("", told, 0)
     (place.folder / "nine/access.csv").write_text("spoilt\n")
