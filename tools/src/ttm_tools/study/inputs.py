@@ -27,7 +27,7 @@ from .wishes import FeedWish, Study
 FEED, PLANNED, POINTS = "inputs/feed", "inputs/planned", "inputs/points"
 FOOTPATHS, ORIGINS, OPPORTUNITIES = "inputs/footpaths.csv", "inputs/origins.csv", "inputs/opportunities.csv"
 SCENARIOS = "inputs/scenarios"
-COUNTED, PEOPLE = "inputs/counted.csv", "inputs/people.csv"
+COUNTED, PEOPLE = "inputs/counted/opportunities.csv", "inputs/people.csv"
 BASE = "base"  # what `ttm` calls the feed as it is
 
 
