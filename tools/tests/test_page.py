@@ -153,7 +153,7 @@ def test_names_are_text_and_nothing_is_fetched(town: Town, browser: Browser) -> 
 def test_by_keyboard_on_a_phone_and_on_paper(town: Town, browser: Browser) -> None:
     town.matrix(town_matrix(True))
     browser.size(360, 740)
-    browser.open(page(town, *jobs(town)), "view=times&scenario=base")
+    browser.open(page(town, *jobs(town)), "view=times&scenario=cut")
     browser.type("search", "BETA")  # without its accent
     assert browser.text("found") == 'Béta, "the" square (B)'
     browser.type("search", "\ue007")  # Enter
@@ -161,7 +161,10 @@ def test_by_keyboard_on_a_phone_and_on_paper(town: Town, browser: Browser) -> No
     browser.run("document.getElementById('search').value = ''")
     browser.type("search", "a", "\ue015", "\ue015", "\ue007")  # down twice: Alpha, then those with an a within
     assert browser.text("heading") == "Travel times from Delta (D)"
-    assert browser.run("return document.documentElement.scrollWidth") <= 360
+    assert browser.run("return document.documentElement.scrollWidth") == 360
+    browser.press("input[value=access]")
+    assert browser.lines("losers")[0] == ["Place", "before", "after", "change", "", "residents"]
+    assert browser.run("return document.documentElement.scrollWidth") == 360
     browser.size(1280, 800)
     printed = browser.driver.execute_cdp_cmd("Page.printToPDF", {"preferCSSPageSize": True})["data"]
     assert printed.startswith("JVBERi0")  # %PDF- in base64
@@ -247,6 +250,22 @@ def test_points_alone_as_squares_and_a_new_line(town: Town, browser: Browser) ->
     assert browser.text("heading") == "Access: points within 15 minutes"
 
 
+def test_a_plan_brings_its_scenario_files_and_leaves_the_base_out(town: Town, browser: Browser) -> None:
+    """Route Q gives way to others on A, B and C, and no longer goes to D; what is new stands in trip T."""
+    town.matrix(town_matrix(True, {"base": TOWN["base"], "today": TOWN["cut"], "tram": TOWN["base"]}))
+    (town.folder / "scenarios").mkdir()
+    town.write("scenarios/today.csv", "action,id,seconds", [["remove_trip", "T", ""]])
+    town.write("scenarios/tram.csv", "action,id,seconds", [["remove_trip", "U", ""]])
+    told = town.ran("page", "--feed", town.feed, "--out", town.path("plan.html"), town.file)[1]
+    assert told.splitlines()[0] == f"{town.file}: base, which has the trips of all scenarios at once, is left out"
+    browser.open(Path(town.path("plan.html")))
+    assert browser.run("return head.scenarios") == ["today", "tram"]
+    key = ["where vehicles run", "trips that are taken out", "trips that are changed"]
+    assert browser.text("lines-key").splitlines()[:3] == key
+    counts = "return CHANGED_LINES.map((it) => numbers[`${it}-1`].length / 4)"
+    assert browser.run(counts) == [1, 2, 0]  # from A to D; A to B to C
+
+
 def test_a_background_map_is_fetched_from_where_it_is_asked_for(town: Town, browser: Browser) -> None:
     town.matrix(town_matrix(True))
     tiles = ["--tiles", "http://127.0.0.1:9/{z}/{x}/{y}.png", "--attribution", "© <b>Somebody</b>"]
@@ -301,13 +320,8 @@ def test_bad_input_is_told_in_one_line(town: Town) -> None:
     refused(f"no {lost}/leaflet.min.js, which the page needs: apt-get install libjs-leaflet", "--leaflet", lost)
     late = town.write("late.csv", "action,id,seconds", [])
     refused(f"{late}: no scenario late on the page; it has base, cut", "--edits", late)
-    points = town.write("points.csv", "id,lat,lon,width", [["A", 1, 2, "wide"]])
-    told = f"{points}: record 2: width 'wide' is none; allowed: metres from 0 to 100000"
-    refused(told, "--points", points)
-    points = town.write("points.csv", "id,lat,lon", [["A", 1, 2], ["A", 1, 2]])
-    refused(f"{points}: record 3: A is there twice", "--points", points)
-    points = town.write("points.csv", "id,lat,lon", [["X", 1, 2]])
-    refused(f"{points}: none of its points is in the matrix", "--points", points)
+    points = town.write("cells.csv", "id,lat,lon", [["X", 1, 2]])
+    refused(f"{town.file}: it has no point of {points}", "--points", points)
     origins = town.write("origins.csv", "stop_id", [["B"]])
     refused(f"{origins}: record 2: B is no origin of the matrix", "--origins", origins)
     words = jobs(town)
@@ -315,8 +329,9 @@ def test_bad_input_is_told_in_one_line(town: Town) -> None:
     refused(f"{town.path('people.csv')}: a column jobs is among the opportunities too", *words)
     town.matrix(town_matrix(True).replace("cut,D,", "cut,C,"))
     refused(f"{town.file}: 1 of 2 origins of base aren't in cut: D; 1 of 2 origins of cut aren't in base: C")
+    town.matrix(town_matrix(True))
     town.write("stops.txt", "stop_id", [["A"], ["B"], ["C"], ["D"]])
-    refused(f"{town.feed}/stops.txt: no stop has stop_lat and stop_lon, so there is nothing to show")
+    refused(f"{town.feed}/stops.txt: none of the stops has a place, so there is nothing to show")
 
 
 def test_the_same_words_give_the_same_bytes_and_a_fault_leaves_nothing(town: Town) -> None:

@@ -100,5 +100,5 @@ def test_a_plan_is_carried_out_as_the_page_says(room: Room, program: str) -> Non
     begin = ("export", "unzip", "ttm-tools walks", "printf", "ttm --feed")
     page = [it for it in pages.commands(known["One question, from zip to picture"]) if it.text.startswith(begin)]
     page += pages.commands(known[section])
-    assert len(page) > 14
+    assert len(page) > 20
     assert pages.differences(page, room.folder, environment_of(room)) == []

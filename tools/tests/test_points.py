@@ -74,6 +74,19 @@ def test_the_folder_has_what_a_run_needs(room: Room) -> None:
         assert made[f"feed/{name}"] == (Path(town) / name).read_text()
 
 
+def test_the_scenarios_of_a_plan_stay_beside_its_feed(room: Room) -> None:
+    town, out = feed(room), room.path("doors")
+    Path(town, "scenarios").mkdir()
+    Path(town, "scenarios", "today.csv").write_text("action,id,seconds\nremove_trip,T,\n")
+    Path(town, "new_stops.csv").write_text("stop_id\nB\n")
+    Path(town, "footpaths.csv").write_text("from_stop_id,to_stop_id,seconds\n")
+    assert room.ran("points", town, cells(room), "--out", out, *PACE)[2] == 0
+    made = {str(path.relative_to(town)): path.read_text() for path in Path(town).rglob("*.csv")}
+    del made["footpaths.csv"]
+    assert {name: Path(out, "feed", name).read_text() for name in made} == made
+    assert not Path(out, "feed", "footpaths.csv").exists()
+
+
 def test_points_without_a_stop_in_reach_are_left_out_if_asked_for(room: Room) -> None:
     out = room.path("doors")
     _, told, _ = room.ran("points", feed(room), cells(room), "--out", out, "--leave-out", "--limit", "300", *PACE)

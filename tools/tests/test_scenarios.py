@@ -1,11 +1,14 @@
 """Plans and the feeds that are made of them: each action with numbers by hand, what is told, and what is refused."""
 
 import csv
+import random
+import shutil
 from pathlib import Path
 
 import pytest
 
 from helpers import Cell, Room, Town, read, town_matrix
+from test_damages import damaged
 
 STOPS = [["A", "Alpha", 50.0, 8.0], ["B", "Beta", 50.0, 8.014], ["C", "", 50.0, 8.028], ["D", "Delta", 50.0, 8.042]]
 CALENDAR = "service_id,monday,tuesday,wednesday,thursday,friday,saturday,sunday,start_date,end_date"
@@ -86,7 +89,7 @@ def test_routes_and_trips_are_taken_out_and_shifted(small: Room) -> None:
     }
     assert told[:4] == [
         "new: 1 remove_route Q: trips 1 taken out; trips 5 to 4, stops 4, stop times 18 to 16",
-        "new: 2 remove_trip R2 R3: trips 2 taken out; trips 4 to 2, stops 4, stop times 16 to 8",
+        "new: 2 remove_trip R2, R3: trips 2 taken out; trips 4 to 2, stops 4, stop times 16 to 8",
         "new: 3 shift_route R: trips 2 shifted; trips 2, stops 4, stop times 8",
         "new: 4 shift_trip S1: trips 1 shifted; trips 2, stops 4, stop times 8",
     ]
@@ -334,6 +337,10 @@ FAULTS = [
         'do = "add_line"\nroute = "Q"\nstops = ["A", "B"]',
         "line 5: route 'Q' is a route already",
     ),
+    (
+        'do = "add_line"\nroute = "R@new"\nstops = ["A", "B"]',
+        "line 5: route 'R@new' can't be a new route's name; behind an @ stands a scenario",
+    ),
     ('name = "x"', "line 3: do needed"),
 ]
 
@@ -422,3 +429,80 @@ def test_walks_that_bring_old_stops_nearer_are_told(small: Room) -> None:
     assert small.ran(*words)[1].splitlines()[1] == f"{nearer}590 seconds apart by way of them, and 591 without"
     small.write("walks.csv", "from_stop_id,to_stop_id,seconds", [*table[:2], ["B", "A", 600]])
     assert small.ran(*words)[1].endswith("590 seconds apart by way of them, and out of reach without\n")
+
+
+def test_limits_of_ttm_are_told_before_anything_is_written(small: Room, monkeypatch: pytest.MonkeyPatch) -> None:
+    (small.folder / "plan.toml").write_text(TWO)
+    plan = small.path("plan.toml")
+    words = ["scenarios", small.path("feed"), plan, "--out", small.path("out")]
+    for name, most, told in (
+        ("limits.MOST_TRIPS", 5, ": the feed of all scenarios would have 6 trips, and ttm takes 5: {}"),
+        ("limits.MOST_STOP_TIMES", 19, ": the feed of all scenarios would have 20 stop times, and ttm takes 19: {}"),
+        (
+            "scenario_files.MOST_RECORDS",
+            4,
+            ": line 2: name 'late' takes a scenario file of 5 records, and ttm 4: fewer trips, or whole routes",
+        ),
+        ("base.MOST_STOPS", 4, ": line 17: id makes 5 stops and stations, and ttm takes 4"),
+    ):
+        (small.folder / "plan.toml").write_text(TWO + NEW_STOP * name.endswith("STOPS"))
+        with monkeypatch.context() as patch:
+            patch.setattr(f"ttm_tools.plans.{name}", most)
+            small.refused(plan + told.format("fewer scenarios, or actions on fewer trips"), *words)
+
+
+def test_what_a_day_of_all_scenarios_has_is_told(small: Room, monkeypatch: pytest.MonkeyPatch) -> None:
+    """On Monday run all five trips and another one of Q, with 20 calls, on Tuesday and Wednesday all but R3."""
+    (small.folder / "plan.toml").write_text(TWO)
+    what = "all scenarios together: on a day at most 6 runs with 20 stop times (2026-05-04)"
+    more = "with a day before and one after {}: --back 0 --ahead 0, since ttm takes 1,000,000 and 20"
+    for most, told in (
+        (60, what),
+        (20, f"{what}; {more.format('16 runs with 52')}"),
+        (19, f"{what}, and ttm takes 1,000,000 and 19: fewer scenarios, or actions on fewer trips"),
+    ):
+        with monkeypatch.context() as patch:
+            patch.setattr("ttm_tools.plans.limits.MOST_STOP_TIMES", most)
+            patch.setattr("ttm_tools.plans.make.refuse_limits", lambda *_: None)
+            out = small.path(f"out{most}")
+            lines = small.ran("scenarios", small.path("feed"), small.path("plan.toml"), "--out", out)[1].splitlines()
+        assert lines[-1] == told
+
+
+@pytest.mark.parametrize("seed", range(4))
+def test_whatever_is_damaged_is_told_in_a_line(small: Room, seed: int) -> None:
+    draw, statuses = random.Random(seed), set()
+    line = 'do = "add_line"\nroute = "T"\nstops = ["A", "N"]\nspeed = 30\nservice = "M"\n'
+    line += 'departures = [{ first = "8:00", last = 9:00:00, every = 600 }]'
+    headway = 'do = "headway"\nroute = "R"\nevery = 600\nfrom = "08:00"\nto = "09:00"'
+    small.write(
+        "feed/frequencies.txt", "trip_id,start_time,end_time,headway_secs", [["R1", "7:00:00", "8:00:00", 1800]]
+    )
+    plan_of(small, line, headway, 'do = "speed"\nroute = ["Q", "R"]\nfactor = 0.9', before=NEW_STOP)
+    names = ["plan.toml"] * 5 + [f"feed/{path.name}" for path in (small.folder / "feed").iterdir()]
+    for _ in range(15):
+        name = draw.choice(names)
+        whole = (small.folder / name).read_bytes()
+        (small.folder / name).write_bytes(damaged(draw, whole))
+        before = small.names()
+        _, told, status = small.ran(
+            "scenarios", small.path("feed"), small.path("plan.toml"), "--out", small.path("out")
+        )
+        assert status in (0, 1), told
+        assert status == 0 or len(told.splitlines()) == 1 and small.names() == before, told
+        statuses.add(status)
+        shutil.rmtree(small.folder / "out", ignore_errors=True)
+        (small.folder / name).write_bytes(whole)
+    assert 1 in statuses
+
+
+def test_the_journey_behind_a_cell_of_a_scenario_beside_today(small: Room, program: str) -> None:
+    """From A to D at 8:00 half an hour by Q, or 20 minutes by R1; a fast Q takes 15."""
+    (small.folder / "plan.toml").write_text(TWO)
+    small.ran("scenarios", small.path("feed"), small.path("plan.toml"), "--out", small.path("out"))
+    files = [small.path(f"out/scenarios/{name}.csv") for name in ("today", "fast")]
+    words = ["--origin", "A", "--destination", "D", "--date", "20260504", "--from", "08:00", "--to", "08:00"]
+    out, told, status = small.ran("explain", small.path("out"), *files, *words, "--program", program)
+    assert (told, status) == ("", 0)
+    (heads,) = [line for line in out.splitlines() if line.startswith("today: ")]
+    assert heads.split() == ["today:", "1200", "seconds", "fast:", "900", "seconds"]

@@ -316,7 +316,8 @@ def test_the_file_that_new_prints_can_be_read_with_every_field(bare: Place) -> N
 
 def test_words_that_do_not_go_together_are_wrong_words(bare: Place) -> None:
     path = bare.lay_out()
-    for words in ([], ["--new", path], [path, "--slurm", "--hosts", ":"], [path, "--option", "time=1"]):
+    wrong: list[list[str]] = [[], ["--new", path], [path, "--slurm", "--hosts", ":"], [path, "--option", "time=1"]]
+    for words in wrong:
         assert bare.ran("study", *words)[2] == 2
 
 

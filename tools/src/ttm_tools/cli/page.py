@@ -2,7 +2,7 @@
 
 import argparse
 
-from .options import add_base, add_matrix, add_number, add_numbers, add_share, add_text
+from .options import add_base, add_matrix, add_number, add_numbers, add_points, add_share, add_text, scenarios_of
 
 TOLD = "one file of HTML to send: travel times and access, to look at in a browser"
 HELP = """\
@@ -14,8 +14,9 @@ works by keyboard, on a phone, and on paper.
 
 Travel times are in whole minutes, rounded up. All travel times are in the page where the matrix has up to 60 million
 of them; else those from the stops that --origins names, or from as many drawn ones as there is room for, and access
-from all. With --points the points alone are shown, as squares where their file says how wide they are. With --edits a
-scenario's file draws what it takes out of the base, and adds to it where the base has a file, too.
+from all. Where the feed has points they alone are shown, as squares where their file says how wide they are. With
+--edits a scenario's file draws what it takes out of the base, and adds to it where the base has a file, too; of a feed
+that ttm-tools scenarios wrote its own files are taken.
 
 Needs jinja2, pandas, and Leaflet from Debian's libjs-leaflet, which is written into the page with its licence. The same
 words and files give the same bytes. Memory: some 200 MB, a byte for each cell of the page, and 110 bytes for each stop
@@ -26,9 +27,8 @@ WORDS = {"scenarios": "scenario"}  # of a wish, where they differ from the optio
 
 def describe(parser: argparse.ArgumentParser) -> None:
     parser.add_argument("--feed", metavar="FOLDER", required=True, help="the unpacked feed of the matrix (needed)")
+    add_points(parser)
     many = "may be given more than once (without it, {})"
-    told = "a file of points, with columns id, lat, lon, and perhaps name, and width in metres; "
-    parser.add_argument("--points", metavar="FILE", action="append", default=[], help=told + many.format("stops"))
     told = "a scenario file, named as its scenario, whose lines are drawn; "
     parser.add_argument("--edits", metavar="FILE", action="append", default=[], help=told + many.format("none"))
     told = "a file with what each stop has, as for access; its columns are counted; "
@@ -74,7 +74,9 @@ def run(words: argparse.Namespace) -> int:
 
     leaflet_files(words.leaflet)
     wish = Wish(**{name: getattr(words, WORDS.get(name, name)) for name in Wish.__dataclass_fields__})
-    page = page_of(open_matrix(words.matrix), wish)
+    matrix = open_matrix(words.matrix)
+    scenarios_of(matrix, words.scenario)  # tells which of them is left out
+    page = page_of(matrix, wish)
     with output(words.out) as file:
         page.write(file)
     tell(words.out, page)

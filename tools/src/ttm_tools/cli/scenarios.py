@@ -1,6 +1,7 @@
 """ttm-tools scenarios."""
 
 import argparse
+import os
 import sys
 
 from .options import add_text
@@ -59,5 +60,5 @@ def run(words: argparse.Namespace) -> int:
     made = make(words.feed, words.plan, words.out, words.only)
     print("\n".join(made.lines), file=sys.stderr)
     if made.words is not None:
-        print(made.words)
+        sys.stdout.buffer.write(os.fsencode(made.words) + b"\n")
     return 0

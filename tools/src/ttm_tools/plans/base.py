@@ -123,6 +123,11 @@ class Base:
         return days_of(self.feed)
 
     @cached_property
+    def service_numbers(self) -> dict[str, int]:
+        """Where each service of the feed stands among the days."""
+        return {name: place for place, name in enumerate(self.days.services)}
+
+    @cached_property
     def endless(self) -> set[str]:
         """Services with a row of the calendar that is too long for their days to be listed."""
         table = self.feed.get("calendar.txt")

@@ -27,9 +27,9 @@ class Done:
         return str(self.entry.values["do"])
 
     @property
-    def about(self) -> str:
-        found = next((self.entry.values[key] for key in ABOUT if key in self.entry.values), "")
-        return found if isinstance(found, str) else " ".join(map(str, found))
+    def about(self) -> list[str]:
+        """The routes, trips or stops that it names."""
+        return next((self.entry.texts(key) for key in ABOUT if self.entry.has(key)), [])
 
     def count(self, what: str) -> int:
         return sum(change.what == what for change in self.changes)

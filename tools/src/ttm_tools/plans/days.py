@@ -30,7 +30,7 @@ def service_of(base: Base, entry: Entry, services: set[str]) -> str:
 def runs_of(base: Base, name: str) -> Mask:
     """On which of the days that the calendars know a service runs."""
     if name not in base.new_services:
-        return np.asarray(base.days.runs[base.days.services.index(name)], dtype=np.bool_)
+        return np.asarray(base.days.runs[base.service_numbers[name]], dtype=np.bool_)
     made = np.zeros(base.days.runs.shape[1], dtype=np.bool_)
     made[[day.toordinal() - base.days.first for day in base.new_services[name]]] = True
     return made
@@ -38,7 +38,7 @@ def runs_of(base: Base, name: str) -> Mask:
 
 def new_service(base: Base, name: str, runs: Mask) -> str:
     """A service of the plan for some of the days that the calendars know, named so that none of the feed has it."""
-    while name in base.days.services:
+    while name in base.service_numbers:
         name += "'"
     base.new_services[name] = [base.days.day(int(place)) for place in np.flatnonzero(runs)]
     return name
@@ -48,7 +48,7 @@ def service_named(base: Base, entry: Entry) -> str:
     """The service of a new line: one of the feed by its name, or one of days of the week."""
     if entry.one_of("service", "days") == "service":
         service = entry.text("service")
-        entry.known("service", service, base.days.services, "is no service of the feed")
+        entry.known("service", service, base.service_numbers, "is no service of the feed")
         return service
     days = weekdays_of(entry)
     weekday = (base.days.first + np.arange(base.days.runs.shape[1]) - 1) % 7

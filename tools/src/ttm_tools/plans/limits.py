@@ -79,7 +79,7 @@ def told_days(base: Base, states: Sequence[State]) -> Iterator[str]:
     if one.too_many():
         yield f"{what}, and {taken}: {FEWER}"
     elif three.too_many():
-        more = f"with a day before and one after {three.runs:,} with {three.events:,}"
+        more = f"with a day before and one after {three.runs:,} runs with {three.events:,}"
         yield f"{what}; {more}: --back 0 --ahead 0, since {taken}"
     else:
         yield what

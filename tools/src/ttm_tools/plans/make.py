@@ -5,8 +5,7 @@ from dataclasses import dataclass
 from pathlib import Path
 
 from ..faults import BadInput
-from ..files import many_written_aside
-from ..prepare.make import is_free
+from ..files import is_free, many_written_aside
 from .base import read_base
 from .carrying_out import Finished, carried_out
 from .limits import refuse_limits, told_days

@@ -22,8 +22,8 @@ def told_nearer(folder: str, footpaths: str) -> Iterator[str]:
     stops = read_stops(folder)
     new = {stops.places[name] for name in names if name in stops.places}
     walks: Leaving = {}
-    for _, (origin, target, seconds) in rows(footpaths, ["from_stop_id", "to_stop_id", "seconds"]):
-        walks.setdefault(stops.places[origin], []).append((stops.places[target], int(seconds)))
+    for _, (origin, target, text) in rows(footpaths, ["from_stop_id", "to_stop_id", "seconds"]):
+        walks.setdefault(stops.places[origin], []).append((stops.places[target], int(text)))
     found = nearer(walks, new)
     if found:
         a, b, seconds, before = found[0]

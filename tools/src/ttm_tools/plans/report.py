@@ -3,6 +3,7 @@
 from pathlib import Path
 from typing import Iterator, Sequence
 
+from ..faults import some
 from ..records import write_rows
 from .carrying_out import Done, Finished
 from .writing import Written, used_stops
@@ -20,7 +21,7 @@ def action_rows(finished: Sequence[Finished]) -> Iterator[list[object]]:
     """A line for each action."""
     for it in (done for scenario in finished for done in scenario.done):
         counts = [getattr(part, name) for name in COUNTS for part in (it.before, it.after)]
-        yield [it.scenario, it.number, it.entry.line, it.what, it.about, *counts, *map(it.count, KINDS)]
+        yield [it.scenario, it.number, it.entry.line, it.what, " ".join(it.about), *counts, *map(it.count, KINDS)]
 
 
 def change_rows(written: Written) -> Iterator[list[object]]:
@@ -67,7 +68,7 @@ def told(done: Done) -> str:
         for name, told in names.items()
         for before, after in [(getattr(done.before, name), getattr(done.after, name))]
     ]
-    begin = f"{done.scenario}: {done.number} {done.what} {done.about}".rstrip()
+    begin = f"{done.scenario}: {done.number} {done.what} {some(done.about)}"
     return f"{begin}: trips {', '.join(kinds)}; {', '.join(counts)}"
 
 

@@ -24,6 +24,7 @@ from .table import Points, plain
 
 MOST_STOPS, MOST_PAIRS = 65_535, 4_000_000  # that `ttm` takes
 FEED, POINTS, WORDS = "feed", "points.csv", "words.txt"
+SCENARIOS, NEW_STOPS = "scenarios", "new_stops.csv"  # of a plan, beside its feed
 HELPS = "--leave-out leaves out points without a stop in reach; or take parts of the region"
 PLACE = ("stop_name", "stop_lat", "stop_lon")
 Walker = Callable[[Stops], Walks]
@@ -180,11 +181,14 @@ def told_reach(study: Study, near: Flags, left_out: bool) -> Iterator[str]:
 
 
 def write_feed(folder: Path, feed: str, points: Points) -> None:
-    """Writes the feed with the points, and what is told of them."""
-    folder.mkdir()
-    for file in sorted(Path(feed).glob("*.txt")):
-        if file.name != "stops.txt" and file.is_file():
-            shutil.copyfile(file, folder / file.name)
+    """Writes the feed with the points, and what is told of them; where it is that of a plan, with its scenarios."""
+    (folder / SCENARIOS).mkdir(parents=True)
+    of_plan = [NEW_STOPS, f"{SCENARIOS}/*.csv"]
+    for file in sorted(path for form in ("*.txt", *of_plan) for path in Path(feed).glob(form) if path.is_file()):
+        if file != Path(feed) / "stops.txt":
+            shutil.copyfile(file, folder / file.relative_to(feed))
+    if not any((folder / SCENARIOS).iterdir()):
+        (folder / SCENARIOS).rmdir()
     with open(folder / "stops.txt", "wb") as out:
         write_rows(out, *stops_with(Path(feed) / "stops.txt", points))
     with open(folder / POINTS, "wb") as out:

@@ -91,4 +91,4 @@ def bytes_of(matrix: Matrix, key: tuple[str, Any], place: int, like: Matrix | No
     cells = matrix.rows(*key, place, place + 1)[0]
     if like is not None and like.stops != matrix.stops:
         cells = cells[[matrix.places[stop] for stop in like.stops]]
-    return cells.astype("<f4").tobytes()
+    return bytes(cells.astype("<f4").tobytes())

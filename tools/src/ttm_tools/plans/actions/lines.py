@@ -20,6 +20,8 @@ def add_line(state: State, entry: Entry) -> list[str]:
     route = entry.text("route")
     if route in state.base.by_route or route in state.lines:
         raise entry.fault("is a route already", "route", route)
+    if "@" in route:
+        raise entry.fault("can't be a new route's name; behind an @ stands a scenario", "route", route)
     if len(entry.texts("stops")) < 2:
         raise entry.fault("is a single stop; a line has two at least", "stops")
     way = np.array(stops_named(state, entry, "stops"), dtype=np.int64)

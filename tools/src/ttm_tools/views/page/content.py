@@ -15,7 +15,7 @@ from ...measures.comparison import CUT_OFF, NEW, compare
 from ...measures.opportunities import Counts, read_counts
 from ...records import shown
 from .parts import Bytes, minutes_of
-from .places import Places, places_of, read_points
+from .places import Places, places_of
 
 MOST_CELLS = 60_000_000  # that a page takes
 CUT, JOINED = 1, 2  # origins that lose half of the stops that they reached, or more; that gain so many
@@ -29,7 +29,7 @@ class Asked:
     scenarios: list[str]  # the base first
     shares: list[Share]
     cutoffs: Sequence[float]  # of access, minutes
-    points: list[str] = field(default_factory=list)  # files of points, which alone are shown then
+    what: str = "stops"  # or points
     opportunities: list[str] = field(default_factory=list)  # files of what is counted
     people: list[str] = field(default_factory=list)  # and of who lives at the origins
     origins: list[str] | None = None  # whose travel times are taken; None for all that there is room for
@@ -94,16 +94,14 @@ def origins_of(matrix: Matrix, asked: Asked) -> list[str]:
 
 
 def ground_of(matrix: Matrix, stops: Stops, asked: Asked) -> Ground:
-    """The places in their order, all stops of the matrix, or the points alone; and the rows that there is room for."""
+    """The places in their order, and the rows that there is room for."""
     origins = origins_of(matrix, asked)
-    known = list(dict.fromkeys([*matrix.stops, *origins]))
-    places = (read_points(asked.points, known) if asked.points else places_of(stops, known)).in_order()
+    places = places_of(stops, list(dict.fromkeys([*matrix.stops, *origins]))).in_order()
     columns, starts = (
         [name for name in places.identifiers if name in among] for among in (matrix.places, set(origins))
     )
     if np.isnan(places.latitudes).all():
-        where = ", ".join(asked.points) or stops.path
-        raise BadInput(where, "no place has a latitude and a longitude, so there is nothing to show")
+        raise BadInput(stops.path, f"none of the {asked.what} has a place, so there is nothing to show")
     wanted = set(starts if asked.origins is None else asked.origins)
     rows = [name for name in starts if name in wanted]
     room = asked.most_cells // max(1, len(columns) * len(asked.scenarios) * len(asked.shares))
@@ -113,9 +111,8 @@ def ground_of(matrix: Matrix, stops: Stops, asked: Asked) -> Ground:
     return Ground(places, columns, starts, rows)
 
 
-def counts_of(matrix: Matrix, ground: Ground, asked: Asked) -> tuple[Counts, int]:
-    """What is counted, by place, and how many of the columns are people."""
-    known = list(dict.fromkeys([*matrix.stops, *ground.origins]))
+def counts_of(known: Sequence[str], ground: Ground, asked: Asked) -> tuple[Counts, int]:
+    """What is counted, by place, and how many of the columns are people; files name what the matrix has."""
     numbers = {name: number for number, name in enumerate(known)}
     chosen = np.array([numbers[name] for name in ground.places.identifiers], dtype=np.intp)
     found = [read_counts(paths, known, "stop of the matrix") for paths in (asked.opportunities, asked.people)]
@@ -129,14 +126,14 @@ def counts_of(matrix: Matrix, ground: Ground, asked: Asked) -> tuple[Counts, int
 def measures_of(matrix: Matrix, counts: Counts, asked: Asked, unit: str) -> list[Measure]:
     """What access is told: that of the matrix, then stops (or points) and what is counted, within each cutoff."""
     own = [Measure(f"{unit} (as ttm counted them)", unit, limit) for limit in matrix.layout.limits]
-    names = ["points" if asked.points else "stops", *counts.names]
+    names = [asked.what, *counts.names]
     return own + [Measure(name, name, round(60 * cutoff)) for name in names for cutoff in asked.cutoffs]
 
 
-def content_of(matrix: Matrix, stops: Stops, asked: Asked, unit: str) -> Content:
-    """Everything that is read of a matrix for a page."""
+def content_of(matrix: Matrix, stops: Stops, known: Sequence[str], asked: Asked, unit: str) -> Content:
+    """Everything that is read of a matrix for a page; `known` are all its stops, points or not."""
     ground = ground_of(matrix, stops, asked)
-    counts, people = counts_of(matrix, ground, asked)
+    counts, people = counts_of(known, ground, asked)
     numbers = np.concatenate([np.ones((len(ground.columns), 1)), counts.numbers[ground.at(ground.columns)]], axis=1)
     read = Reading(matrix, ground, numbers, asked.cutoffs)
     base = asked.scenarios[0]

@@ -19,7 +19,7 @@ from .parts import Part, blocks_of, part, rows_in_block
 
 ASSETS = Path(__file__).resolve().parent / "assets"
 LEAFLET = "/usr/share/javascript/leaflet"
-SCRIPTS = ("data.js", "classes.js", "layer.js", "figures.js", "panel.js", "main.js")
+SCRIPTS = ("data.js", "classes.js", "layer.js", "figures.js", "panel.js", "search.js", "main.js")
 STYLES = ("page.css",)
 
 
@@ -61,9 +61,9 @@ def parts_of(content: Content, lines: Lines) -> Iterator[Part]:
         yield part(name, ground.at(names))
     yield part("counts", content.counts.numbers.T)
     yield part("running", lines.running)
-    for scenario, (taken, added) in enumerate(zip(lines.taken, lines.added)):
-        yield part(f"taken-{scenario}", taken)
-        yield part(f"added-{scenario}", added)
+    for scenario, change in enumerate(lines.changes):
+        for name in ("taken", "changed", "added"):
+            yield part(f"{name}-{scenario}", getattr(change, name))
     for scenario, by_share in enumerate(content.times):
         for share, times in enumerate(by_share):
             key = f"{scenario}-{share}"

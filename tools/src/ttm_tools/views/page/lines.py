@@ -1,4 +1,4 @@
-"""The lines on which vehicles run, and those that scenarios take out or add, as pieces in degrees."""
+"""The lines on which vehicles run, and those that scenarios take out, change or add, as pieces in degrees."""
 
 import os
 from dataclasses import dataclass
@@ -8,11 +8,22 @@ import numpy as np
 import numpy.typing as npt
 
 from ...faults import BadInput
-from ...feed import GRID, Projection, Stops, has_file, lines_of, pieces, read_trips, removed_trips
+from ...feed import GRID, Points, Projection, Stops, Trips, has_file, lines_of, pieces, read_trips, removed_trips
+from ...matrices import TODAY
 from ...records import shown
 from .places import MICRO
 
 Pieces = npt.NDArray[np.int32]  # latitude, longitude of both ends, in millionths of a degree
+OF_PLANS = "scenarios"  # the folder beside a feed where ttm-tools scenarios writes scenario files
+
+
+@dataclass(frozen=True)
+class Change:
+    """Pieces that differ in a scenario from the base; where trips go and others come, they are changed."""
+
+    taken: Pieces
+    changed: Pieces
+    added: Pieces
 
 
 @dataclass(frozen=True)
@@ -20,39 +31,74 @@ class Lines:
     """Pieces of lines; those of each scenario as they differ from the base."""
 
     running: Pieces
-    taken: list[Pieces]
-    added: list[Pieces]
+    changes: list[Change]
     source: str
 
 
-def page_lines(folder: str, stops: Stops, scenarios: Sequence[str], edits: Sequence[str]) -> Lines:
-    """The lines of a feed, and by the scenario files (named as their scenarios, the first of which is the base) what
-    each scenario takes out of the base and what it adds to it.
+@dataclass(frozen=True)
+class Drawn:
+    """What lines are drawn of."""
+
+    points: Points
+    trips: Trips
+    shaped: bool  # whether the lines are those of shapes
+    projection: Projection
+
+    def pieces(self, trips: set[str]) -> npt.NDArray[np.int32]:
+        """Where some trips run, on the grid."""
+        return pieces(self.points.of_lines(self.trips.lines(trips, self.shaped)))
+
+    def change(self, gone: set[str], new: set[str]) -> Change:
+        """What is another where some trips go and others come."""
+        before, after = self.pieces(gone), self.pieces(new)
+        both = among(after, before)
+        found = (before[~among(before, after)], after[both], after[~both])
+        return Change(*(in_degrees(it, self.projection) for it in found))
+
+
+def scenario_files(folder: str, scenarios: Sequence[str], edits: Sequence[str]) -> dict[str, str]:
+    """The scenario files by the scenarios, which the page has: those that are named, and of a plan's scenarios those
+    that lie in the feed's folder.
+    """
+    files = {}
+    if scenarios[0] == TODAY:
+        beside = {name: os.path.join(folder, OF_PLANS, f"{name}.csv") for name in scenarios}
+        files = {name: path for name, path in beside.items() if os.path.isfile(path)}
+    for path in edits:
+        name = os.path.basename(path).removesuffix(".csv")
+        if name not in scenarios:
+            raise BadInput(path, f"no scenario {shown(name)} on the page; it has {', '.join(map(shown, scenarios))}")
+        files[name] = path
+    return files
+
+
+def page_lines(folder: str, stops: Stops, scenarios: Sequence[str], files: dict[str, str]) -> Lines:
+    """The lines of a feed, but for those that none of the scenarios has, and by their files what each scenario takes
+    out of the base, which is the first of them, and what it adds to it.
     """
     projection = Projection(stops.latitudes, stops.longitudes)
     points, shaped = lines_of(folder, stops, projection), has_file(folder, "shapes.txt")
     source = "Lines are those of shapes.txt." if shaped else "Lines are drawn straight from stop to stop."
-    running = in_degrees(pieces(points), projection)
-    none = running[:0]
-    if not edits:
-        return Lines(running, [none for _ in scenarios], [none for _ in scenarios], source)
+    if not files:
+        running = in_degrees(pieces(points), projection)
+        return Lines(running, [Change(*[running[:0]] * 3) for _ in scenarios], source)
     trips = read_trips(folder, shaped)
-    removed = {scenario_of(path, scenarios): removed_trips(trips, path) for path in edits}
+    removed = {name: removed_trips(trips, path) for name, path in files.items()}
     base = removed.get(scenarios[0], set())
+    each = [removed.get(name, base) for name in scenarios]
+    drawn = Drawn(points, trips, shaped, projection)
+    hidden = set.intersection(*each)
+    running = drawn.pieces(set(trips.trips) - hidden) if hidden else pieces(points)
+    changes = [drawn.change(it - base, base - it) for it in each]
+    return Lines(in_degrees(running, projection), changes, source)
 
-    def chosen(which: set[str]) -> Pieces:
-        return in_degrees(pieces(points.of_lines(trips.lines(which, shaped))), projection)
 
-    after = [removed.get(name, base) for name in scenarios]
-    return Lines(running, [chosen(it - base) for it in after], [chosen(base - it) for it in after], source)
-
-
-def scenario_of(path: str, scenarios: Sequence[str]) -> str:
-    """The scenario of a scenario file, which the page has."""
-    name = os.path.basename(path).removesuffix(".csv")
-    if name not in scenarios:
-        raise BadInput(path, f"no scenario {shown(name)} on the page; it has {', '.join(map(shown, scenarios))}")
-    return name
+def among(some: npt.NDArray[np.int32], others: npt.NDArray[np.int32]) -> npt.NDArray[np.bool_]:
+    """Which of some rows are among others."""
+    whole = np.dtype((np.void, 4 * some.dtype.itemsize))
+    first, second = (np.ascontiguousarray(it).view(whole).ravel() for it in (some, others))
+    made: npt.NDArray[np.bool_] = np.isin(first, second)
+    return made
 
 
 def in_degrees(found: npt.NDArray[np.int32], projection: Projection) -> Pieces:

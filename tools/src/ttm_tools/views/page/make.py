@@ -7,13 +7,14 @@ from dataclasses import dataclass, replace
 from typing import BinaryIO
 
 from ...faults import BadInput
-from ...feed import read_list, read_stops
+from ...feed import read_list
 from ...matrices import Matrix, Share
+from ...points.shown import points_in, shown_of
 from ...records import shown
 from . import sources
 from .content import MOST_CELLS, Asked, Content, content_of, origins_of
 from .document import LEAFLET, Frame, write_page
-from .lines import Lines, page_lines
+from .lines import Lines, page_lines, scenario_files
 
 MINUTES, MOST_MINUTES = 30, 120  # of the slider: where it stands first, and where it ends
 
@@ -23,7 +24,7 @@ class Wish:
     """What is asked for, as words and names of files."""
 
     feed: str
-    points: list[str]
+    points: str | None
     edits: list[str]
     opportunities: list[str]
     people: list[str]
@@ -54,14 +55,14 @@ class Page:
         write_page(out, self.content, self.lines, self.frame)
 
 
-def asked_of(matrix: Matrix, wish: Wish) -> Asked:
-    """What of the matrix is shown; that it has it is looked at."""
+def asked_of(matrix: Matrix, what: str, wish: Wish) -> Asked:
+    """What of the matrix is shown, stops or points; that it has it is looked at."""
     base = matrix.scenario(wish.base or matrix.base)
     others = [matrix.scenario(name) for name in wish.scenarios or matrix.compared]
     scenarios = list(dict.fromkeys([base, *others]))
     shares: list[Share] = matrix.shares if wish.share is None else [matrix.share(wish.share)]
-    files = (wish.points, wish.opportunities, wish.people)
-    asked = Asked(scenarios, shares, wish.cutoffs, *files, None, wish.seed, MOST_CELLS)
+    files = (wish.opportunities, wish.people)
+    asked = Asked(scenarios, shares, wish.cutoffs, what, *files, None, wish.seed, MOST_CELLS)
     if wish.origins is None:
         return asked
     named = read_list(wish.origins, origins_of(matrix, asked), "origin")
@@ -73,12 +74,13 @@ def asked_of(matrix: Matrix, wish: Wish) -> Asked:
 
 def page_of(matrix: Matrix, wish: Wish) -> Page:
     """The page that is asked for."""
-    asked, stops = asked_of(matrix, wish), read_stops(wish.feed)
-    if not stops.placed.any():
-        raise BadInput(stops.path, "no stop has stop_lat and stop_lon, so there is nothing to show")
-    content = content_of(matrix, stops, asked, wish.unit)
-    lines = page_lines(wish.feed, stops, asked.scenarios, wish.edits)
-    return Page(content, lines, frame_of(matrix, content, asked, wish))
+    chosen, stops = shown_of(matrix, wish.feed, wish.points)
+    assert stops is not None  # there is a feed
+    asked = asked_of(chosen, "stops" if chosen is matrix else "points", wish)
+    content = content_of(chosen, stops, matrix.stops_and_origins(), asked, wish.unit)
+    files = scenario_files(wish.feed, asked.scenarios, wish.edits)
+    lines = page_lines(wish.feed, stops, asked.scenarios, files)
+    return Page(content, lines, frame_of(matrix, content, asked, replace(wish, edits=list(files.values()))))
 
 
 def frame_of(matrix: Matrix, content: Content, asked: Asked, wish: Wish) -> Frame:
@@ -87,7 +89,7 @@ def frame_of(matrix: Matrix, content: Content, asked: Asked, wish: Wish) -> Fram
     name = shown(os.path.basename(os.path.abspath(wish.feed)))
     files = {
         "Matrix": [matrix.path],
-        "Points": wish.points,
+        "Points": [path for path in [wish.points or points_in(wish.feed)] if path is not None],
         "Opportunities": wish.opportunities,
         "People": wish.people,
         "Scenario": wish.edits,

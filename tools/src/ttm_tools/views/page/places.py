@@ -6,9 +6,7 @@ from typing import Sequence
 import numpy as np
 import numpy.typing as npt
 
-from ...faults import BadInput
-from ...feed import Floats, Stops, place_of
-from ...records import number_of, rows, shown
+from ...feed import Floats, Stops
 
 MICRO = 1_000_000  # of a degree
 NOWHERE = np.iinfo(np.int32).max
@@ -42,37 +40,10 @@ class Places:
 
 
 def places_of(stops: Stops, identifiers: Sequence[str]) -> Places:
-    """The places of some stops, which the feed has."""
+    """The places of some stops or points, which the feed has."""
     found = stops.of(identifiers)
-    return Places(found.identifiers, found.names, found.latitudes, found.longitudes, np.zeros(len(identifiers)))
-
-
-def read_points(paths: Sequence[str], known: Sequence[str]) -> Places:
-    """The points of some files (columns id, lat, lon, and where they are there name and width) that the matrix has."""
-    among, seen = set(known), set[str]()
-    names, numbers = list[str](), list[tuple[float, float, float]]()
-    identifiers = list[str]()
-    for path in paths:
-        for number, (point, latitude, longitude, name, width) in rows(path, ["id", "lat", "lon"], ["name", "width"]):
-            if point in seen:
-                raise BadInput(path, f"{shown(point)} is there twice", record=number)
-            seen.add(point)
-            if point in among:
-                identifiers.append(point)
-                names.append(shown(name.strip() or point))
-                numbers.append((*place_of(latitude, longitude), width_of(width, path, number)))
-    if not identifiers:
-        raise BadInput(", ".join(paths), "none of its points is in the matrix")
-    latitudes, longitudes, widths = np.array(numbers, dtype=np.float64).T
-    return Places(identifiers, names, latitudes, longitudes, widths)
-
-
-def width_of(text: str, path: str, record: int) -> float:
-    width = number_of(text.strip() or "0")
-    if not 0 <= width <= 100_000:
-        allowed = "metres from 0 to 100000"
-        raise BadInput(path, "is none", record=record, column="width", value=text, allowed=allowed)
-    return width
+    widths = np.zeros(len(identifiers)) if found.widths is None else np.nan_to_num(found.widths)
+    return Places(found.identifiers, found.names, found.latitudes, found.longitudes, widths)
 
 
 def ranks(latitudes: Floats, longitudes: Floats) -> Floats:

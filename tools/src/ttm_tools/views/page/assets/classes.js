@@ -1,6 +1,6 @@
 "use strict";
-// Classes: what the key says of them, their colours and marks. The colours are those of scales that readers of all kinds
-// of colour vision tell apart; 'not reached', 'cut off' and 'new' have marks of their own.
+// Classes: what the key says of them, their colours and marks. The colours are those of scales that readers of all
+// kinds of colour vision tell apart; 'not reached', 'cut off' and 'new' have marks of their own.
 
 const MINUTES = [10, 20, 30, 45, 60, 90]; // where classes of travel times end
 const CHANGES = [2, 5, 15]; // minutes, where classes of differences begin: a minute may come of rounding up
@@ -131,8 +131,8 @@ function accessChangeClasses() {
   const marks = [...differenceMarks(PERCENT, words), NO_ORIGIN];
   const middle = PERCENT.length + 1;
   const classOf = (before, after, mark) => {
-    const percent = percentOf(before, after);
-    return mark === 1 ? 0 : mark === 2 ? marks.length - 2 : middle + Math.sign(percent) * grade(PERCENT, Math.abs(percent));
+    const percent = percentOf(before, after), grades = Math.sign(percent) * grade(PERCENT, Math.abs(percent));
+    return mark === 1 ? 0 : mark === 2 ? marks.length - 2 : middle + grades;
   };
   return { marks, classOf };
 }

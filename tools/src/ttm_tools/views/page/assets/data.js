@@ -4,6 +4,7 @@
 const LATER = 254; // a cell of more than 253 minutes
 const NEVER = 255; // a cell that isn't reached
 const NOWHERE = 2147483647; // a latitude of a place without one
+const CHANGED_LINES = ["taken", "changed", "added"]; // kinds of lines that differ in a scenario from the base
 const BLOCKS_KEPT = 96; // blocks of cells that are kept inflated
 
 const head = JSON.parse(document.getElementById("head").textContent);
@@ -29,7 +30,9 @@ async function readNumbers() {
     kinds[name] = Int32Array;
   }
   for (let scenario = 0; scenario < head.scenarios.length; scenario++) {
-    kinds[`taken-${scenario}`] = kinds[`added-${scenario}`] = Int32Array;
+    for (const name of CHANGED_LINES) {
+      kinds[`${name}-${scenario}`] = Int32Array;
+    }
     for (let share = 0; share < head.shares.length; share++) {
       kinds[`access-${scenario}-${share}`] = Float64Array;
       kinds[`marks-${scenario}-${share}`] = Uint8Array;
@@ -86,6 +89,11 @@ async function minutesFrom(place, scenario, share) {
 function accessOf(scenario, share, measure) {
   const begin = measure * head.origins;
   return numbers[`access-${scenario}-${share}`].subarray(begin, begin + head.origins);
+}
+
+/** For each origin 1 where it is cut off from half of what it reached, 2 where it is joined to so much, else 0. */
+function marksOf(scenario, share) {
+  return numbers[`marks-${scenario}-${share}`];
 }
 
 /** A column of counts, a number for each place. */

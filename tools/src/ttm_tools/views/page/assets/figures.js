@@ -44,7 +44,8 @@ function weightsOf(values, weights, ends) {
 function histogramOf(values, weights, colourOf, words) {
   const ends = binsOf(values), { sums, greatest } = weightsOf(values, weights, ends), most = Math.max(...sums, 1e-9);
   const [wide, high, left, low] = [380, 150, 46, 30];
-  const text = `${words.of}: ${sums.length} bars from ${told(ends[0])} to ${told(ends[ends.length - 1])}, the highest ${told(most)}`;
+  const span = `${told(ends[0])} to ${told(ends[ends.length - 1])}`;
+  const text = `${words.of}: ${sums.length} bars from ${span}, the highest ${told(most)}`;
   const made = shape("svg", { viewBox: `0 0 ${wide} ${high}`, role: "img", "aria-label": text });
   const across = (value) => left + ((value - ends[0]) / (ends[ends.length - 1] - ends[0])) * (wide - left - 12);
   const up = (sum) => 8 + (1 - sum / most) * (high - 8 - low);

@@ -8,6 +8,7 @@ const DEGREE = 111195; // metres of latitude
 const LINES = {
   running: { colour: "#b9b9b9", width: 1.1, dash: [], label: "where vehicles run" },
   taken: { colour: "#222222", width: 3.2, dash: [], label: "trips that are taken out" },
+  changed: { colour: "#882255", width: 3.2, dash: [2, 4], label: "trips that are changed" },
   added: { colour: "#117733", width: 3.6, dash: [9, 5], label: "trips that are added" },
 };
 
@@ -200,8 +201,9 @@ class PageMap {
 
   paintChanges(pen, view) {
     if (this.shown.scenario > 0) {
-      this.paintLines(pen, view, `taken-${this.shown.scenario}`);
-      this.paintLines(pen, view, `added-${this.shown.scenario}`);
+      for (const name of CHANGED_LINES) {
+        this.paintLines(pen, view, `${name}-${this.shown.scenario}`);
+      }
     }
   }
 

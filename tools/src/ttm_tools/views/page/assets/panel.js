@@ -3,6 +3,7 @@
 
 const MOST_LINES = 500; // of the table of all travel times
 const MOST_LOSERS = 10;
+const CUT_OFF = 1000, NEW = -1000; // minutes that these count as lost, where losses are put in order
 
 function element(identifier) {
   return document.getElementById(identifier);
@@ -23,11 +24,13 @@ function made(name, content = "", attributes = {}) {
 }
 
 /** A line of a table: a head, then cells. */
-function line(head, cells, where = "td") {
-  return made("tr", [
-    where === "th" ? made("th", head, { scope: "col" }) : made("th", head, { scope: "row" }),
-    ...cells.map((cell) => (cell instanceof Node ? made(where, [cell]) : made(where, cell, where === "th" ? { scope: "col" } : {}))),
-  ]);
+function line(head, cells) {
+  return made("tr", [made("th", head, { scope: "row" }), ...cells.map((cell) => made("td", cell))]);
+}
+
+/** The line of a table that names its columns. */
+function heads(...names) {
+  return made("tr", names.map((name) => made("th", name, { scope: "col" })));
 }
 
 function fill(identifier, ...lines) {
@@ -42,11 +45,15 @@ function minutesTold(minutes) {
   return minutes === NEVER ? "not reached" : minutes === LATER ? "more than 253 min" : `${minutes} min`;
 }
 
+/** What became of a travel time, by minutes where both are known. */
 function changeTold(before, after) {
-  if (before === NEVER || after === NEVER) {
-    return before === after ? "" : after === NEVER ? "cut off" : "new";
+  if (before === after) {
+    return before >= LATER ? "" : "0";
   }
-  return before === LATER || after === LATER ? (before === after ? "" : before < after ? "slower" : "faster") : toldChange(after - before);
+  if (before === NEVER || after === NEVER) {
+    return after === NEVER ? "cut off" : "new";
+  }
+  return before === LATER ? "faster" : after === LATER ? "slower" : toldChange(after - before);
 }
 
 function percentTold(before, after) {
@@ -54,7 +61,10 @@ function percentTold(before, after) {
 }
 
 function secondsTold(seconds) {
-  return seconds === null ? "the limit of the run" : seconds % 60 ? `${told(seconds)} seconds` : `${told(seconds / 60)} minutes`;
+  if (seconds === null) {
+    return "the limit of the run";
+  }
+  return seconds % 60 ? `${told(seconds)} seconds` : `${told(seconds / 60)} minutes`;
 }
 
 /** The mark of a class as the key shows it. */
@@ -69,20 +79,17 @@ function swatch(mark) {
 /** The classes with how many places each has; one without places is left out. */
 function showKey(title, marks, counts) {
   element("key-title").textContent = title;
-  const lines = marks.map((mark, number) => made("li", [swatch(mark), made("span", mark.label), made("span", told(counts[number]), { class: "count" })]));
+  const lines = marks.map((mark, number) =>
+    made("li", [swatch(mark), made("span", mark.label), made("span", told(counts[number]), { class: "count" })]));
   fill("key", ...lines.filter((_, number) => counts[number] > 0));
 }
 
 /** What the lines on the map are. */
 function showLinesKey(scenario) {
-  const names = ["running"];
-  for (const name of scenario > 0 ? ["taken", "added"] : []) {
-    if (numbers[`${name}-${scenario}`].length) {
-      names.push(name);
-    }
-  }
-  fill("lines-key", ...names.map((name) => made("li", [made("span", "", { class: `line ${name}` }), made("span", LINES[name].label)])),
-    made("li", head.lines.source, { class: "source" }));
+  const changes = CHANGED_LINES.filter((name) => scenario > 0 && numbers[`${name}-${scenario}`].length);
+  const lines = ["running", ...changes].map((name) =>
+    made("li", [made("span", "", { class: `line ${name}` }), made("span", LINES[name].label)]));
+  fill("lines-key", ...lines, made("li", head.lines.source, { class: "source" }));
 }
 
 /** The sums of what is reached within some minutes: of places, and of each thing that is counted. */
@@ -100,65 +107,63 @@ function sumsWithin(cells, minutes) {
 
 /** What is reached within the slider's minutes, now and, in a difference, before. */
 function showSums(minutes, now, before) {
-  const names = ["places", ...head.counts], after = sumsWithin(now, minutes);
+  const names = ["places", ...head.counts], title = `Within ${minutes} minutes`, after = sumsWithin(now, minutes);
   if (before === null) {
     const all = sumsWithin(new Uint8Array(head.columns), minutes);
-    fill("sums", line(`Within ${minutes} minutes`, ["reached", "of"], "th"),
-      ...names.map((name, number) => line(name, [told(after[number]), told(all[number])])));
-    return;
+    const lines = names.map((name, number) => line(name, [told(after[number]), told(all[number])]));
+    fill("sums", heads(title, "reached", "of"), ...lines);
+  } else {
+    const first = sumsWithin(before, minutes);
+    const cells = names.map((_, at) => [told(first[at]), told(after[at]), toldChange(after[at] - first[at])]);
+    const lines = names.map((name, at) => line(name, cells[at]));
+    fill("sums", heads(title, "before", "after", "change"), ...lines);
   }
-  const first = sumsWithin(before, minutes);
-  fill("sums", line(`Within ${minutes} minutes`, ["before", "after", "change"], "th"),
-    ...names.map((name, number) => line(name, [told(first[number]), told(after[number]), toldChange(after[number] - first[number])])));
+}
+
+/** What became of the travel times from a place, as a sentence; 254 and 255 are no minutes. */
+function changesTold(now, before) {
+  const counts = { cut: 0, slower: 0, faster: 0, joined: 0, same: 0 };
+  now.forEach((after, column) => {
+    const earlier = before[column];
+    const later = after - earlier >= CHANGES[0] ? "slower" : earlier - after >= CHANGES[0] ? "faster" : "same";
+    counts[after === earlier ? "same" : after === NEVER ? "cut" : earlier === NEVER ? "joined" : later]++;
+  });
+  const [cut, slower, faster, joined] = Object.values(counts).map(told);
+  return `of ${places(now.length)} ${cut} are cut off, ${slower} slower by ${CHANGES[0]} minutes or more, `
+    + `${faster} faster, ${joined} new.`;
 }
 
 function showTimesTold(place, scenario, now, before) {
   const name = head.scenarios[scenario];
   element("heading").textContent = `Travel times from ${nameOf(place)}`;
-  if (before === null) {
-    const reached = now.reduce((sum, minutes) => sum + (minutes !== NEVER), 0);
-    element("told").textContent = `${name}: ${told(reached)} of ${places(now.length)} are reached.`;
-    return;
-  }
-  const counts = { cut: 0, slower: 0, faster: 0, joined: 0 };
-  now.forEach((after, column) => {
-    const earlier = before[column];
-    const kind = earlier === NEVER || after === NEVER ? (earlier === after ? "" : after === NEVER ? "cut" : "joined")
-      : after - earlier >= CHANGES[0] ? "slower" : earlier - after >= CHANGES[0] ? "faster" : "";
-    counts[kind]++;
-  });
-  element("told").textContent = `${name} beside ${head.scenarios[0]}: of ${places(now.length)} ${told(counts.cut)} are cut off, `
-    + `${told(counts.slower)} slower by ${CHANGES[0]} minutes or more, ${told(counts.faster)} faster, ${told(counts.joined)} new.`;
+  const reached = now.reduce((sum, minutes) => sum + (minutes !== NEVER), 0);
+  element("told").textContent = before === null ? `${name}: ${told(reached)} of ${places(now.length)} are reached.`
+    : `${name} beside ${head.scenarios[0]}: ${changesTold(now, before)}`;
+}
+
+/** How many minutes are lost, for an order. */
+function lossOf(before, after) {
+  return before === after ? 0 : after === NEVER ? CUT_OFF : before === NEVER ? NEW : after - before;
 }
 
 /** All travel times as a table, the shortest first; in a difference the greatest loss first. */
 function showAll(now, before) {
-  const order = Array.from(now.keys());
-  if (before === null) {
-    order.sort((a, b) => now[a] - now[b] || a - b);
-    fill("all", line("Place", ["travel time"], "th"));
-  } else {
-    const loss = order.map((column) => (before[column] === now[column] ? 0 : now[column] === NEVER ? 1000 : before[column] === NEVER ? -1000 : now[column] - before[column]));
-    order.sort((a, b) => loss[b] - loss[a] || now[a] - now[b] || a - b);
-    fill("all", line("Place", ["before", "after", "change"], "th"));
-  }
-  for (const column of order.slice(0, MOST_LINES)) {
-    const times = before === null ? [minutesTold(now[column])]
-      : [minutesTold(before[column]), minutesTold(now[column]), changeTold(before[column], now[column])];
-    element("all").append(line(nameOf(numbers.columns[column]), times));
-  }
-  if (order.length > MOST_LINES) {
-    element("all").append(line(`${places(order.length - MOST_LINES)} more: find them by name, or on the map`, []));
-  }
+  const order = Array.from(now.keys()), loss = order.map((at) => (before === null ? 0 : lossOf(before[at], now[at])));
+  order.sort((a, b) => loss[b] - loss[a] || now[a] - now[b] || a - b);
+  const cells = (at) => (before === null ? [minutesTold(now[at])]
+    : [minutesTold(before[at]), minutesTold(now[at]), changeTold(before[at], now[at])]);
+  const lines = order.slice(0, MOST_LINES).map((at) => line(nameOf(numbers.columns[at]), cells(at)));
+  const more = order.length - lines.length;
+  fill("all", before === null ? heads("Place", "travel time") : heads("Place", "before", "after", "change"), ...lines,
+    ...(more > 0 ? [line(`${places(more)} more: find them by name, or on the map`, [])] : []));
 }
 
 function showAccessTold(words, now, before, marks) {
   element("heading").textContent = `Access: ${words.of} within ${words.within}`;
   if (before === null) {
-    const sorted = Float64Array.from(now).sort();
-    const half = sorted[Math.floor((sorted.length - 1) / 2)];
-    element("told").textContent = `${words.scenario}: from half of ${places(now.length)} at least ${told(half)} ${words.short} are reached, `
-      + `at most ${told(sorted[sorted.length - 1])}.`;
+    const sorted = Float64Array.from(now).sort(), half = sorted[Math.floor((sorted.length - 1) / 2)];
+    element("told").textContent = `${words.scenario}: from half of ${places(now.length)} at least ${told(half)} `
+      + `${words.short} are reached, at most ${told(sorted[sorted.length - 1])}.`;
     return;
   }
   let [lose, gain, cut] = [0, 0, 0];
@@ -167,8 +172,13 @@ function showAccessTold(words, now, before, marks) {
     gain += after > before[origin];
     cut += marks[origin] === 1;
   });
-  element("told").textContent = `${words.scenario} beside ${head.scenarios[0]}: of ${places(now.length)} ${told(lose)} lose, ${told(gain)} gain; `
-    + `${told(cut)} are cut off from half of what they reached.`;
+  element("told").textContent = `${words.scenario} beside ${head.scenarios[0]}: of ${places(now.length)} `
+    + `${told(lose)} lose, ${told(gain)} gain; ${told(cut)} are cut off from half of what they reached.`;
+}
+
+/** Access before and after, its change, and that in percent. */
+function accessChange(before, after) {
+  return [told(before), told(after), toldChange(after - before), percentTold(before, after)];
 }
 
 /** The chosen place's access, where it is an origin. */
@@ -178,28 +188,28 @@ function showPlaceAccess(place, words, now, before) {
   if (place < 0) {
     fill("sums");
   } else if (origin < 0) {
-    fill("sums", line(nameOf(place), ["is no origin of the matrix"]));
-  } else if (before === null) {
-    fill("sums", line(nameOf(place), [words.short], "th"), line(words.scenario, [told(now[origin])]));
+    fill("sums", made("caption", `${nameOf(place)} is no origin of the matrix`));
   } else {
-    fill("sums", line(nameOf(place), ["before", "after", "change", ""], "th"),
-      line(words.short, [told(before[origin]), told(now[origin]), toldChange(now[origin] - before[origin]), percentTold(before[origin], now[origin])]));
+    const [names, cells] = before === null ? [["reached"], [told(now[origin])]]
+      : [["before", "after", "change", ""], accessChange(before[origin], now[origin])];
+    fill("sums", made("caption", `From ${nameOf(place)}`), heads("", ...names), line(words.short, cells));
   }
 }
 
 /** The origins that lose most, each of which can be chosen. */
-function showLosers(words, now, before, choose) {
+function showLosers(now, before, choose) {
   const order = Array.from(now.keys()).filter((origin) => now[origin] < before[origin]);
   order.sort((a, b) => (now[a] - before[a]) - (now[b] - before[b]) || a - b);
-  element("losers-title").textContent = order.length ? `The ${Math.min(MOST_LOSERS, order.length)} that lose most` : "Nobody loses";
+  const some = order.slice(0, MOST_LOSERS), title = element("losers-title");
+  title.textContent = some.length ? `The ${some.length} that lose most` : "Nobody loses";
   const people = head.people.map((name) => countsOf(head.counts.indexOf(name)));
-  const lines = order.slice(0, MOST_LOSERS).map((origin) => {
+  const lines = some.map((origin) => {
     const place = numbers.origins[origin], button = made("button", nameOf(place), { type: "button" });
     button.addEventListener("click", () => choose(place));
-    const found = [told(before[origin]), told(now[origin]), toldChange(now[origin] - before[origin]), percentTold(before[origin], now[origin])];
-    return line(button instanceof Node ? [button] : "", [...found, ...people.map((counts) => told(counts[place]))]);
+    const who = people.map((counts) => told(counts[place]));
+    return line([button], [...accessChange(before[origin], now[origin]), ...who]);
   });
-  fill("losers", ...(lines.length ? [line("Place", ["before", "after", "change", "", ...head.people], "th")] : []), ...lines);
+  fill("losers", ...(some.length ? [heads("Place", "before", "after", "change", "", ...head.people)] : []), ...lines);
 }
 
 /** The histogram of access, or of its change, over places or people. */

@@ -1,0 +1,101 @@
+#!/usr/bin/env python3
+"""Times `ttm-tools scenarios` with a plan of ten scenarios over a feed of `feedgen.py`, with its processor time and
+peak memory, and tells what was written.
+
+    scenario_times.py FEED OUT
+
+Each scenario has three actions: a new line along twenty stops of a route; twenty routes every five minutes all day; and
+one that differs (a bus lane on fifty routes, stops, routes and trips taken out or shifted, routes cut and extended).
+OUT has the plan then, what was told, and in OUT/feed what was written.
+"""
+
+import csv
+import os
+import subprocess
+import sys
+import time
+from pathlib import Path
+
+TOOLS = Path(__file__).resolve().parent.parent / "tools" / "ttm-tools"
+PYTHON = "/usr/bin/python3" if Path("/usr/bin/python3").exists() else sys.executable
+SCENARIOS = 10
+LINE = """do = "add_line"
+route = "T{number}"
+stops = {stops}
+speed = 30
+dwell = 20
+departures = [{{ first = "05:00", last = "24:00", every = 300 }}]
+days = "daily"
+"""
+HEADWAY = 'do = "headway"\nroute = {routes}\nevery = 300\nfrom = "06:00"\nto = "22:00"\n'
+OTHERS = [
+    'do = "speed"\nroute = {routes}\nfactor = 0.85\n',
+    'do = "speed"\nroute = {routes}\ndwell = 5\n',
+    'do = "remove_stop"\nstop = {stops}\n',
+    'do = "remove_route"\nroute = {routes}\n',
+    'do = "shift_route"\nroute = {routes}\nseconds = 120\n',
+    'do = "cut"\nroute = "{first}"\nafter = "{middle}"\n',
+    'do = "extend"\nroute = "{first}"\nafter = "{last}"\nstops = ["{middle}"]\nspeed = 20\n',
+]
+
+
+def read(folder: Path, name: str) -> list[dict[str, str]]:
+    with open(folder / name, newline="") as file:
+        return list(csv.DictReader(file))
+
+
+def longest_ways(folder: Path) -> dict[str, list[str]]:
+    """The stops of the first whole trip of each route, in one direction."""
+    trips = {row["trip_id"]: row["route_id"] for row in read(folder, "trips.txt") if row["direction_id"] == "0"}
+    found: dict[str, dict[str, list[str]]] = {}
+    with open(folder / "stop_times.txt", newline="") as file:
+        for row in csv.DictReader(file):
+            route = trips.get(row["trip_id"])
+            if route is not None and (row["trip_id"] in found.get(route, {}) or len(found.get(route, {})) < 5):
+                found.setdefault(route, {}).setdefault(row["trip_id"], []).append(row["stop_id"])
+    return {route: max(ways.values(), key=len) for route, ways in found.items()}
+
+
+def quoted(names: list[str]) -> str:
+    return "[" + ", ".join(f'"{name}"' for name in names) + "]"
+
+
+def part(names: list[str], first: int, count: int) -> list[str]:
+    """Some names from one on, from the beginning again behind the last."""
+    return [names[(first + place) % len(names)] for place in range(min(count, len(names) // 4))]
+
+
+def plan_of(folder: Path) -> str:
+    """The plan."""
+    ways, lines = longest_ways(folder), list[str]()
+    routes = list(ways)
+    for number in range(SCENARIOS):
+        way = next(way for way in list(ways.values())[number * 13 :] if len(way) >= 20)
+        some, other = part(routes, number * 20, 20), part(routes, 200 + number * 50, 50)
+        first = other[0]
+        words = {"stops": quoted(ways[first][2:12]), "routes": quoted(other), "first": first}
+        words |= {"middle": ways[first][len(ways[first]) // 2], "last": ways[first][-1]}
+        actions = [LINE.format(number=number, stops=quoted(way[:20])), HEADWAY.format(routes=quoted(some))]
+        actions.append(OTHERS[number % len(OTHERS)].format(**words))
+        lines += [f'[[scenario]]\nname = "s{number}"\n', *(f"[[scenario.action]]\n{action}" for action in actions)]
+    return "\n".join(lines)
+
+
+def main() -> None:
+    feed, out = map(Path, sys.argv[1:])
+    out.mkdir(exist_ok=True)
+    (out / "plan.toml").write_text(plan_of(feed))
+    begin = time.monotonic()
+    words = [PYTHON, str(TOOLS), "scenarios", str(feed), str(out / "plan.toml"), "--out", str(out / "feed")]
+    with open(out / "told.txt", "w") as told, subprocess.Popen(words, stdout=told, stderr=told) as run:
+        _, status, used = os.wait4(run.pid, 0)
+        run.returncode = os.waitstatus_to_exitcode(status)
+    busy = used.ru_utime + used.ru_stime
+    took = f"{time.monotonic() - begin:.1f} s, {busy:.1f} s of processor time, {used.ru_maxrss // 1000} MB"
+    print(f"status {run.returncode}, {took}")
+    for path in sorted((out / "feed").rglob("*.*")) if run.returncode == 0 else []:
+        print(f"{path.relative_to(out / 'feed')}: {path.stat().st_size:,} bytes")
+
+
+if __name__ == "__main__":
+    main()
