@@ -31,6 +31,7 @@ from refused import Refusals
 
 MEMORY_OF_A_CHECK = 4_000_000  # kilobytes
 MINUTES = 100
+USED = 0.98  # of a budget, until edits are cut off: the rest is for clearing away
 CLOSING = re.compile(r"(\d+) passed, (\d+) failed(?:, (\d+) skipped)?")
 
 
@@ -172,7 +173,7 @@ def options_of(words: list[str]) -> argparse.Namespace:
         type=float,
         default=MINUTES,
         metavar="MINUTES",
-        help=f"begin no check of edits later than this, and cut off those at work then (default: {MINUTES}); "
+        help=f"end within this: checks of edits are cut off shortly before (default: {MINUTES}); "
         "proofs, tests and programs always run to their end",
     )
     budget.add_argument("--all", action="store_true", help="try the edits of all crates, however long it takes")
@@ -191,7 +192,7 @@ def options_of(words: list[str]) -> argparse.Namespace:
 def run(root: Path, words: list[str], now: Callable[[], float] = time.monotonic) -> int:
     """Runs the gate of the repository at `root`, by a clock that `now` reads in seconds; gives the exit status."""
     options = options_of(words)
-    clock = Clock(None if options.all or options.edits else options.budget, now)
+    clock = Clock(None if options.all or options.edits else options.budget * USED, now)
     refusals = Refusals(root, repository.crates_of(root), output_of(root, "rt", "version"))
     if options.edits:
         count = try_edits(root, [it for it in options.edits if it in refusals.sums], refusals, clock)

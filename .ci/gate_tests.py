@@ -263,6 +263,16 @@ class Time(WithStandIn):
             self.assertIn(f"{crate}: 0 of 1 edits refused", said)
         self.assertEqual((self.calls(), self.repository.rows()), ([], []))
 
+    def test_the_last_of_the_budget_is_left_for_clearing_away(self) -> None:
+        hands = Hands()
+        with mock.patch.object(gate, "prove", hands.set_by_proof(59.0)):
+            status, said, _ = self.repository.gate("--budget", "1", now=hands)
+        self.assertEqual((status, said[-1]), (0, "1 passed, 0 failed, 4 skipped"), said)
+        hands = Hands()
+        with mock.patch.object(gate, "prove", hands.set_by_proof(58.0)):
+            status, said, _ = self.repository.gate("--budget", "1", now=hands)
+        self.assertEqual((status, said[-1]), (0, "5 passed, 0 failed"), said)
+
     def test_a_check_at_work_is_cut_off_when_the_time_is_up(self) -> None:
         self.stand_in(STAND_IN.replace("check)\n", "check)\n    sleep 60\n"))
         hands = Hands()
