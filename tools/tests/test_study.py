@@ -46,6 +46,7 @@ people = "people.csv"
 files = ["cut.csv"]
 [results]
 csv = true
+page = false
 [parts]
 count = 4
 """
@@ -171,15 +172,15 @@ def test_parts_of_any_number_and_processes_give_the_same_results(place: Place) -
 
 
 def test_what_is_done_is_not_done_again_and_what_changed_is(place: Place) -> None:
-    path = place.lay_out(STUDY.replace("count = 4", "count = 4\nkeep = true"))
+    path = place.lay_out(NO_MAPS.replace("count = 4", "count = 4\nkeep = true"))
 
     def stages() -> list[str]:
         _, told, status = place.ran("study", path)
         assert status == 0, told
         return [line.removesuffix(" ..") for line in told.splitlines() if line.endswith(" ..")]
 
-    before = ["feed", "scenarios", "walks", "origins", "opportunities", "told"]
-    results = ["access", "equity", "compare_cut", "maps", "report"]
+    before = ["feed", "scenarios", "walks", "origins", "counted", "opportunities", "people", "days"]
+    results = ["access", "equity", "compare_cut", "report"]
     assert stages() == [*before, "matrix", *results]
     notes = (place.folder / "nine/study.json").read_bytes()
     assert stages() == []
@@ -187,9 +188,9 @@ def test_what_is_done_is_not_done_again_and_what_changed_is(place: Place) -> Non
     (place.folder / "nine/access.csv").write_text("spoilt\n")
     assert stages() == ["access"]
     place.write("people.csv", "stop_id,residents", [[stop, 5] for stop in STOPS])
-    assert stages() == ["equity", "report"]
+    assert stages() == ["people", "equity", "report"]
     place.write("cut.csv", "action,id,seconds", [["remove_route", "R", ""]])
-    assert stages() == ["scenarios", "told", "matrix", *results]
+    assert stages() == ["scenarios", "days", "matrix", *results]
 
 
 def test_a_part_of_other_inputs_or_with_other_bytes_is_never_taken(place: Place, program: str) -> None:
@@ -248,7 +249,7 @@ def test_verification_computes_rows_again_and_tells_what_was_changed(place: Plac
     make_study(read_study(place.lay_out(NO_MAPS)), place.folder / "nine", Means(2))
     folder = place.path("nine")
     told = (
-        "sums: 19 files are as study.json says\nrows: those of 1 of 9 origins, drawn by --seed 7, have the same bytes\n"
+        "sums: 21 files are as study.json says\nrows: those of 1 of 9 origins, drawn by --seed 7, have the same bytes\n"
     )
     assert place.ran("study", "--verify", folder, "--seed", "7") == ("", told, 0)
     (place.folder / "nine/access.csv").write_text("spoilt\n")
@@ -291,8 +292,8 @@ def test_wrong_words_of_a_study_are_told_with_their_line_and_the_nearest_name(ba
         ("csv = true", "within = 900"): "line 18: within '900' is none of limits of [run]; allowed: 600, 1800",
         ("csv = true", 'decay = "linear"'): "line 18: decay 'linear' needs decay_value, minutes above 0",
         ("csv = true", 'decay = "steep"'): "line 18: decay 'steep' isn't one of",
-        ("count = 4", "count = 0"): "line 20: count '0' isn't one; allowed: a whole number from 1 to 9,999",
-        ("count = 4", "count = "): "is no TOML file: Invalid value (at line 20, column 9)",
+        ("count = 4", "count = 0"): "line 21: count '0' isn't one; allowed: a whole number from 1 to 9,999",
+        ("count = 4", "count = "): "is no TOML file: Invalid value (at line 21, column 9)",
         ("[feed]\n", "[feed]\nready = true\nrepair = true\n"): "line 5: repair doesn't go with ready; allowed: one of",
     }
     for (old, new), told in cases.items():

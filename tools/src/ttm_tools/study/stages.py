@@ -32,6 +32,13 @@ class Stage:
     depends: dict[str, Any]  # all that its outputs depend on: words, and sums of files
     outputs: Sequence[str]  # files and folders, from the study's folder on
     make: Callable[[], list[str]]  # writes them, and says what was done
+    of_tools: bool = True  # whether other tools may make other outputs: done anew, then
+
+    @property
+    def key(self) -> str:
+        """The sum of all that the outputs depend on."""
+        tools = sum_of_tools() if self.of_tools else ""
+        return key_of({"stage": self.name, "tools": tools, "depends": self.depends})
 
 
 @dataclass(frozen=True)
@@ -127,7 +134,7 @@ class Folder:
 
     def do(self, stage: Stage) -> Record:
         """Does a stage, unless it was done."""
-        key = key_of({"stage": stage.name, "tools": sum_of_tools(), "depends": stage.depends})
+        key = stage.key
         found = self.record(stage.name)
         if found is not None and self.is_done(stage, key):
             return found
