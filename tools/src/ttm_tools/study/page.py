@@ -47,7 +47,7 @@ def wish_of(whole: Whole) -> Wish:
     cutoffs = [cutoff for cutoff in study.cutoffs if LEAST <= cutoff <= MOST] or [30.0]
     return Wish(
         feed=inputs.feed,
-        points=[f"{inputs.feed}/{POINTS}"] if "points" in inputs.records else [],
+        points=f"{inputs.feed}/{POINTS}" if "points" in inputs.records else None,
         edits=list(inputs.edits.values()),
         opportunities=counted,
         people=people,

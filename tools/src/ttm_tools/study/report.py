@@ -19,7 +19,7 @@ from .wishes import Study
 MARKDOWN, HTML, TOLD = "report.md", "report.html", "inputs/told.txt"
 FEW = 10  # rows of a table of the report
 PROVED = (
-    "Each travel time of the matrix is, for the files in the folder inputs and the words below, the least that the "
+    "Each travel time of the matrix is, for the files in the folder inputs and the words above, the least that the "
     "share of departures attains over all journeys of at most so many vehicles; it is the contract of ttm, and proved. "
     "So is that the rows of the whole are those of its parts, whichever way they were run.",
     "Not proved: what was done to make the inputs (mending, walks, points, plans), how parts were joined, and all "

@@ -1,9 +1,10 @@
 """The parts of a study, run by processes of this machine: those that are missing, so many at once."""
 
+import contextlib
 import sys
 import time
 from dataclasses import dataclass
-from typing import Iterator, Sequence
+from typing import Generator, Iterator, Sequence
 
 from .. import progress
 from ..engine import Run
@@ -30,15 +31,15 @@ def run_parts(run: Run, parts: Sequence[Part], at_once: int, threads: int) -> li
     if len(parts) > len(missing) > 0:
         say(f"parts: {len(parts) - len(missing)} of {len(parts)} are there already")
     failed = list[Failed]()
-    ended = ends_of(run, missing, at_once, threads)
-    for it in shown(ended, len(missing)):
-        if it is not None:
-            failed.append(it)
-            say(f"part {it.part.number}: {it.told}")
+    with contextlib.closing(ends_of(run, missing, at_once, threads)) as ended:
+        for it in shown(ended, len(missing)):
+            if it is not None:
+                failed.append(it)
+                say(f"part {it.part.number}: {it.told}")
     return failed
 
 
-def ends_of(run: Run, missing: Sequence[Part], at_once: int, threads: int) -> Iterator[Failed | None]:
+def ends_of(run: Run, missing: Sequence[Part], at_once: int, threads: int) -> Generator[Failed | None, None, None]:
     """What became of each part, as they end; all that run are ended where this is left."""
     running: dict[int, tuple[Part, Running]] = {}
     waiting = list(reversed(missing))
