@@ -47,13 +47,13 @@ def report_stage(whole: Whole, records: dict[str, Record], version: Sequence[str
 
 
 def sources_of(study: Study) -> dict[str, str]:
-    """The files that a study's file names, with their sums."""
+    """The files that a study's file names, by the paths that it gives, with their sums."""
     paths = [*study.feed.files, *study.points.all, *study.opportunities.files, *study.scenarios.files]
     more = [study.feed.area, study.run.origins, study.walks.streets, study.walks.table]
     more += [study.opportunities.people, study.scenarios.plan]
-    return {
-        name: was for path in [*paths, *(it for it in more if it)] for name, was in sums_of([study.at(path)]).items()
-    }
+    named = dict.fromkeys([*paths, *(it for it in more if it)])
+    found = [(Path(path).parent / name, was) for path in named for name, was in sums_of([study.at(path)]).items()]
+    return {str(path): was for path, was in found}
 
 
 def report_of(whole: Whole, records: dict[str, Record], version: Sequence[str]) -> Document:

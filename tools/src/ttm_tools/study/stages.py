@@ -74,13 +74,10 @@ def files_in(path: Path) -> list[Path]:
 
 def sums_of(paths: Sequence[str | Path]) -> dict[str, str]:
     """The sums of files, and of all files of folders, by their names without the folders in which these lie."""
-    made = {}
-    for path in map(Path, paths):
-        for file in files_in(path):
-            name = path.name if file == path else str(Path(path.name) / file.relative_to(path))
-            while name in made:
-                name += "'"
-            made[name] = sum_of(file)
+    made: dict[str, str] = {}
+    for path, file in [(path, file) for path in map(Path, paths) for file in files_in(path)]:
+        name = path.name if file == path else str(Path(path.name) / file.relative_to(path))
+        made[name + "'" * sum(it.rstrip("'") == name for it in made)] = sum_of(file)
     return made
 
 
