@@ -61,6 +61,12 @@ def opened(driver: Any, path: Path, words: str = "") -> float:
     return float(driver.execute_async_script(made))
 
 
+def processor_time(driver: Any) -> float:
+    """The milliseconds of processor time that the process of the page took so far, all its threads together."""
+    found = driver.execute_cdp_cmd("Performance.getMetrics", {})["metrics"]
+    return 1000 * float(next(it["value"] for it in found if it["name"] == "ProcessTime"))
+
+
 def clicked(driver: Any, count: int) -> list[list[float]]:
     """The milliseconds of so many clicks on drawn places, until it was shown, and until the frame was drawn."""
     names = driver.execute_script("return Array.from(numbers.rows).filter(isPlaced).map((it) => head.identifiers[it])")
@@ -93,9 +99,15 @@ def main() -> None:
         print(f"{path.stat().st_size / 1e6:.2f} MB", flush=True)
         driver = started()
         try:
-            times = sorted(opened(driver, path) for _ in range(5))
-            print(f"shown after {', '.join(f'{it:.0f}' for it in times)} ms", flush=True)
+            driver.execute_cdp_cmd("Performance.enable", {})
+            times, busy = [opened(driver, path)], processor_time(driver)
+            times += [opened(driver, path) for _ in range(4)]
+            print(f"shown after {', '.join(f'{it:.0f}' for it in sorted(times))} ms", flush=True)
+            print(f"processor time of the first opening and its process: {busy:.0f} ms")
+            begin = processor_time(driver)
             clicks = clicked(driver, asked.clicks)
+            busy = (processor_time(driver) - begin) / max(1, len(clicks))
+            print(f"processor time of a click: {busy:.0f} ms")
             for place, what in enumerate(("shown", "drawn")):
                 of = sorted(it[place] for it in clicks)
                 print(f"a click is {what} after {of[len(of) // 2]:.0f} ms, at most {of[-1]:.0f} ({len(of)} clicks)")

@@ -4,8 +4,8 @@
     pages.py PAGE [SECTION ..]      all sections with commands but those for many machines, or the named ones
 
 A command is an indented line that begins with `$ `; what it prints are the indented lines after it. A block of TOML is
-written before, as plan.toml or under the name that its first line, a comment, gives. Lines of `ttm`'s report tell of the machine and of time, and aren't compared. Standard
-library only.
+written before, as plan.toml or under the name that its first line, a comment, gives. Lines of `ttm`'s report tell of
+the machine and of time, and aren't compared. Standard library only.
 """
 
 from __future__ import annotations

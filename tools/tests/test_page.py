@@ -246,8 +246,17 @@ def test_points_alone_as_squares_and_a_new_line(town: Town, browser: Browser) ->
     assert "trips that are added" in browser.text("lines-key") and "taken out" not in browser.text("lines-key")
     aside = int(browser.run("return 0.4 * page.sideOf(0) * 2 ** page.map.getZoom()"))  # pixels, within the square
     assert [browser.colour(it, right=aside) for it in "CD"] == ["#1b5a9c", "#ffd92f"]
-    browser.open(page(town, *words, "--points", cells), "view=access&of=points")
+    town.write("jobs.csv", "stop_id,jobs", [["A", 5], ["B", 20]])  # B isn't shown, but reached in 6 or 5 minutes
+    words += ["--points", cells, "--opportunities", town.path("jobs.csv")]
+    browser.open(page(town, *words), "view=access&of=points")
     assert browser.text("heading") == "Access: points within 15 minutes"
+    browser.choose("counted", "jobs")
+    browser.click("A")
+    assert browser.lines("sums")[1] == ["jobs", "25", "25", "0", "0 %"]
+    told = "jobs: part of them is at stops that aren't shown; access counts all, the slider nothing."
+    assert told in browser.text("meaning-part")
+    browser.press("#from-here")
+    assert [row[0] for row in browser.lines("sums")] == ["Within 30 minutes", "places"]
 
 
 def test_a_plan_brings_its_scenario_files_and_leaves_the_base_out(town: Town, browser: Browser) -> None:

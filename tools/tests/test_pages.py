@@ -35,6 +35,13 @@ def make_town(room: Room, program: str) -> None:
     os.symlink(ROOT / "tools", room.folder / "tools")
 
 
+def needs_maps_and_page() -> None:
+    for package in ("matplotlib", "pandas", "jinja2"):
+        pytest.importorskip(package)
+    if not LEAFLET.is_file():
+        pytest.skip("without libjs-leaflet")
+
+
 def environment_of(room: Room) -> dict[str, str]:
     path = os.pathsep.join([os.path.dirname(sys.executable), room.path("tools"), os.environ["PATH"]])
     return {**os.environ, "PATH": path, "LC_ALL": "C.UTF-8"}
@@ -51,10 +58,8 @@ def prints_what_is_said(room: Room, *names: str, before: str = "true") -> int:
 
 
 def test_each_command_prints_what_the_page_says(room: Room, program: str) -> None:
-    for package in ("matplotlib", "h5py", "pandas", "jinja2"):
-        pytest.importorskip(package)
-    if not LEAFLET.is_file():
-        pytest.skip("without libjs-leaflet")
+    pytest.importorskip("h5py")
+    needs_maps_and_page()
     make_town(room, program)
     assert prints_what_is_said(room, "One question, from zip to picture", "What a number means") > 15
 
@@ -65,8 +70,7 @@ def test_a_damaged_feed_is_told_and_mended_as_the_page_says(room: Room, program:
 
 
 def test_travel_times_from_door_to_door_as_the_page_says(room: Room, program: str) -> None:
-    for package in ("matplotlib", "pandas"):
-        pytest.importorskip(package)
+    needs_maps_and_page()
     make_town(room, program)
     before = "export PATH=$PWD/crates/ttm/out:$PWD/tools:$PATH; unzip -q town.zip -d town"
     edits = "printf 'action,id,seconds\\nremove_route,L0013,\\n' > no13.csv"
@@ -91,8 +95,7 @@ def test_a_study_is_made_in_one_command_as_the_page_says(room: Room, program: st
 
 
 def test_a_plan_is_carried_out_as_the_page_says(room: Room, program: str) -> None:
-    for package in ("matplotlib", "pandas"):
-        pytest.importorskip(package)
+    needs_maps_and_page()
     make_town(room, program)
     known = pages.sections(PAGE.read_text())
     section = "A tram every ten minutes, and what it brings"

@@ -77,6 +77,7 @@ class Content:
     ground: Ground
     counts: Counts  # by place
     people: int  # the last so many columns of counts are people
+    hidden: list[str]  # what is counted, and lies in part at stops that aren't shown
     measures: list[Measure]
     times: list[list[Times]]  # by scenario and share
 
@@ -111,16 +112,14 @@ def ground_of(matrix: Matrix, stops: Stops, asked: Asked) -> Ground:
     return Ground(places, columns, starts, rows)
 
 
-def counts_of(known: Sequence[str], ground: Ground, asked: Asked) -> tuple[Counts, int]:
-    """What is counted, by place, and how many of the columns are people; files name what the matrix has."""
-    numbers = {name: number for number, name in enumerate(known)}
-    chosen = np.array([numbers[name] for name in ground.places.identifiers], dtype=np.intp)
+def counts_of(known: Sequence[str], asked: Asked) -> tuple[Counts, int]:
+    """What is counted, by stop of the matrix, and how many of the columns are people."""
     found = [read_counts(paths, known, "stop of the matrix") for paths in (asked.opportunities, asked.people)]
     both = [name for name in found[1].names if name in found[0].names]
     if both:
         raise BadInput(", ".join(asked.people), f"a column {shown(both[0])} is among the opportunities too")
     names = [shown(name) for it in found for name in it.names]
-    return Counts(names, np.concatenate([it.numbers[chosen] for it in found], axis=1)), len(found[1].names)
+    return Counts(names, np.concatenate([it.numbers for it in found], axis=1)), len(found[1].names)
 
 
 def measures_of(matrix: Matrix, counts: Counts, asked: Asked, unit: str) -> list[Measure]:
@@ -130,63 +129,71 @@ def measures_of(matrix: Matrix, counts: Counts, asked: Asked, unit: str) -> list
     return own + [Measure(name, name, round(60 * cutoff)) for name in names for cutoff in asked.cutoffs]
 
 
-def content_of(matrix: Matrix, stops: Stops, known: Sequence[str], asked: Asked, unit: str) -> Content:
-    """Everything that is read of a matrix for a page; `known` are all its stops, points or not."""
-    ground = ground_of(matrix, stops, asked)
-    counts, people = counts_of(known, ground, asked)
-    numbers = np.concatenate([np.ones((len(ground.columns), 1)), counts.numbers[ground.at(ground.columns)]], axis=1)
-    read = Reading(matrix, ground, numbers, asked.cutoffs)
-    base = asked.scenarios[0]
-    times = [[read.times(name, base, share) for share in asked.shares] for name in asked.scenarios]
-    return Content(ground, counts, people, measures_of(matrix, counts, asked, unit), times)
+def content_of(whole: Matrix, matrix: Matrix, stops: Stops, asked: Asked, unit: str) -> Content:
+    """Everything that is read for a page of a matrix, or of a part of it, the points; access counts what lies at all
+    stops.
+    """
+    ground, known = ground_of(matrix, stops, asked), whole.stops_and_origins()
+    counts, people = counts_of(known, asked)
+    at = {name: number for number, name in enumerate(known)}
+    there = counts.numbers[[at[name] for name in ground.places.identifiers]]
+    lost = counts.numbers.sum(axis=0) > counts.numbers[[at[name] for name in ground.columns]].sum(axis=0)
+    shown_there = np.isin(whole.stops, ground.columns).astype(np.float64)[:, None]
+    read = Reading(
+        whole, matrix, ground, np.concatenate([shown_there, counts.numbers[: len(whole.stops)]], axis=1), asked
+    )
+    times = [[read.times(name, share) for share in asked.shares] for name in asked.scenarios]
+    hidden = [name for name, is_lost in zip(counts.names, lost.tolist()) if is_lost]
+    measures = measures_of(matrix, counts, asked, unit)
+    return Content(ground, Counts(counts.names, there), people, hidden, measures, times)
 
 
 @dataclass(frozen=True)
 class Reading:
     """How a matrix is read for a page."""
 
-    matrix: Matrix
+    whole: Matrix
+    shown: Matrix  # the same, or a part of it
     ground: Ground
-    numbers: Floats  # a row for each column of the page, a column for each thing that is counted
-    cutoffs: Sequence[float]  # minutes
+    numbers: Floats  # a row for each column of the whole matrix, a column for each thing that is counted
+    asked: Asked
 
-    def times(self, scenario: str, base: str, share: Share) -> Times:
-        found = self.matrix.origins(scenario, share)
+    def times(self, scenario: str, share: Share) -> Times:
+        found = self.whole.origins(scenario, share)
         numbers = {name: number for number, name in enumerate(found)}
         order = np.array([numbers[name] for name in self.ground.origins], dtype=np.intp)
-        own = self.matrix.access(scenario, share).astype(np.float64)
+        own = self.whole.access(scenario, share).astype(np.float64)
         cells, sums = self.cells_and_sums(scenario, share)
         access = np.concatenate([own, sums], axis=1)[order]
-        return Times(cells, access, self.marks(scenario, base, share))
+        return Times(cells, access, self.marks(scenario, share))
 
     def cells_and_sums(self, scenario: str, share: Share) -> tuple[Bytes, Floats]:
         """The cells of the page's rows, and the sums of all rows in the matrix' order."""
-        matrix, ground = self.matrix, self.ground
+        matrix, ground = self.whole, self.ground
         columns = np.array([matrix.places[name] for name in ground.columns], dtype=np.intp)
         rows = {name: row for row, name in enumerate(ground.rows)}
         cells = np.zeros((len(rows), len(columns)), np.uint8)
-        sums = [np.zeros((0, self.numbers.shape[1] * len(self.cutoffs)))]
+        sums = [np.zeros((0, self.numbers.shape[1] * len(self.asked.cutoffs)))]
         count = -(-len(matrix.origins(scenario, share)) // matrix.rows_at_once())
         for block in progress.told(matrix.blocks(scenario, share), count, f"{scenario} {share or ''}", "blocks"):
-            seconds = block.seconds[:, columns]
-            sums.append(self.sums(seconds))
-            taken = [place for place, name in enumerate(block.origins) if name in rows]
-            cells[[rows[block.origins[place]] for place in taken]] = minutes_of(seconds[taken])
+            sums.append(self.sums(block.seconds))
+            taken = np.array([place for place, name in enumerate(block.origins) if name in rows], dtype=np.intp)
+            cells[[rows[block.origins[place]] for place in taken]] = minutes_of(block.seconds[taken][:, columns])
         return cells, np.concatenate(sums)
 
     def sums(self, seconds: npt.NDArray[np.float32]) -> Floats:
         """What is reached from some origins: for each thing that is counted, within each cutoff."""
         decay = Decay(STEP)
-        found = np.stack([decay.weights(seconds, cutoff) @ self.numbers for cutoff in self.cutoffs], axis=2)
+        found = np.stack([decay.weights(seconds, cutoff) @ self.numbers for cutoff in self.asked.cutoffs], axis=2)
         made: Floats = found.reshape(len(seconds), -1)
         return made
 
-    def marks(self, scenario: str, base: str, share: Share) -> Bytes:
+    def marks(self, scenario: str, share: Share) -> Bytes:
         """CUT, JOINED or 0 for each of the page's origins, as a map has these classes."""
         made = np.zeros(len(self.ground.origins), np.uint8)
-        if scenario == base:
+        if scenario == self.asked.scenarios[0]:
             return made
-        pair = pair_of(self.matrix, base, scenario, share)
+        pair = pair_of(self.shown, self.asked.scenarios[0], scenario, share)
         numbers = {name: number for number, name in enumerate(pair.origins)}
         order = np.array([numbers[name] for name in self.ground.origins], dtype=np.intp)
         found = compare(pair, 0, with_pairs=False)

@@ -90,6 +90,7 @@ def head_of(content: Content, lines: Lines, frame: Frame) -> dict[str, Any]:
         "rowsInBlock": rows_in_block(len(ground.columns)),
         "counts": names,
         "people": names[len(names) - content.people :],
+        "reached": [number for number, name in enumerate(names) if name not in content.hidden],
         "measures": [asdict(measure) for measure in content.measures],
         "meanings": frame.meanings,
         "lines": {"source": lines.source},

@@ -77,7 +77,7 @@ def page_of(matrix: Matrix, wish: Wish) -> Page:
     chosen, stops = shown_of(matrix, wish.feed, wish.points)
     assert stops is not None  # there is a feed
     asked = asked_of(chosen, "stops" if chosen is matrix else "points", wish)
-    content = content_of(chosen, stops, matrix.stops_and_origins(), asked, wish.unit)
+    content = content_of(matrix, chosen, stops, asked, wish.unit)
     files = scenario_files(wish.feed, asked.scenarios, wish.edits)
     lines = page_lines(wish.feed, stops, asked.scenarios, files)
     return Page(content, lines, frame_of(matrix, content, asked, replace(wish, edits=list(files.values()))))
@@ -124,6 +124,9 @@ def told_rows(content: Content, asked: Asked) -> list[str]:
             f"The page has the travel times from {len(ground.rows):,} of {len(ground.origins):,} origins, which were "
             f"{how}, and access from all."
         )
+    if content.hidden:
+        names = ", ".join(content.hidden)
+        told.append(f"{names}: part of them is at stops that aren't shown; access counts all, the slider nothing.")
     lost = sum(1 for latitude in ground.places.latitudes if math.isnan(latitude))
     if lost:
         told.append(f"{lost:,} places have no coordinates: they are found by name, and aren't on the map.")

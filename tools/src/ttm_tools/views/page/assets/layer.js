@@ -60,7 +60,7 @@ const Drawing = L.Layer.extend({
     const pen = this.canvas.getContext("2d");
     pen.scale(fine, fine);
     const origin = map.getPixelOrigin().add(corner);
-    this.paint(pen, { scale: 2 ** map.getZoom(), x: origin.x, y: origin.y, width: whole.x, height: whole.y });
+    this.paint(pen, { scale: 2 ** map.getZoom(), x: origin.x, y: origin.y, width: whole.x, height: whole.y, fine });
   },
 });
 
@@ -238,18 +238,26 @@ class PageMap {
         groups[classes === null ? 0 : classes[place]][faint !== null && faint[place] ? 0 : 1].push(place);
       }
     }
-    const radius = this.radius();
     for (const bright of [0, 1]) {
       pen.globalAlpha = bright ? 1 : 0.28;
       for (const number of order) {
-        for (const place of groups[number][bright]) {
-          const side = numbers.widths[place] > 0 ? Math.max(this.sideOf(place) * view.scale, LEAST_SQUARE) : 0;
-          const [x, y] = this.at(place, view);
-          paintPlace(pen, marks[number], x, y, side || radius * (bright ? 1 : 0.7), side > 0);
-        }
+        this.paintClass(pen, view, marks[number], groups[number][bright], this.radius() * (bright ? 1 : 0.7));
       }
     }
     pen.globalAlpha = 1;
+  }
+
+  /** The places of a class: their squares, or a mark that is drawn once and laid where each of them is. */
+  paintClass(pen, view, mark, some, radius) {
+    const stamp = some.length ? new Stamp(mark, radius, view.fine) : null;
+    for (const place of some) {
+      const [x, y] = this.at(place, view);
+      if (numbers.widths[place] > 0) {
+        paintSquare(pen, mark, x, y, Math.max(this.sideOf(place) * view.scale, LEAST_SQUARE));
+      } else {
+        stamp.lay(pen, x, y);
+      }
+    }
   }
 
   /** The radius of an ordinary mark, so that marks don't hide one another where all places are shown. */
@@ -260,12 +268,27 @@ class PageMap {
   }
 }
 
-/** A place's mark, or its square with a mark of its class in it. */
-function paintPlace(pen, mark, x, y, size, square) {
-  if (!square) {
-    paintMark(pen, mark, x, y, size * mark.size);
-    return;
+/** A mark as a little picture. */
+class Stamp {
+  constructor(mark, radius, fine) {
+    this.fine = fine; // pixels of the screen for one of the map
+    this.half = Math.ceil(1.5 * radius * mark.size + 2);
+    this.canvas = document.createElement("canvas");
+    this.canvas.width = this.canvas.height = Math.ceil(2 * this.half * fine);
+    const pen = this.canvas.getContext("2d");
+    pen.scale(fine, fine);
+    paintMark(pen, mark, this.half, this.half, radius * mark.size);
   }
+
+  /** Lays it on the nearest pixel of the screen. */
+  lay(pen, x, y) {
+    const [left, top] = [x, y].map((at) => Math.round((at - this.half) * this.fine) / this.fine);
+    pen.drawImage(this.canvas, left, top, this.canvas.width / this.fine, this.canvas.height / this.fine);
+  }
+}
+
+/** A place's square with a mark of its class in it. */
+function paintSquare(pen, mark, x, y, size) {
   pen.fillStyle = mark.shape === "thin" || mark.shape === "dot" ? "#e4e4e4" : mark.colour;
   pen.fillRect(x - size / 2, y - size / 2, size, size);
   if (size >= 9 && mark.shape !== "circle" && mark.shape !== "dot") {

@@ -67,8 +67,18 @@ function secondsTold(seconds) {
   return seconds % 60 ? `${told(seconds)} seconds` : `${told(seconds / 60)} minutes`;
 }
 
+const swatches = new Map(); // by what they look like
+
 /** The mark of a class as the key shows it. */
 function swatch(mark) {
+  const look = `${mark.colour} ${mark.shape} ${mark.size}`;
+  if (!swatches.has(look)) {
+    swatches.set(look, newSwatch(mark));
+  }
+  return swatches.get(look);
+}
+
+function newSwatch(mark) {
   const canvas = made("canvas", "", { width: 36, height: 36, "aria-hidden": "true", class: "swatch" });
   const pen = canvas.getContext("2d");
   pen.scale(2, 2);
@@ -92,10 +102,9 @@ function showLinesKey(scenario) {
   fill("lines-key", ...lines, made("li", head.lines.source, { class: "source" }));
 }
 
-/** The sums of what is reached within some minutes: of places, and of each thing that is counted. */
+/** The sums of what is reached within some minutes: of places, and of each thing that lies at places of the page. */
 function sumsWithin(cells, minutes) {
-  const sums = new Array(head.counts.length + 1).fill(0);
-  const columns = head.counts.map((_, number) => countsOf(number));
+  const columns = head.reached.map((number) => countsOf(number)), sums = new Array(columns.length + 1).fill(0);
   for (let column = 0; column < cells.length; column++) {
     if (cells[column] <= minutes) {
       sums[0]++;
@@ -107,7 +116,8 @@ function sumsWithin(cells, minutes) {
 
 /** What is reached within the slider's minutes, now and, in a difference, before. */
 function showSums(minutes, now, before) {
-  const names = ["places", ...head.counts], title = `Within ${minutes} minutes`, after = sumsWithin(now, minutes);
+  const names = ["places", ...head.reached.map((number) => head.counts[number])];
+  const title = `Within ${minutes} minutes`, after = sumsWithin(now, minutes);
   if (before === null) {
     const all = sumsWithin(new Uint8Array(head.columns), minutes);
     const lines = names.map((name, number) => line(name, [told(after[number]), told(all[number])]));
