@@ -21,6 +21,7 @@ from ..files import remove, sum_of, written_aside
 RECORDS = "stages"
 LOCK = ".lock"
 LOG = "stages/log.jsonl"
+TASK = "parts/run.json"  # what other machines compute, as long as no input is made anew
 PACKAGE = Path(__file__).resolve().parents[1]
 
 
@@ -136,7 +137,8 @@ class Folder:
         if found is not None and self.is_done(stage, key):
             return found
         say(f"{stage.name} ..")
-        self.forget(stage.name)
+        for path in (TASK, f"{RECORDS}/{stage.name}.json"):
+            self.at(path).unlink(missing_ok=True)
         for name in stage.outputs:
             remove(self.at(name))
             self.at(name).parent.mkdir(parents=True, exist_ok=True)
@@ -153,9 +155,6 @@ class Folder:
         for line in lines:
             say(f"  {line}")
         return record
-
-    def forget(self, name: str) -> None:
-        (self.path / RECORDS / f"{name}.json").unlink(missing_ok=True)
 
 
 @contextlib.contextmanager
