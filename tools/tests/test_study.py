@@ -13,12 +13,16 @@ from typing import Any, Callable
 import pytest
 
 from helpers import CALENDAR, STOP_TIMES, Room
+from ttm_tools.engine import Run
 from ttm_tools.faults import BadInput
 from ttm_tools.files import sum_of
-from ttm_tools.study.cluster import Means, ranges
-from ttm_tools.study.cutting import Costs, Part, shape_of
+from ttm_tools.study.cluster import Means, ranges, write_task
+from ttm_tools.study.cutting import Costs, Part, parts_for, shape_of, study_key
+from ttm_tools.study.inputs import make_inputs
+from ttm_tools.study.stages import Folder
 from ttm_tools.study.study_file import read_study
 from ttm_tools.study.template import page, template
+from ttm_tools.study.ttm import version_of
 from ttm_tools.study.wishes import PartWish
 from ttm_tools.study.work import make_study
 
@@ -339,6 +343,34 @@ def test_arrays_name_the_parts_that_are_missing() -> None:
     assert Part(12, ["A"], "").matrix == Path("parts/0012/matrix.csv")
 
 
-def test_one_part_is_computed_where_the_folder_says_so(place: Place) -> None:
-    words = ["study", "--part", "1", place.path("nine")]
-    assert place.ran(*words)[1].startswith(f"ttm-tools study: {place.path('nine')}")
+def test_one_part_is_computed_where_the_folder_says_so(place: Place, monkeypatch: pytest.MonkeyPatch) -> None:
+    study = read_study(place.lay_out(NO_MAPS.replace("count = 4", "count = 4\nkeep = true")))
+    make_study(study, place.folder / "nine", Means(2))
+    folder, words = place.folder / "nine", ["study", "--part", "3", place.path("nine")]
+    told = f"ttm-tools study: {folder}: is no folder of a study with parts to compute: no parts/run.json\n"
+    assert place.ran(*words) == ("", told, 1)
+    inputs = {"words": json.loads((folder / "study.json").read_text())["run"]}
+    part = folder / "parts/0003"
+    wanted = {name: (part / name).read_bytes() for name in ("matrix.csv", "key")}
+    monkeypatch.chdir(folder)
+    known = parts_for(STOPS, 4, key_of_study(folder))
+    assert [it.key for it in known] == [
+        json.loads((folder / f"parts/000{n}/key").read_text())["key"] for n in range(1, 5)
+    ]
+    write_task(Run(**inputs["words"]), 4, key_of_study(folder), version_of(os.environ["TTM_PROGRAM"]))
+    assert place.ran(*words) == ("", "", 0)
+    (part / "key").unlink()
+    (part / "matrix.csv").unlink()
+    assert place.ran(*words) == ("", "", 0)
+    assert {name: (part / name).read_bytes() for name in wanted} == wanted
+    write_task(Run(**inputs["words"]), 4, key_of_study(folder), ["ttm 0.0.1"])
+    (part / "key").unlink()
+    _, said, status = place.ran(*words)
+    assert (status, "and the study's ttm is another one" in said, (part / "told.txt").exists()) == (1, True, True)
+    assert place.ran("study", "--part", "5", place.path("nine"))[1].endswith(": has no part 5, but 1 to 4\n")
+
+
+def key_of_study(folder: Path) -> str:
+    """The sum of a study's inputs, words and version, as its stage of days has it."""
+    inputs = make_inputs(read_study(str(folder.with_suffix(".toml"))), Folder(Path(".")))
+    return study_key(inputs, version_of(os.environ["TTM_PROGRAM"]))

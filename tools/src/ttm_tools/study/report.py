@@ -19,7 +19,7 @@ from .wishes import Study
 MARKDOWN, HTML, TOLD = "report.md", "report.html", "inputs/told.txt"
 FEW = 10  # rows of a table of the report
 PROVED = (
-    "Each travel time of the matrix is, for the files in the folder inputs and the words below, the least that the "
+    "Each travel time of the matrix is, for the files in the folder inputs and the words above, the least that the "
     "share of departures attains over all journeys of at most so many vehicles; it is the contract of ttm, and proved. "
     "So is that the rows of the whole are those of its parts, whichever way they were run.",
     "Not proved: what was done to make the inputs (mending, walks, points, plans), how parts were joined, and all "
@@ -47,13 +47,13 @@ def report_stage(whole: Whole, records: dict[str, Record], version: Sequence[str
 
 
 def sources_of(study: Study) -> dict[str, str]:
-    """The files that a study's file names, with their sums."""
+    """The files that a study's file names, by the paths that it gives, with their sums."""
     paths = [*study.feed.files, *study.points.all, *study.opportunities.files, *study.scenarios.files]
     more = [study.feed.area, study.run.origins, study.walks.streets, study.walks.table]
     more += [study.opportunities.people, study.scenarios.plan]
-    return {
-        name: was for path in [*paths, *(it for it in more if it)] for name, was in sums_of([study.at(path)]).items()
-    }
+    named = dict.fromkeys([*paths, *(it for it in more if it)])
+    found = [(Path(path).parent / name, was) for path in named for name, was in sums_of([study.at(path)]).items()]
+    return {str(path): was for path, was in found}
 
 
 def report_of(whole: Whole, records: dict[str, Record], version: Sequence[str]) -> Document:
