@@ -90,12 +90,12 @@ fn a_change_takes_its_time_and_a_walk_none(rt: HostRuntime) -> Result<(), Fail> 
     let Some(feet) = feet else {
         return Err(Fail::new("feet"));
     };
-    let ride = [two(100, 4_000_000_000), UNREACHED];
+    let ride = [two(100, NEVER), UNREACHED];
     let mut ready = [UNREACHED, UNREACHED];
     if feet.stops() == 2 {
         transfer(&feet, &ride, &mut ready);
     }
-    assert!(rt; ready[0] == two(400, 4_000_000_300) && ready[1] == two(160, 4_000_000_060));
+    assert!(rt; ready[0] == two(400, NEVER) && ready[1] == two(160, NEVER));
     Ok(())
 }
 
