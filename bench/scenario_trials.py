@@ -27,7 +27,7 @@ def main() -> int:
     asked = parser.parse_args()
     program, failed = str(Path(asked.program).resolve()), 0
     for seed in range(asked.seed, asked.seed + asked.count):
-        said = io.StringIO()
+        said = io.TextIOWrapper(io.BytesIO())
         with tempfile.TemporaryDirectory(prefix="ttm-plan-") as room:
             with contextlib.redirect_stderr(said), contextlib.redirect_stdout(said):
                 wrong = plan_differs(program, seed, Path(room))

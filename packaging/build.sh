@@ -74,6 +74,7 @@ gzip -9n "$room/ttm.tar"
 # The Debian package. The program needs the C library alone; Python and its packages are for the tools.
 tools_need="python3 (>= 3.11), python3-numpy (>= 1:1.24), python3-pandas (>= 1.5), python3-tqdm"
 some_tools_need="python3-matplotlib (>= 3.6), python3-h5py, python3-geopandas, python3-jinja2, libjs-leaflet"
+streets_need="python3-scipy, python3-pyosmium"
 needed=$(grep -ao 'GLIBC_2\.[0-9]*' "$program" | sort -u -t . -k 2n | sed -n '$s/GLIBC_//p')
 libraries="libc6${needed:+ (>= $needed)}"
 ! grep -aq 'libgcc_s\.so\.1' "$program" || libraries="$libraries, libgcc-s1"
@@ -87,8 +88,8 @@ Section: science
 Priority: optional
 Installed-Size: $(du -k -s --apparent-size "$usr" | cut -f 1)
 Depends: $libraries
-Recommends: $tools_need, $some_tools_need
-Suggests: python3-scipy, python3-pyosmium, parallel, slurm-client
+Recommends: $tools_need, $some_tools_need, $streets_need
+Suggests: parallel, slurm-client
 Description: travel time matrices over a GTFS feed, proved
  From every origin stop, for every minute of a departure window, the least
  travel time to every stop, as percentiles over the minutes, for a base network

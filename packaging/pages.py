@@ -4,8 +4,8 @@
     pages.py PAGE [SECTION ..]      all sections with commands but those for many machines, or the named ones
 
 A command is an indented line that begins with `$ `; what it prints are the indented lines after it. A block of TOML is
-written as plan.toml before. Lines of `ttm`'s report tell of the machine and of time, and aren't compared. Standard
-library only.
+written before, as plan.toml or under the name that its first line, a comment, gives. Lines of `ttm`'s report tell of
+the machine and of time, and aren't compared. Standard library only.
 """
 
 from __future__ import annotations
@@ -58,9 +58,10 @@ def commands(section: str) -> list[Command]:
 
 
 def write_files(section: str, folder: Path) -> None:
-    """Writes the plan of a section."""
+    """Writes the plan of a section, or the file that the first line of a block names."""
     for text in re.findall(r"^```toml\n(.*?)^```", section, re.MULTILINE | re.DOTALL):
-        (folder / "plan.toml").write_text(text, encoding="utf-8")
+        named = re.match(r"# (\w+\.toml)\n", text)
+        (folder / (named[1] if named else "plan.toml")).write_text(text, encoding="utf-8")
 
 
 def differences(page: list[Command], folder: Path, environment: dict[str, str]) -> list[str]:

@@ -15,6 +15,7 @@ from ttm_tools import cli
 from ttm_tools.faults import BadInput
 from ttm_tools.plans.base import Base, read_base
 from ttm_tools.plans.carrying_out import carried_out
+from ttm_tools.plans.nearness import told_nearer
 from ttm_tools.plans.plan_file import Entry, PlannedScenario
 from ttm_tools.prepare.fields import FILES, clock
 
@@ -214,7 +215,8 @@ def walks_of(folder: Path) -> Path:
 
 def plan_differs(program: str, seed: int, room: Path) -> str:
     """What is wrong with the scenarios of a drawn plan; nothing where today has the rows of the untouched feed, each
-    scenario those of the feed in which its actions alone were carried out, and their order doesn't matter.
+    scenario those of the feed in which its actions alone were carried out, their order doesn't matter, and walks to new
+    stops bring no old ones nearer.
     """
     plan = DrawnPlan(seed, room / "feed")
     if not plan.scenarios:
@@ -228,6 +230,7 @@ def plan_differs(program: str, seed: int, room: Path) -> str:
     old_header, old = matrix(program, ["--feed", str(room / "feed"), *plan.words(walks_of(room / "feed"), first)])
     wrong = [] if lines_of(header, rows["today"], old_header[1:]) == old["base"] else ["today"]
     wrong += [] if header[: len(old_header)] == old_header else ["columns"]
+    wrong += told_nearer(str(room / "plan"), str(room / "plan" / "made_walks.csv"))
     for name, _ in plan.scenarios:
         out = room / name
         tool("scenarios", str(room / "feed"), str(room / "plan.toml"), "--only", name, "--out", str(out))

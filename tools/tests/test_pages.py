@@ -78,6 +78,22 @@ def test_travel_times_from_door_to_door_as_the_page_says(room: Room, program: st
     assert prints_what_is_said(room, section, before=f"{before}; {edits}") > 9
 
 
+def test_a_study_is_made_in_one_command_as_the_page_says(room: Room, program: str) -> None:
+    for package in ("matplotlib", "pandas", "h5py", "jinja2", "osmium", "scipy"):
+        pytest.importorskip(package)
+    if not LEAFLET.is_file():
+        pytest.skip("without libjs-leaflet")
+    make_town(room, program)
+    known = pages.sections(PAGE.read_text())
+    for name in ("A tram every ten minutes, and what it brings", "A study in one command"):
+        pages.write_files(known[name], room.folder)
+    ready = [it for it in pages.commands(known["Getting a feed ready"]) if not it.printed]
+    path = pages.Command("export PATH=$PWD/crates/ttm/out:$PWD/tools:$PATH")
+    page = [path, *ready, *pages.commands(known["A study in one command"])]
+    assert len(page) > 14
+    assert pages.differences(page, room.folder, environment_of(room)) == []
+
+
 def test_a_plan_is_carried_out_as_the_page_says(room: Room, program: str) -> None:
     needs_maps_and_page()
     make_town(room, program)

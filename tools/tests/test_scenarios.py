@@ -7,6 +7,7 @@ from pathlib import Path
 
 import pytest
 
+import helpers
 from helpers import Cell, Room, Town, read, town_matrix
 from test_damages import damaged
 
@@ -280,6 +281,52 @@ def test_shapes_are_cut_and_go_on(small: Room) -> None:
     line = [["50.001000", "8.000000"], ["50.002000", "8.014000"], ["50.003000", "8.028000"], ["50.010000", "8.014000"]]
     assert found == [["R-1", *place, str(number)] for number, place in enumerate(line, 1)]
     assert {row["shape_id"] for row in rows(small, "out/trips.txt")} == {"R-1", ""}
+
+
+T1, T2 = ["A 08:00:00", "B 08:10:00"], ["B 08:15:00", "C 08:30:00"]
+LINE = """do = "add_line"
+route = "L"
+stops = ["A", "B", "C"]
+seconds = [300, 400]
+dwell = 20
+departures = [{ first = "08:00", last = "08:10", every = 600 }]
+days = "daily\""""
+ON = 'do = "extend"\nroute = "R1"\nafter = "B"\nstops = ["C"]\nseconds = [600]\ndwell = 30'
+EXAMPLES: list[tuple[list[str], dict[str, list[str]]]] = [
+    (['do = "remove_route"\nroute = "R2"'], {"T1": T1}),
+    (['do = "remove_trip"\ntrip = "T2"'], {"T1": T1}),
+    (['do = "remove_stop"\nstop = "C"'], {"T1": T1}),
+    (['do = "shift_trip"\ntrip = "T1"\nseconds = 300'], {"T1": ["A 08:05:00", "B 08:15:00"], "T2": T2}),
+    (
+        [LINE],
+        {
+            **{"T1": T1, "T2": T2, "L-0#1": ["A 08:00:00", "B 08:05:00 08:05:20", "C 08:12:00"]},
+            **{"L-0#2": ["A 08:10:00", "B 08:15:00 08:15:20", "C 08:22:00"]},
+            **{"L-1#1": ["C 08:00:00", "B 08:06:40 08:07:00", "A 08:12:00"]},
+            **{"L-1#2": ["C 08:10:00", "B 08:16:40 08:17:00", "A 08:22:00"]},
+        },
+    ),
+    (
+        ['do = "headway"\nroute = "R2"\nevery = 300\nfrom = "08:10"\nto = "08:20"'],
+        {"T1": T1, "T2#1": ["B 08:10:00", "C 08:25:00"], "T2#2": T2},
+    ),
+    (['do = "speed"\nroute = "R2"\nfactor = 0.85'], {"T1": T1, "T2": ["B 08:15:00", "C 08:27:45"]}),
+    ([ON], {"T1": ["A 08:00:00", "B 08:10:00 08:10:30", "C 08:20:30"], "T2": T2}),
+    ([ON, 'do = "cut"\nroute = "R1"\nafter = "B"'], {"T1": ["A 08:00:00", "B 08:10:00 08:10:30"], "T2": T2}),
+]
+
+
+@pytest.mark.parametrize("actions, feed", EXAMPLES)
+def test_the_examples_of_the_page_for_analysts(room: Room, actions: list[str], feed: dict[str, list[str]]) -> None:
+    (room.folder / "feed").mkdir()
+    room.write("feed/stops.txt", "stop_id", [["A"], ["B"], ["C"]])
+    room.write("feed/routes.txt", "route_id", [["R1"], ["R2"]])
+    room.write("feed/calendar.txt", *helpers.CALENDAR)
+    room.write("feed/trips.txt", "route_id,service_id,trip_id", [["R1", "M", "T1"], ["R2", "M", "T2"]])
+    calls = [(trip, number, *call.split()) for trip, way in (("T1", T1), ("T2", T2)) for number, call in enumerate(way)]
+    times = [[trip, time, time, stop, number] for trip, number, stop, time in calls]
+    room.write("feed/stop_times.txt", helpers.STOP_TIMES, times)
+    assert made(room, *actions)[0] == feed
 
 
 FAULTS = [

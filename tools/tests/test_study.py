@@ -13,12 +13,16 @@ from typing import Any, Callable
 import pytest
 
 from helpers import CALENDAR, STOP_TIMES, Room
+from ttm_tools.engine import Run
 from ttm_tools.faults import BadInput
 from ttm_tools.files import sum_of
-from ttm_tools.study.cluster import Means, ranges
-from ttm_tools.study.cutting import Costs, Part, shape_of
+from ttm_tools.study.cluster import Means, ranges, write_task
+from ttm_tools.study.cutting import Costs, Part, parts_for, shape_of, study_key
+from ttm_tools.study.inputs import make_inputs
+from ttm_tools.study.stages import Folder
 from ttm_tools.study.study_file import read_study
 from ttm_tools.study.template import page, template
+from ttm_tools.study.ttm import version_of
 from ttm_tools.study.wishes import PartWish
 from ttm_tools.study.work import make_study
 
@@ -46,6 +50,7 @@ people = "people.csv"
 files = ["cut.csv"]
 [results]
 csv = true
+page = false
 [parts]
 count = 4
 """
@@ -171,15 +176,15 @@ def test_parts_of_any_number_and_processes_give_the_same_results(place: Place) -
 
 
 def test_what_is_done_is_not_done_again_and_what_changed_is(place: Place) -> None:
-    path = place.lay_out(STUDY.replace("count = 4", "count = 4\nkeep = true"))
+    path = place.lay_out(NO_MAPS.replace("count = 4", "count = 4\nkeep = true"))
 
     def stages() -> list[str]:
         _, told, status = place.ran("study", path)
         assert status == 0, told
         return [line.removesuffix(" ..") for line in told.splitlines() if line.endswith(" ..")]
 
-    before = ["feed", "scenarios", "walks", "origins", "opportunities", "told"]
-    results = ["access", "equity", "compare_cut", "maps", "report"]
+    before = ["feed", "scenarios", "walks", "origins", "counted", "opportunities", "people", "days"]
+    results = ["access", "equity", "compare_cut", "report"]
     assert stages() == [*before, "matrix", *results]
     notes = (place.folder / "nine/study.json").read_bytes()
     assert stages() == []
@@ -187,9 +192,9 @@ def test_what_is_done_is_not_done_again_and_what_changed_is(place: Place) -> Non
     (place.folder / "nine/access.csv").write_text("spoilt\n")
     assert stages() == ["access"]
     place.write("people.csv", "stop_id,residents", [[stop, 5] for stop in STOPS])
-    assert stages() == ["equity", "report"]
+    assert stages() == ["people", "equity", "report"]
     place.write("cut.csv", "action,id,seconds", [["remove_route", "R", ""]])
-    assert stages() == ["scenarios", "told", "matrix", *results]
+    assert stages() == ["scenarios", "days", "matrix", *results]
 
 
 def test_a_part_of_other_inputs_or_with_other_bytes_is_never_taken(place: Place, program: str) -> None:
@@ -248,7 +253,7 @@ def test_verification_computes_rows_again_and_tells_what_was_changed(place: Plac
     make_study(read_study(place.lay_out(NO_MAPS)), place.folder / "nine", Means(2))
     folder = place.path("nine")
     told = (
-        "sums: 19 files are as study.json says\nrows: those of 1 of 9 origins, drawn by --seed 7, have the same bytes\n"
+        "sums: 21 files are as study.json says\nrows: those of 1 of 9 origins, drawn by --seed 7, have the same bytes\n"
     )
     assert place.ran("study", "--verify", folder, "--seed", "7") == ("", told, 0)
     (place.folder / "nine/access.csv").write_text("spoilt\n")
@@ -291,8 +296,8 @@ def test_wrong_words_of_a_study_are_told_with_their_line_and_the_nearest_name(ba
         ("csv = true", "within = 900"): "line 18: within '900' is none of limits of [run]; allowed: 600, 1800",
         ("csv = true", 'decay = "linear"'): "line 18: decay 'linear' needs decay_value, minutes above 0",
         ("csv = true", 'decay = "steep"'): "line 18: decay 'steep' isn't one of",
-        ("count = 4", "count = 0"): "line 20: count '0' isn't one; allowed: a whole number from 1 to 9,999",
-        ("count = 4", "count = "): "is no TOML file: Invalid value (at line 20, column 9)",
+        ("count = 4", "count = 0"): "line 21: count '0' isn't one; allowed: a whole number from 1 to 9,999",
+        ("count = 4", "count = "): "is no TOML file: Invalid value (at line 21, column 9)",
         ("[feed]\n", "[feed]\nready = true\nrepair = true\n"): "line 5: repair doesn't go with ready; allowed: one of",
     }
     for (old, new), told in cases.items():
@@ -338,6 +343,34 @@ def test_arrays_name_the_parts_that_are_missing() -> None:
     assert Part(12, ["A"], "").matrix == Path("parts/0012/matrix.csv")
 
 
-def test_one_part_is_computed_where_the_folder_says_so(place: Place) -> None:
-    words = ["study", "--part", "1", place.path("nine")]
-    assert place.ran(*words)[1].startswith(f"ttm-tools study: {place.path('nine')}")
+def test_one_part_is_computed_where_the_folder_says_so(place: Place, monkeypatch: pytest.MonkeyPatch) -> None:
+    study = read_study(place.lay_out(NO_MAPS.replace("count = 4", "count = 4\nkeep = true")))
+    make_study(study, place.folder / "nine", Means(2))
+    folder, words = place.folder / "nine", ["study", "--part", "3", place.path("nine")]
+    told = f"ttm-tools study: {folder}: is no folder of a study with parts to compute: no parts/run.json\n"
+    assert place.ran(*words) == ("", told, 1)
+    inputs = {"words": json.loads((folder / "study.json").read_text())["run"]}
+    part = folder / "parts/0003"
+    wanted = {name: (part / name).read_bytes() for name in ("matrix.csv", "key")}
+    monkeypatch.chdir(folder)
+    known = parts_for(STOPS, 4, key_of_study(folder))
+    assert [it.key for it in known] == [
+        json.loads((folder / f"parts/000{n}/key").read_text())["key"] for n in range(1, 5)
+    ]
+    write_task(Run(**inputs["words"]), 4, key_of_study(folder), version_of(os.environ["TTM_PROGRAM"]))
+    assert place.ran(*words) == ("", "", 0)
+    (part / "key").unlink()
+    (part / "matrix.csv").unlink()
+    assert place.ran(*words) == ("", "", 0)
+    assert {name: (part / name).read_bytes() for name in wanted} == wanted
+    write_task(Run(**inputs["words"]), 4, key_of_study(folder), ["ttm 0.0.1"])
+    (part / "key").unlink()
+    _, said, status = place.ran(*words)
+    assert (status, "and the study's ttm is another one" in said, (part / "told.txt").exists()) == (1, True, True)
+    assert place.ran("study", "--part", "5", place.path("nine"))[1].endswith(": has no part 5, but 1 to 4\n")
+
+
+def key_of_study(folder: Path) -> str:
+    """The sum of a study's inputs, words and version, as its stage of days has it."""
+    inputs = make_inputs(read_study(str(folder.with_suffix(".toml"))), Folder(Path(".")))
+    return study_key(inputs, version_of(os.environ["TTM_PROGRAM"]))

@@ -24,7 +24,7 @@ a point's of a file before, those of its file begin with the file's name and a c
 
 Walks are those of ttm-tools walks, straight lines or along streets; a point has no entrances. A point without any stop
 in reach is told. ttm takes 65,535 stops, stations and points, and 4,000,000 walks: more are told before anything is
-written. Memory: some 150 MB, and 150 bytes for each walk."""
+written. Memory: some 150 MB, 150 bytes for each walk, and with --streets 800 for each node of the ways."""
 
 
 def describe(parser: argparse.ArgumentParser) -> None:

@@ -22,12 +22,13 @@ it; --option is handed on to sbatch, or to parallel, such as --option partition=
 ends, and the same command waits for it.
 
 --verify FOLDER looks at the sums of all that is in a study's folder, computes a drawn tenth of the rows again, and
-compares their bytes. Memory: what ttm takes, and some 300 MB."""
+compares their bytes. Memory: what ttm takes for so many parts at once, and then what map, page and compare take."""
 
 
 def describe(parser: argparse.ArgumentParser) -> None:
     parser.add_argument("study", metavar="STUDY", nargs="?", help="the study's file, or with --part its folder")
-    parser.add_argument("--new", action="store_true", help="print a file with a comment for each field")
+    told = "print a file with a comment for each field, to begin with (without it, a study is made)"
+    parser.add_argument("--new", action="store_true", help=told)
     add_text(parser, "--out", "FOLDER", "the study's folder", without="the file's name without .toml, beside it")
     told = "how many parts run at once on this machine"
     add_number(parser, "--workers", told, "processes", (1, 1024), without="one on each processor")
@@ -59,7 +60,6 @@ def run(words: argparse.Namespace) -> int:
 
         sys.stdout.write(template())
         return 0
-    needs("h5py")
     from ..study.cluster import Means, one_part
     from ..study.cutting import processors
     from ..study.study_file import read_study
@@ -68,6 +68,7 @@ def run(words: argparse.Namespace) -> int:
     if words.part is not None:
         one_part(Path(words.study), words.part)
         return 0
+    needs("h5py")
     if words.verify is not None:
         from ..study.verify import verify
 

@@ -26,7 +26,7 @@ bridleway or busway where foot says yes (designated, permissive ..), or trunk wi
 No motorways; not where foot is no, private or use_sidepath, nor where access is no or private and foot doesn't allow
 it. oneway:foot, foot:forward and foot:backward count; oneway is for vehicles. Stops and entrances are put on the
 nearest way. Those that are farther from it than --near are told, and joined to it by a straight line with its detour.
-Memory: some 300 bytes for each node of the ways while they are read, and 100 for each footpath."""
+Memory: some 100 MB, 150 bytes for each footpath, and with --streets 800 for each node of the ways."""
 
 
 def describe(parser: argparse.ArgumentParser) -> None:

@@ -23,10 +23,10 @@ from ..files import remove
 from ..parts import origins_in
 from .cutting import PARTS, Part, parts_for, processors
 from .running import Failed, shown
-from .stages import PACKAGE, as_text, say, write_settled
+from .stages import PACKAGE, TASK, as_text, say, write_settled
 from .ttm import Running, version_of, with_origins
 
-RUN, SCRIPT, JOB = f"{PARTS}/run.json", f"{PARTS}/one_part.sh", f"{PARTS}/job"
+SCRIPT, JOB = f"{PARTS}/one_part.sh", f"{PARTS}/job"
 SECONDS_BETWEEN_LOOKS = 2.0
 SECONDS_FOR_FILES = 30.0  # until files of another host are seen here
 NO_LINE = "no matrix and no line: what its machine told is in "
@@ -79,7 +79,7 @@ def write_task(run: Run, parts: int, key: str, version: Sequence[str]) -> None:
     """Writes what a part's machine has to know."""
     facts = {**vars(run), "files": {name: str(path) for name, path in run.files.items()}}
     known = {"run": facts, "parts": parts, "key": key, "version": list(version)}
-    write_settled(Path(RUN), as_text(known))
+    write_settled(Path(TASK), as_text(known))
     names = {"PYTHONPATH": str(PACKAGE.parent), "TTM_PROGRAM": os.path.abspath(program_at(None))}
     own = " ".join(f"{name}={shlex.quote(value)}" for name, value in names.items())
     words = f"{shlex.quote(sys.executable)} -m ttm_tools study --part"
@@ -89,33 +89,41 @@ def write_task(run: Run, parts: int, key: str, version: Sequence[str]) -> None:
     os.chmod(SCRIPT, 0o755)
 
 
+def task_known() -> dict[str, Any]:
+    """What is to be computed; nothing where no study asks for it any more."""
+    try:
+        return dict(json.loads(Path(TASK).read_text(encoding="utf-8")))
+    except (OSError, ValueError):
+        return {}
+
+
 def one_part(folder: Path, number: int) -> None:
     """Computes a part where a study's folder says so; what goes wrong is noted beside it."""
+    if not folder.is_dir():
+        raise BadInput(folder, "is no folder of a study")
     with contextlib.chdir(folder):
-        try:
-            known: dict[str, Any] = json.loads(Path(RUN).read_text(encoding="utf-8"))
-            run = Run(**known["run"])
-            parts = parts_for(origins_in(str(run.files["origins"])), known["parts"], known["key"])
-        except (OSError, ValueError, KeyError, TypeError):
-            raise BadInput(folder, f"is no folder of a study with parts to compute: no {RUN}") from None
+        known = task_known()
+        if not known:
+            raise BadInput(folder, f"is no folder of a study with parts to compute: no {TASK}")
+        run = Run(**known["run"])
+        parts = parts_for(origins_in(str(run.files["origins"])), known["parts"], known["key"])
         if not 1 <= number <= len(parts):
             raise BadInput(folder, f"has no part {number}, but 1 to {len(parts)}")
         part = parts[number - 1]
         if part.is_done():
             return
         part.begin()
-        with contextlib.suppress(KeyError):
-            run = with_origins(run, str(part.origins_file), int(os.environ["SLURM_CPUS_PER_TASK"]))
-        told = computed(with_origins(run, str(part.origins_file), run.workers), part, known["version"])
+        threads = int(os.environ.get("SLURM_CPUS_PER_TASK", "1"))
+        told = computed(with_origins(run, str(part.origins_file), threads), part, known)
         if told is not None:
             write_settled(part.told_file, told + "\n")
             raise BadInput(part.folder, told)
 
 
-def computed(run: Run, part: Part, version: Sequence[str]) -> str | None:
+def computed(run: Run, part: Part, known: dict[str, Any]) -> str | None:
     """Runs a part with the version of `ttm` that the study has; gives the line that tells why there is no matrix."""
     own = version_of(program_at(None))
-    if own != list(version):
+    if own != known["version"]:
         return f"{program_at(None)} is {own[0]}, and the study's ttm is another one, or proved with another toolchain"
     running = Running(run, part.matrix)
     try:
@@ -123,6 +131,9 @@ def computed(run: Run, part: Part, version: Sequence[str]) -> str | None:
     except BaseException:
         running.stop()
         raise
+    if told is None and task_known() != known:
+        remove(part.matrix)
+        return "the study's inputs were made anew meanwhile"
     if told is None:
         part.finish()
     return told

@@ -3,12 +3,13 @@
 import json
 import math
 import os
+import socket
 import time
 from dataclasses import asdict, dataclass, replace
 from pathlib import Path
 from typing import Any, Sequence
 
-from ..files import remove, sum_of
+from ..files import is_running, output, remove, sum_of
 from ..parts import origins_in, parts_of
 from ..records import write_rows
 from .inputs import ORIGINS, Inputs
@@ -74,7 +75,10 @@ class Part:
         self.folder.mkdir(parents=True, exist_ok=True)
         for path in (self.folder / "key", self.told_file, self.matrix):
             remove(path)
-        with open(self.origins_file, "wb") as file:
+        for path in self.folder.glob(f".part.*.{socket.gethostname()}.*"):
+            if not is_running(int(path.name.split(".")[2])):
+                remove(path)
+        with output(str(self.origins_file)) as file:
             write_rows(file, ["stop_id"], [[stop] for stop in self.origins])
 
     def finish(self) -> None:

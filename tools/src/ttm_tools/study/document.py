@@ -47,6 +47,10 @@ class Document:
         body = "".join("<tr>" + "".join(map(data, row)) + "</tr>" for row in rows)
         self.body.append(f"<table><thead><tr>{head}</tr></thead><tbody>{body}</tbody></table>")
 
+    def link(self, text: str, path: str) -> None:
+        self.markdown.append(f"{plain(text)} [{plain(path)}]({path})")
+        self.body.append(f'<p>{html.escape(text)} <a href="{html.escape(path)}">{html.escape(path)}</a></p>')
+
     def picture(self, path: str, text: str) -> None:
         self.markdown.append(f"![{plain(text)}]({path})")
         self.body.append(f'<p><img src="{html.escape(path)}" alt="{html.escape(text)}"></p>')

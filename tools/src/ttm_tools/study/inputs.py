@@ -12,13 +12,14 @@ from typing import Any, Callable, Sequence
 from ..engine import Run
 from ..faults import BadInput
 from ..feed import Stops, read_stops
-from ..measures.opportunities import called, columns_of, read_counts
+from ..measures.opportunities import OWN_NAME, Counts, called, columns_of, read_counts
 from ..parts import origins_in, origins_of_feed
 from ..plans import make as plans
 from ..plans.scenario_files import TODAY
 from ..points import read_points, study as points
+from ..points.table import plain
 from ..prepare.clip import Clip
-from ..records import Rounded, shown, write_rows
+from ..records import Rounded, rows as table_rows, shown, write_rows
 from ..walks import Pace, Walks, read_walks, told as what_is_told, walks_of
 from .stages import Folder, Record, Stage, room, sums_of
 from .wishes import FeedWish, Study
@@ -26,7 +27,7 @@ from .wishes import FeedWish, Study
 FEED, PLANNED, POINTS = "inputs/feed", "inputs/planned", "inputs/points"
 FOOTPATHS, ORIGINS, OPPORTUNITIES = "inputs/footpaths.csv", "inputs/origins.csv", "inputs/opportunities.csv"
 SCENARIOS = "inputs/scenarios"
-COUNTED = "opportunities"  # the column of `ttm`
+COUNTED, PEOPLE = "inputs/counted/opportunities.csv", "inputs/people.csv"
 BASE = "base"  # what `ttm` calls the feed as it is
 
 
@@ -37,7 +38,7 @@ class Inputs:
     run: Run
     base: str  # the scenario that others are compared with
     left_out: tuple[str, ...]  # scenarios of the run that nobody asks for
-    tables: list[str]  # files of opportunities
+    destinations: list[str]  # points at which journeys end; none where all stops are shown
     records: dict[str, Record]
 
     @property
@@ -116,6 +117,23 @@ class Maker:
         has_numbers = own is not None and bool(number_columns(own))
         return [*([own] if own and has_numbers else []), *map(self.study.at, self.study.opportunities.files)]
 
+    def destinations(self) -> list[str]:
+        """The points at which journeys end, where there are points."""
+        return origins_in(f"{POINTS}/destinations.csv") if self.study.points.all else []
+
+    def counts(self) -> None:
+        """What is counted, by the tools and by `ttm`, and for whom."""
+        tables, wish = self.tables(), self.study.opportunities
+        columns = counted_columns(self.study, tables)
+        if columns:
+            self.do(counts_stage(self, tables, columns, self.destinations() or origins_of_feed(self.feed)))
+            column = wish.column or (columns[0] if len(columns) == 1 else None)
+            if column is not None:
+                self.do(opportunities_stage(self, column))
+                self.files["opportunities"] = OPPORTUNITIES
+        if wish.people:
+            self.do(people_stage(self, self.study.at(wish.people)))
+
 
 def make_inputs(study: Study, folder: Folder) -> Inputs:
     """Does all stages that come before the run."""
@@ -125,14 +143,11 @@ def make_inputs(study: Study, folder: Folder) -> Inputs:
     maker.walks()
     maker.do(origins_stage(maker))
     maker.files["origins"] = ORIGINS
-    tables = maker.tables()
-    stage = opportunities_stage(maker, tables)
-    if stage is not None:
-        maker.do(stage)
-        maker.files["opportunities"] = OPPORTUNITIES
+    maker.counts()
     is_planned = study.scenarios.plan is not None
     base, left_out = (TODAY, (BASE,)) if is_planned else (BASE, ())
-    return Inputs(run_of(study, maker.feed, maker.files, scenarios), base, left_out, tables, maker.records)
+    run = run_of(study, maker.feed, maker.files, scenarios)
+    return Inputs(run, base, left_out, maker.destinations(), maker.records)
 
 
 def run_of(study: Study, feed: str, files: dict[str, str], scenarios: Sequence[str]) -> Run:
@@ -287,33 +302,67 @@ def number_columns(path: str) -> list[str]:
         return []
 
 
-def counted_column(study: Study, tables: Sequence[str]) -> str | None:
-    """The column that `ttm` counts: the one that is named, or the only one."""
+def counted_columns(study: Study, tables: Sequence[str]) -> list[str]:
+    """The columns that are counted, in the order of the files."""
     found = [called(name, path) for path in tables for name in columns_of(path)]
-    return study.opportunities.column or (found[0] if len(found) == 1 else None)
+    wish = study.opportunities
+    lost = next((name for name in (*wish.columns, *([wish.column] if wish.column else [])) if name not in found), None)
+    if lost is not None:
+        there = ", ".join(map(shown, found)) or "no columns of numbers"
+        raise BadInput(study.path, f"[opportunities] names a column {shown(lost)}; there are {there}")
+    return [name for name in found if not wish.columns or name in (*wish.columns, wish.column)]
 
 
-def opportunities_stage(maker: Maker, tables: Sequence[str]) -> Stage | None:
-    """What each stop counts for."""
-    column, feed = counted_column(maker.study, tables), maker.feed
-    if column is None:
-        return None
-    chosen = [column]
+def counts_stage(maker: Maker, tables: Sequence[str], columns: Sequence[str], stops: Sequence[str]) -> Stage:
+    """What there is at each place at which journeys end, in one table."""
+    kind = "point of the study" if maker.study.points.all else "stop of the feed"
 
     def make() -> list[str]:
-        stops, rounded = origins_of_feed(feed), Rounded()
-        numbers = read_counts(tables, stops, "stop of the feed", chosen).numbers[:, 0]
+        counts = read_counts(tables, stops, kind, columns)
+        write_counts(COUNTED, stops, counts)
+        return [f"{COUNTED}: {', '.join(map(shown, counts.names))} at {len(stops):,} places"]
+
+    facts = {"stops": maker.stops_sum, "columns": list(columns), "inputs": sums_of(tables)}
+    return Stage("counted", facts, [COUNTED], make)
+
+
+def people_stage(maker: Maker, path: str) -> Stage:
+    """Who lives at each origin."""
+    groups = maker.study.opportunities.groups
+
+    def make() -> list[str]:
+        origins = origins_in(ORIGINS)
+        counts = read_counts([path], origins, "origin of the study", groups)
+        write_counts(PEOPLE, origins, counts)
+        return [f"{PEOPLE}: {', '.join(map(shown, counts.names))} at {len(origins):,} origins"]
+
+    facts = {"origins": maker.records["origins"].outputs, "groups": groups, "inputs": sums_of([path])}
+    return Stage("people", facts, [PEOPLE], make)
+
+
+def write_counts(path: str, stops: Sequence[str], counts: Counts) -> None:
+    lines = ([stop, *map(plain, numbers)] for stop, numbers in zip(stops, counts.numbers.tolist()))
+    with open(path, "wb") as file:
+        write_rows(file, ["stop_id", *counts.names], lines)
+
+
+def opportunities_stage(maker: Maker, column: str) -> Stage:
+    """What `ttm` counts at each place, in whole numbers."""
+    path = COUNTED
+
+    def make() -> list[str]:
+        rounded = Rounded()
         rows = [
-            [stop, rounded.whole(repr(number), OPPORTUNITIES, place, COUNTED, up=False)]
-            for place, (stop, number) in enumerate(zip(stops, numbers.tolist()), 2)
-            if number
+            [stop, rounded.whole(number, path, record, column, up=False)]
+            for record, (stop, number) in table_rows(path, ["stop_id", column])
+            if number != "0"
         ]
         with open(OPPORTUNITIES, "wb") as file:
-            write_rows(file, ["stop_id", COUNTED], rows)
+            write_rows(file, ["stop_id", OWN_NAME], rows)
         whole = f"; {rounded.count:,} numbers with decimals were rounded" if rounded.count else ""
-        return [f"{OPPORTUNITIES}: {shown(chosen[0])} at {len(rows):,} stops{whole}"]
+        return [f"{OPPORTUNITIES}: {shown(column)} at {len(rows):,} places{whole}"]
 
-    facts = {"stops": maker.stops_sum, "column": column, "inputs": sums_of(tables)}
+    facts = {"column": column, "counted": maker.records["counted"].outputs}
     return Stage("opportunities", facts, [OPPORTUNITIES], make)
 
 

@@ -4,6 +4,7 @@ from dataclasses import dataclass
 from pathlib import Path
 
 from ..files import output
+from ..views.lines import planned_of
 from ..views.maps import Sheet, figure_of, picture_of
 from ..views.pictures import Wish
 from .results import Whole, file_names
@@ -67,7 +68,11 @@ def draw(whole: Whole, drawn: Drawn) -> None:
     scenario = drawn.scenario
     wish = Wish(scenario, inputs.base, study.share, study.within, None, study.results.unit, what)
     picture = picture_of(drawn.kind, matrix, stops, drawn.origin, wish)
-    edits = [inputs.edits[name] for name in (inputs.base, scenario) if name in inputs.edits and drawn.is_difference]
-    figure = figure_of(picture, matrix, stops, inputs.feed, Sheet(None, study.about.note, edits=edits), base)
+    edits = [inputs.edits[name] for name in (inputs.base, scenario) if name in inputs.edits]
+    planned = planned_of(inputs.feed, edits, inputs.base, scenario, drawn.is_difference)
+    own = edits if drawn.is_difference else []
+    figure = figure_of(
+        picture, matrix, stops, inputs.feed, Sheet(None, study.about.note, edits=own, planned=planned), base
+    )
     with output(drawn.file) as file:
         figure.savefig(file, format="png", dpi="figure")

@@ -11,6 +11,7 @@ from ..records import records as records_in, shown
 from .document import Document
 
 from .maps import maps_of
+from .page import PAGE
 from .results import ACCESS_TABLE, EQUITY_TABLE, Whole
 from .stages import Record, Stage, sums_of
 from .wishes import Study
@@ -18,7 +19,7 @@ from .wishes import Study
 MARKDOWN, HTML, TOLD = "report.md", "report.html", "inputs/told.txt"
 FEW = 10  # rows of a table of the report
 PROVED = (
-    "Each travel time of the matrix is, for the files in the folder inputs and the words below, the least that the "
+    "Each travel time of the matrix is, for the files in the folder inputs and the words above, the least that the "
     "share of departures attains over all journeys of at most so many vehicles; it is the contract of ttm, and proved. "
     "So is that the rows of the whole are those of its parts, whichever way they were run.",
     "Not proved: what was done to make the inputs (mending, walks, points, plans), how parts were joined, and all "
@@ -46,13 +47,13 @@ def report_stage(whole: Whole, records: dict[str, Record], version: Sequence[str
 
 
 def sources_of(study: Study) -> dict[str, str]:
-    """The files that a study's file names, with their sums."""
+    """The files that a study's file names, by the paths that it gives, with their sums."""
     paths = [*study.feed.files, *study.points.all, *study.opportunities.files, *study.scenarios.files]
     more = [study.feed.area, study.run.origins, study.walks.streets, study.walks.table]
     more += [study.opportunities.people, study.scenarios.plan]
-    return {
-        name: was for path in [*paths, *(it for it in more if it)] for name, was in sums_of([study.at(path)]).items()
-    }
+    named = dict.fromkeys([*paths, *(it for it in more if it)])
+    found = [(Path(path).parent / name, was) for path in named for name, was in sums_of([study.at(path)]).items()]
+    return {str(path): was for path, was in found}
 
 
 def report_of(whole: Whole, records: dict[str, Record], version: Sequence[str]) -> Document:
@@ -92,11 +93,13 @@ def write_figures(made: Document, whole: Whole, records: dict[str, Record]) -> N
         if f"compare_{name}" in records:
             made.heading(f"{shown(scenario)} beside {shown(whole.inputs.base)}", 3)
             made.items(records[f"compare_{name}"].lines)
-            write_losers(made, f"compare_{name}.csv")
+            write_changes(made, f"compare_{name}.csv")
     if "equity" in records:
         made.heading("How it is spread over people", 3)
         header, *lines = first_rows(EQUITY_TABLE, 4 * FEW)
         made.table(header, lines)
+    if "page" in records:
+        made.link("To look at in a browser:", PAGE)
     if "maps" in records:
         made.heading("Maps", 3)
         for it in maps_of(whole):
@@ -120,8 +123,18 @@ def first_rows(path: str, count: int) -> list[list[str]]:
     return [[shown(it) for it in fields] for _, fields in itertools.islice(records_in(path), count + 1)]
 
 
-def write_losers(made: Document, path: str) -> None:
-    header, *lines = first_rows(path, FEW)
-    if lines:
-        made.paragraph(f"Those that lose most, of {path}:")
-        made.table(header, lines)
+def write_changes(made: Document, path: str) -> None:
+    """The origins that lose most, and those that gain most: the table has losers first, and then winners."""
+    _, header = next(records_in(path))
+    place = header.index("change")
+    for what, sign in (("loses", "-"), ("gains", "")):
+        wanted = (fields for _, fields in records_in(path) if is_change(fields[place], sign))
+        found = list(itertools.islice(wanted, FEW))
+        if found:
+            made.paragraph(f"Who {what} most ({path} has all):")
+            made.table(header, [[shown(it) for it in fields] for fields in found])
+
+
+def is_change(text: str, sign: str) -> bool:
+    """Whether a text is a number of a sign, and not 0."""
+    return text.removeprefix(sign).isdecimal() and text != "0" and text.startswith(sign)

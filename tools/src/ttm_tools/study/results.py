@@ -18,9 +18,9 @@ from ..records import shown
 from ..views import equity
 from ..views.access import ACCESS, LONG, measured, write_access
 from ..views.differences import summary, write_origins, write_pairs
-from .inputs import Inputs
+from .inputs import COUNTED, PEOPLE, Inputs
 from .joining import MATRIX
-from .stages import Folder, Record, Stage, sums_of
+from .stages import Folder, Record, Stage
 from .wishes import Study
 
 ACCESS_TABLE, EQUITY_TABLE, EQUITY_PAGE = "access.csv", "equity.csv", "equity.md"
@@ -76,8 +76,9 @@ def make_tables(whole: Whole, folder: Folder) -> dict[str, Record]:
     wish, made = whole.study.results, dict[str, Record]()
     if wish.access:
         made["access"] = folder.do(access_stage(whole))
-        if whole.study.opportunities.people:
-            made["equity"] = folder.do(equity_stage(whole, made["access"]))
+        people = whole.inputs.records.get("people")
+        if people is not None:
+            made["equity"] = folder.do(equity_stage(whole, made["access"], people))
     if wish.compare:
         for scenario, name in whole.others.items():
             stage = compare_stage(whole, scenario, name)
@@ -87,12 +88,12 @@ def make_tables(whole: Whole, folder: Folder) -> dict[str, Record]:
 
 def access_stage(whole: Whole) -> Stage:
     """The table of access: all scenarios, shares, opportunities and cutoffs."""
-    study, wish, tables = whole.study, whole.study.results, whole.inputs.tables
+    study, wish, counted = whole.study, whole.study.results, whole.inputs.records.get("counted")
 
     def make() -> list[str]:
         matrix, _ = whole.open()
         stops = Counts([STOPS], np.ones((len(matrix.stops), 1)))
-        counts = read_counts(tables, matrix.stops, "stop of the matrix") if tables else stops
+        counts = read_counts([COUNTED], matrix.stops, "stop of the matrix") if counted else stops
         decay = Decay(wish.decay, wish.decay_value)
 
         def measure(scenario: str, share: Share) -> Floats:
@@ -104,24 +105,23 @@ def access_stage(whole: Whole) -> Stage:
         return [f"{ACCESS_TABLE}: {', '.join(map(shown, counts.names))}"]
 
     words = [wish.decay, wish.decay_value, list(study.cutoffs)]
-    return Stage("access", {"matrix": whole.sum, "words": words, "inputs": sums_of(tables)}, [ACCESS_TABLE], make)
+    facts = {"matrix": whole.sum, "words": words, "counted": counted.outputs if counted else None}
+    return Stage("access", facts, [ACCESS_TABLE], make)
 
 
-def equity_stage(whole: Whole, record: Record) -> Stage:
+def equity_stage(whole: Whole, access: Record, people: Record) -> Stage:
     """How access is spread over people."""
-    study = whole.study
-    people, groups = study.at(study.opportunities.people or ""), study.opportunities.groups
 
     def make() -> list[str]:
         table = read_access(ACCESS_TABLE)
-        counts = read_counts([people], table.origins, f"origin of {ACCESS_TABLE}", groups)
+        counts = read_counts([PEOPLE], table.origins, f"origin of {ACCESS_TABLE}")
         asked = equity.Asked(whole.inputs.base, LOSE, table.kinds)
         for path, form in ((EQUITY_TABLE, equity.CSV), (EQUITY_PAGE, equity.MARKDOWN)):
             with output(path) as file:
                 equity.write_equity(file, equity.measured(table, counts, asked), form)
         return [f"{EQUITY_TABLE}: {', '.join(map(shown, counts.names))}"]
 
-    depends = {"access": record.outputs, "base": whole.inputs.base, "groups": groups, "inputs": sums_of([people])}
+    depends = {"access": access.outputs, "base": whole.inputs.base, "people": people.outputs}
     return Stage("equity", depends, [EQUITY_TABLE, EQUITY_PAGE], make)
 
 

@@ -1,9 +1,11 @@
 """The parts of a study, run by processes of this machine: those that are missing, so many at once."""
 
+import contextlib
+import itertools
 import sys
 import time
 from dataclasses import dataclass
-from typing import Iterator, Sequence
+from typing import Generator, Iterator, Sequence
 
 from .. import progress
 from ..engine import Run
@@ -30,32 +32,49 @@ def run_parts(run: Run, parts: Sequence[Part], at_once: int, threads: int) -> li
     if len(parts) > len(missing) > 0:
         say(f"parts: {len(parts) - len(missing)} of {len(parts)} are there already")
     failed = list[Failed]()
-    ended = ends_of(run, missing, at_once, threads)
-    for it in shown(ended, len(missing)):
-        if it is not None:
-            failed.append(it)
-            say(f"part {it.part.number}: {it.told}")
+    with contextlib.closing(ends_of(run, missing, at_once, threads)) as ended:
+        for it in shown(ended, len(missing)):
+            if it is not None:
+                failed.append(it)
+                say(f"part {it.part.number}: {it.told}")
     return failed
 
 
-def ends_of(run: Run, missing: Sequence[Part], at_once: int, threads: int) -> Iterator[Failed | None]:
-    """What became of each part, as they end; all that run are ended where this is left."""
-    running: dict[int, tuple[Part, Running]] = {}
-    waiting = list(reversed(missing))
-    try:
-        while waiting or running:
-            while waiting and len(running) < at_once:
-                part = waiting.pop()
-                running[part.number] = (part, begun(run, part, threads))
-            over = [number for number, (_, it) in running.items() if it.is_over()]
-            if not over:
-                time.sleep(SECONDS_BETWEEN_LOOKS)
-            for number in over:
-                part, it = running.pop(number)
-                yield ended(part, it)
-    finally:
-        for _, it in running.values():
+class Pool:
+    """The runs that go on, so many at once, and the parts that wait for theirs."""
+
+    def __init__(self, run: Run, missing: Sequence[Part], at_once: int, threads: int) -> None:
+        self.run, self.at_once, self.threads = run, at_once, threads
+        self.waiting = list(reversed(missing))
+        self.running: dict[int, tuple[Part, Running]] = {}
+
+    def fill(self) -> None:
+        """Begins as many runs as there is room for."""
+        while self.waiting and len(self.running) < self.at_once:
+            part = self.waiting.pop()
+            self.running[part.number] = (part, begun(self.run, part, self.threads))
+
+    def over(self) -> list[tuple[Part, Running]]:
+        """The runs that are over, after a while."""
+        numbers = [number for number, (_, it) in self.running.items() if it.is_over()]
+        if not numbers:
+            time.sleep(SECONDS_BETWEEN_LOOKS)
+        return [self.running.pop(number) for number in numbers]
+
+    def stop(self) -> None:
+        for _, it in self.running.values():
             it.stop()
+
+
+def ends_of(run: Run, missing: Sequence[Part], at_once: int, threads: int) -> Generator[Failed | None, None, None]:
+    """What became of each part, as they end; all that run are ended where this is left."""
+    pool = Pool(run, missing, at_once, threads)
+    try:
+        while pool.waiting or pool.running:
+            pool.fill()
+            yield from itertools.starmap(ended, pool.over())
+    finally:
+        pool.stop()
 
 
 def begun(run: Run, part: Part, threads: int) -> Running:

@@ -21,6 +21,7 @@ from ..files import remove, sum_of, written_aside
 RECORDS = "stages"
 LOCK = ".lock"
 LOG = "stages/log.jsonl"
+TASK = "parts/run.json"  # what other machines compute, as long as no input is made anew
 PACKAGE = Path(__file__).resolve().parents[1]
 
 
@@ -32,6 +33,13 @@ class Stage:
     depends: dict[str, Any]  # all that its outputs depend on: words, and sums of files
     outputs: Sequence[str]  # files and folders, from the study's folder on
     make: Callable[[], list[str]]  # writes them, and says what was done
+    of_tools: bool = True  # whether other tools may make other outputs: done anew, then
+
+    @property
+    def key(self) -> str:
+        """The sum of all that the outputs depend on."""
+        tools = sum_of_tools() if self.of_tools else ""
+        return key_of({"stage": self.name, "tools": tools, "depends": self.depends})
 
 
 @dataclass(frozen=True)
@@ -67,13 +75,10 @@ def files_in(path: Path) -> list[Path]:
 
 def sums_of(paths: Sequence[str | Path]) -> dict[str, str]:
     """The sums of files, and of all files of folders, by their names without the folders in which these lie."""
-    made = {}
-    for path in map(Path, paths):
-        for file in files_in(path):
-            name = path.name if file == path else str(Path(path.name) / file.relative_to(path))
-            while name in made:
-                name += "'"
-            made[name] = sum_of(file)
+    made: dict[str, str] = {}
+    for path, file in [(path, file) for path in map(Path, paths) for file in files_in(path)]:
+        name = path.name if file == path else str(Path(path.name) / file.relative_to(path))
+        made[name + "'" * sum(it.rstrip("'") == name for it in made)] = sum_of(file)
     return made
 
 
@@ -127,12 +132,13 @@ class Folder:
 
     def do(self, stage: Stage) -> Record:
         """Does a stage, unless it was done."""
-        key = key_of({"stage": stage.name, "tools": sum_of_tools(), "depends": stage.depends})
+        key = stage.key
         found = self.record(stage.name)
         if found is not None and self.is_done(stage, key):
             return found
         say(f"{stage.name} ..")
-        self.forget(stage.name)
+        for path in (TASK, f"{RECORDS}/{stage.name}.json"):
+            self.at(path).unlink(missing_ok=True)
         for name in stage.outputs:
             remove(self.at(name))
             self.at(name).parent.mkdir(parents=True, exist_ok=True)
@@ -149,9 +155,6 @@ class Folder:
         for line in lines:
             say(f"  {line}")
         return record
-
-    def forget(self, name: str) -> None:
-        (self.path / RECORDS / f"{name}.json").unlink(missing_ok=True)
 
 
 @contextlib.contextmanager

@@ -115,16 +115,19 @@ def agree(study: Study, entries: dict[str, Entry]) -> None:
         refuse_both(feed, "ready", key)
     refuse_both(walks, "none", "streets", "table")
     if study.points.all:
-        for key in ("none", "table"):
-            if walks.values.get(key):
-                raise walks.fault("doesn't go with [points], whose walks are made", key)
-        if run.has("origins"):
-            raise run.fault("doesn't go with [points], at which journeys begin", "origins")
-        for begin, end in (("origins", "destinations"), ("destinations", "origins")):
-            if not study.points.files and not points.values.get(end):
-                raise points.fault(f"without files, {begin} needs {end}", begin)
+        agree_on_points(study, run, walks, points)
     refuse_both(entries["scenarios"], "files", "plan")
     agree_on_results(study, entries["results"], entries["opportunities"])
+
+
+def agree_on_points(study: Study, run: Entry, walks: Entry, points: Entry) -> None:
+    for key in ("none", "table"):
+        if walks.values.get(key):
+            raise walks.fault("doesn't go with [points], whose walks are made", key)
+    if run.has("origins"):
+        raise run.fault("doesn't go with [points], at which journeys begin", "origins")
+    if not study.points.files and not (study.points.origins and study.points.destinations):
+        raise points.fault("needs files, or origins and destinations: journeys begin and end somewhere")
 
 
 def agree_on_results(study: Study, results: Entry, opportunities: Entry) -> None:

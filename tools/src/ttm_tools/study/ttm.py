@@ -2,7 +2,6 @@
 its name when it is whole.
 """
 
-import contextlib
 import ctypes
 import os
 import re
@@ -18,7 +17,7 @@ from typing import Sequence
 
 from ..engine import EngineFault, Run, program_at
 from ..faults import one_line
-from ..files import written_aside
+from ..files import remove
 from .stages import settle
 
 DIES = 1  # PR_SET_PDEATHSIG of Linux
@@ -81,15 +80,18 @@ def fault_of(told: bytes, status: int) -> str:
     return one_line("; ".join(lines[-2:]) if lines[-1].startswith("ttm: column ") else lines[-1])
 
 
+def aside_of(path: Path) -> Path:
+    """Where a file is written until it is whole: by this process of this host, since hosts may share the folder."""
+    return path.with_name(f".part.{os.getpid()}.{socket.gethostname()}.{path.name}")
+
+
 class Running:
     """A run that goes on: its matrix is written aside, and gets its name when `end` finds it whole."""
 
     def __init__(self, run: Run, out: Path, words: Sequence[str] = ()) -> None:
         self.out, self.begin = out, time.monotonic()
-        self.aside = out.with_name(f"{socket.gethostname()}.{out.name}")  # hosts may share the folder
-        self.room = contextlib.ExitStack()
-        self.made = self.room.enter_context(written_aside(self.aside))
-        self.told = self.room.enter_context(tempfile.TemporaryFile())
+        self.made = aside_of(out)
+        self.told = tempfile.TemporaryFile()
         called = [program_at(None), *run.words(), *words]
         with open(self.made, "wb") as matrix:
             self.process = subprocess.Popen(called, stdout=matrix, stderr=self.told, preexec_fn=die_with_parent)
@@ -102,9 +104,9 @@ class Running:
         status = self.process.wait()
         if status == 0:
             settle(self.made)
-            self.room.close()
-            os.replace(self.aside, self.out)
+            os.replace(self.made, self.out)
             settle(self.out.parent)
+            self.told.close()
             return None
         self.told.seek(0)
         told = fault_of(self.told.read(), status)
@@ -116,10 +118,5 @@ class Running:
         if self.process.poll() is None:
             self.process.kill()
             self.process.wait()
-        with contextlib.suppress(Dropped):
-            with self.room:
-                raise Dropped
-
-
-class Dropped(Exception):
-    """Ends what is written aside without a name."""
+        remove(self.made)
+        self.told.close()

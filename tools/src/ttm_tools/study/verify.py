@@ -1,6 +1,7 @@
 """A study looked at once more: the sums of all its files, and a drawn tenth of its rows, computed again."""
 
 import contextlib
+import itertools
 import os
 import random
 from dataclasses import replace
@@ -64,9 +65,8 @@ def compare_again(run: Run, origins: Sequence[str], kept: Sequence[Matrix]) -> N
         run_ttm(replace(run, files={**run.files, "origins": str(path)}), out)
         again = CsvMatrix(str(out))
         for matrix in kept:
-            for scenario in matrix.scenarios:
-                for share in matrix.shares:
-                    refuse_other(matrix, again, (scenario, share), origins)
+            for key in itertools.product(matrix.scenarios, matrix.shares):
+                refuse_other(matrix, again, key, origins)
 
 
 def refuse_other(matrix: Matrix, again: CsvMatrix, key: tuple[str, Any], origins: Sequence[str]) -> None:

@@ -107,8 +107,14 @@ class OpportunityWish:
         '["jobs.csv"]',
         (),
     )
+    columns: tuple[str, ...] = told(
+        TEXTS, "the columns that are counted in tables and page; without it, all", '["jobs", "schools"]', ()
+    )
     column: str | None = told(
-        TEXT, "the column that ttm counts as access; without it the only one, else 1 for each stop", '"jobs"', None
+        TEXT,
+        "the column that ttm counts as access; without it, the only one of these, else 1 for each stop",
+        '"jobs"',
+        None,
     )
     people: str | None = told(
         FILE, "a table with stop_id (or id) and numbers of residents by origin, for equity", '"people.csv"', None

@@ -13,12 +13,14 @@ from ..feed import read_stops
 from ..files import is_running, remove
 from ..matrices import open_matrix
 from ..parts import origins_in
+from ..views.page.document import LEAFLET, leaflet_files
 from .cluster import Means, run_elsewhere
 from .cutting import PARTS, cut_of, parts_noted, study_key, trial
-from .inputs import POINTS, Inputs, make_inputs
+from .inputs import Inputs, make_inputs
 from .joining import CSV, MATRIX, join_parts
 from .maps import make_maps
 from .notes import write_notes
+from .page import make_page
 from .report import TOLD, report_stage
 from .results import Whole, make_tables
 from .running import refuse_failed, run_parts
@@ -26,6 +28,7 @@ from .stages import RECORDS, Folder, Record, Stage, held, log, room
 from .ttm import version_of
 from .wishes import Study
 
+FORM = 1  # of how the parts are joined: the rows are ttm's, so other tools don't change them
 OF_ONE_ORIGIN = ("origins: ", "rows: ", "cells: ", "bytes of ")  # what the report of a trial says of itself
 ASIDE = re.compile(r"\.part\.([0-9]+)\..*")
 
@@ -41,7 +44,7 @@ def make_study(study: Study, out: Path, means: Means) -> None:
         inputs = make_inputs(study, folder)
         refuse_wishes(study, inputs)
         key = study_key(inputs, version)
-        records = {"told": folder.do(told_stage(inputs, key))}
+        records = {"days": folder.do(told_stage(inputs, key))}
         records["matrix"] = folder.do(matrix_stage(study, inputs, key, version, means))
         if not study.parts.keep:
             remove(Path(PARTS))
@@ -55,20 +58,26 @@ def make_study(study: Study, out: Path, means: Means) -> None:
 def packages_of(study: Study) -> list[str]:
     """What the results need, so that a lack is told before the run."""
     wish = study.results
+    pictures = [*(["matplotlib"] if wish.maps else []), *(["jinja2"] if wish.page else [])]
     streets = ["osmium", "scipy"] if study.walks.streets else []
-    return ["h5py", *(["matplotlib"] if wish.maps else []), *(["shapely"] if study.feed.area else []), *streets]
+    return ["h5py", *pictures, *(["shapely"] if study.feed.area else []), *streets]
 
 
 def refuse_wishes(study: Study, inputs: Inputs) -> None:
-    """Tells before the run what maps couldn't show after it."""
-    if not study.results.maps:
+    """Tells before the run what maps and the page couldn't show after it."""
+    if study.results.page:
+        leaflet_files(LEAFLET)
+    if not (study.results.maps or study.results.page):
         return
     origins = set(origins_in(str(inputs.run.files["origins"])))
     lost = next((stop for stop in study.results.map_origins if stop not in origins), None)
     if lost is not None:
         raise BadInput(study.path, f"map_origins of [results]: {lost} is no origin of the study")
     if not read_stops(inputs.feed).placed.any():
-        raise BadInput(f"{inputs.feed}/stops.txt", "no stop has stop_lat and stop_lon: say maps = false in [results]")
+        raise BadInput(
+            f"{inputs.feed}/stops.txt",
+            "no stop has stop_lat and stop_lon: say maps = false and page = false in [results]",
+        )
 
 
 def make_results(whole: Whole, folder: Folder, records: dict[str, Record], version: list[str]) -> dict[str, Record]:
@@ -76,6 +85,8 @@ def make_results(whole: Whole, folder: Folder, records: dict[str, Record], versi
     made = make_tables(whole, folder)
     maps = make_maps(whole, folder)
     made |= {"maps": maps} if maps else {}
+    page = make_page(whole, folder)
+    made |= {"page": page} if page else {}
     made["report"] = folder.do(report_stage(whole, {**records, **made}, version))
     return made
 
@@ -103,7 +114,7 @@ def told_stage(inputs: Inputs, key: str) -> Stage:
         Path(TOLD).write_text("".join(line + "\n" for line in lines), encoding="utf-8")
         return [line for line in lines if line.startswith(("runs in scenario", "warning"))]
 
-    return Stage("told", {"study": key}, [TOLD], make)
+    return Stage("days", {"study": key}, [TOLD], make)
 
 
 def matrix_stage(study: Study, inputs: Inputs, key: str, version: list[str], means: Means) -> Stage:
@@ -118,16 +129,11 @@ def matrix_stage(study: Study, inputs: Inputs, key: str, version: list[str], mea
         else:
             failed = run_parts(inputs.run, parts, shape.at_once, shape.threads)
         refuse_failed(failed, len(parts))
-        return join_parts(parts, with_csv, inputs.left_out, shown_columns(inputs))
+        return join_parts(parts, with_csv, inputs.left_out, inputs.destinations)
 
     depends = {"study": key, "origins": inputs.records["origins"].outputs, "csv": with_csv}
-    return Stage("matrix", depends, [MATRIX, *([CSV] if with_csv else [])], make)
-
-
-def shown_columns(inputs: Inputs) -> list[str]:
-    """The points at which journeys end, where there are points: the matrix shows these alone."""
-    destinations = Path(POINTS) / "destinations.csv"
-    return origins_in(str(destinations)) if "points" in inputs.records else []
+    depends |= {"shown": inputs.destinations, "left_out": inputs.left_out, "form": FORM}
+    return Stage("matrix", depends, [MATRIX, *([CSV] if with_csv else [])], make, of_tools=False)
 
 
 def sweep(folder: Path, inside_parts: bool) -> None:

@@ -132,7 +132,7 @@ def each_once(begin: Numbers, end: Numbers, forward: Flags, backward: Flags) -> 
 
 
 def read_streets(path: str) -> Streets:
-    """The ways of a file that may be walked. It takes some 300 bytes for each node of theirs while it reads."""
+    """The ways of a file that may be walked."""
     needs("osmium")
     import osmium
 

@@ -1,0 +1,66 @@
+"""The page of a study: one file to look at, and to send."""
+
+from ..files import output
+from ..matrices import open_matrix
+from ..measures.opportunities import columns_of
+from ..points.study import POINTS
+from ..views.page.make import Wish, page_of
+from .inputs import COUNTED, PEOPLE
+from .joining import MATRIX
+from .results import Whole
+from .stages import Folder, Record, Stage
+
+PAGE = "page.html"
+LEAST, MOST = 1.0, 250.0  # minutes that a limit of the page may have
+SEED = 1  # of the draw of origins where there is no room for all
+
+
+def make_page(whole: Whole, folder: Folder) -> Record | None:
+    """Writes the page, where it is asked for."""
+    return folder.do(page_stage(whole)) if whole.study.results.page else None
+
+
+def page_stage(whole: Whole) -> Stage:
+    study, inputs = whole.study, whole.inputs
+
+    def make() -> list[str]:
+        page = page_of(open_matrix(MATRIX), wish_of(whole))
+        with output(PAGE) as file:
+            page.write(file)
+        ground = page.content.ground
+        told = f"{len(ground.places.identifiers):,} places, travel times from {len(ground.rows):,} of them"
+        return [f"{PAGE}: {told}", *page.frame.told]
+
+    counts = [inputs.records[name].outputs for name in ("counted", "people") if name in inputs.records]
+    texts = [study.title, study.about.note, study.results.unit, list(study.cutoffs)]
+    facts = {"texts": texts, "counts": counts, "run": inputs.sums, "words": inputs.run.words()}
+    return Stage("page", {**whole.depends, **facts}, [PAGE], make)
+
+
+def wish_of(whole: Whole) -> Wish:
+    """What the page is to show."""
+    study, inputs = whole.study, whole.inputs
+    counted = [COUNTED] if "counted" in inputs.records else []
+    people = [PEOPLE] if "people" in inputs.records else []
+    if counted and people and set(columns_of(COUNTED)) & set(columns_of(PEOPLE)):
+        people = []  # they are counted as what is reached
+    cutoffs = [cutoff for cutoff in study.cutoffs if LEAST <= cutoff <= MOST] or [30.0]
+    return Wish(
+        feed=inputs.feed,
+        points=f"{inputs.feed}/{POINTS}" if "points" in inputs.records else None,
+        edits=list(inputs.edits.values()),
+        opportunities=counted,
+        people=people,
+        scenarios=[],
+        base=inputs.base,
+        share=None,
+        cutoffs=cutoffs,
+        origins=None,
+        seed=SEED,
+        unit=study.results.unit,
+        title=study.title,
+        note=" ".join(it for it in (study.about.question, study.about.note) if it) or None,
+        words=" ".join(inputs.run.words()),
+        tiles=None,
+        attribution=None,
+    )
