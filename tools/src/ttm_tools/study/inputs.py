@@ -144,7 +144,7 @@ def make_inputs(study: Study, folder: Folder) -> Inputs:
     maker.do(origins_stage(maker))
     maker.files["origins"] = ORIGINS
     maker.counts()
-    is_planned = study.scenarios.plan is not None
+    is_planned = any(Path(path).name == f"{TODAY}.csv" for path in scenarios)
     base, left_out = (TODAY, (BASE,)) if is_planned else (BASE, ())
     run = run_of(study, maker.feed, maker.files, scenarios)
     return Inputs(run, base, left_out, maker.destinations(), maker.records)
