@@ -5,7 +5,7 @@ without a window, and how long a click takes until the map and the panel show it
     page_trials.py [--clicks N] [--keep FILE] [--picture FILE] [--look WORDS] -- WORDS ..
 
 WORDS are those of `ttm-tools page`, but for --out: the page is written to a folder that is removed. With --keep it is
-left at a path, and with --picture what is shown at --look (what stands behind # in the address) is written as PNG.
+left at a path; without WORDS the page that lies there is measured. With --picture what is shown at --look (what stands behind # in the address) is written as PNG.
 Needs selenium, chromium and chromedriver; for --picture Pillow.
 """
 
@@ -31,8 +31,8 @@ const [name, done] = arguments, frame = () => new Promise(requestAnimationFrame)
   const shown = performance.now();
   await frame();
   await new Promise((drawn) => setTimeout(drawn));
-  done([shown - begin, performance.now() - begin]);
-})();
+  return [shown - begin, performance.now() - begin];
+})().then(done, (fault) => done(`${fault}`));
 """
 
 
@@ -71,7 +71,10 @@ def clicked(driver: Any, count: int) -> list[list[float]]:
     """The milliseconds of so many clicks on drawn places, until it was shown, and until the frame was drawn."""
     names = driver.execute_script("return Array.from(numbers.rows).filter(isPlaced).map((it) => head.identifiers[it])")
     drawn = random.Random(1).sample(names, min(count, len(names)))
-    return [driver.execute_async_script(CLICK, name) for name in drawn]
+    found = [driver.execute_async_script(CLICK, name) for name in drawn]
+    if faults := [it for it in found if isinstance(it, str)]:
+        sys.exit(faults[0])
+    return found
 
 
 def save_picture(driver: Any, path: str) -> None:
@@ -89,11 +92,12 @@ def main() -> None:
     parser.add_argument("--keep", help="where the page is left")
     parser.add_argument("--picture", help="where a picture is written")
     parser.add_argument("--look", default="", help="what the picture shows")
-    parser.add_argument("words", nargs="+", help="the words of ttm-tools page")
+    parser.add_argument("words", nargs="*", help="the words of ttm-tools page")
     asked = parser.parse_args()
     with tempfile.TemporaryDirectory(prefix="ttm page ") as folder:
         path = Path(asked.keep) if asked.keep else Path(folder) / "a page.html"
-        print(f"made in {timed([PYTHON, str(TOOLS), 'page', *asked.words, '--out', str(path)])}", flush=True)
+        if asked.words:
+            print(f"made in {timed([PYTHON, str(TOOLS), 'page', *asked.words, '--out', str(path)])}", flush=True)
         if not path.is_file():
             sys.exit("no page was made")
         print(f"{path.stat().st_size / 1e6:.2f} MB", flush=True)

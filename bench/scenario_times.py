@@ -2,10 +2,11 @@
 """Times `ttm-tools scenarios` with a plan of ten scenarios over a feed of `feedgen.py`, with its processor time and
 peak memory, and tells what was written.
 
-    scenario_times.py FEED OUT
+    scenario_times.py FEED OUT [ROUTES]
 
-Each scenario has three actions: a new line along twenty stops of a route; twenty routes every five minutes all day; and
-one that differs (a bus lane on fifty routes, stops, routes and trips taken out or shifted, routes cut and extended).
+Each scenario has three actions: a new line along twenty stops of a route; ROUTES routes (20 by default) every five
+minutes all day; and one that differs (a bus lane on so many routes, stops, routes and trips taken out or shifted, routes
+cut and extended).
 OUT has the plan then, what was told, and in OUT/feed what was written.
 """
 
@@ -65,13 +66,13 @@ def part(names: list[str], first: int, count: int) -> list[str]:
     return [names[(first + place) % len(names)] for place in range(min(count, len(names) // 4))]
 
 
-def plan_of(folder: Path) -> str:
+def plan_of(folder: Path, count: int) -> str:
     """The plan."""
     ways, lines = longest_ways(folder), list[str]()
     routes = list(ways)
     for number in range(SCENARIOS):
         way = next(way for way in list(ways.values())[number * 13 :] if len(way) >= 20)
-        some, other = part(routes, number * 20, 20), part(routes, 200 + number * 50, 50)
+        some, other = part(routes, number * count, count), part(routes, 200 + number * count, count)
         first = other[0]
         words = {"stops": quoted(ways[first][2:12]), "routes": quoted(other), "first": first}
         words |= {"middle": ways[first][len(ways[first]) // 2], "last": ways[first][-1]}
@@ -82,9 +83,9 @@ def plan_of(folder: Path) -> str:
 
 
 def main() -> None:
-    feed, out = map(Path, sys.argv[1:])
+    (feed, out), more = map(Path, sys.argv[1:3]), sys.argv[3:]
     out.mkdir(exist_ok=True)
-    (out / "plan.toml").write_text(plan_of(feed))
+    (out / "plan.toml").write_text(plan_of(feed, int(more[0]) if more else 20))
     begin = time.monotonic()
     words = [PYTHON, str(TOOLS), "scenarios", str(feed), str(out / "plan.toml"), "--out", str(out / "feed")]
     with open(out / "told.txt", "w") as told, subprocess.Popen(words, stdout=told, stderr=told) as run:

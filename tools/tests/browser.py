@@ -114,7 +114,7 @@ class Browser:
     def colour(self, identifier: str, right: int = 0) -> str:
         """The colour that is drawn where a place lies, or so many pixels to the right of it."""
         made = (
-            "const canvas = document.querySelector('canvas.drawing'), box = canvas.getBoundingClientRect();"
+            "const canvas = document.querySelector('canvas.places'), box = canvas.getBoundingClientRect();"
             "const map = document.getElementById('map').getBoundingClientRect(), fine = canvas.width / box.width;"
             "const x = (arguments[0] + map.left - box.left) * fine, y = (arguments[1] + map.top - box.top) * fine;"
             "const [red, green, blue] = canvas.getContext('2d').getImageData(Math.round(x), Math.round(y), 1, 1).data;"

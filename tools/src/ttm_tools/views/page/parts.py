@@ -15,7 +15,7 @@ from ...matrices import Seconds
 Bytes = npt.NDArray[np.uint8]
 LATER, NEVER = 254, 255  # bytes of cells: later than LATEST minutes; not reached
 LATEST = 253
-BLOCK = 1 << 18  # bytes of cells that are deflated together, about
+BLOCK = 1 << 16  # bytes of cells that are deflated together, about
 LEVEL = 9
 
 

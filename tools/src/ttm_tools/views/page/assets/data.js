@@ -5,7 +5,7 @@ const LATER = 254; // a cell of more than 253 minutes
 const NEVER = 255; // a cell that isn't reached
 const NOWHERE = 2147483647; // a latitude of a place without one
 const CHANGED_LINES = ["taken", "changed", "added"]; // kinds of lines that differ in a scenario from the base
-const BLOCKS_KEPT = 96; // blocks of cells that are kept inflated
+const BLOCKS_KEPT = 400; // blocks of cells that are kept inflated
 
 const head = JSON.parse(document.getElementById("head").textContent);
 

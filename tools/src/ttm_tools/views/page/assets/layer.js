@@ -1,9 +1,11 @@
 "use strict";
-// The map: Leaflet, with one canvas on which lines and places are drawn, and what lies where.
+// The map: Leaflet, with a canvas for the lines, which change where the map is moved alone, one for the places over it,
+// and what lies where.
 
 const PAD = 0.3; // of the map's size, by which the canvas is larger on each side, so that it can be dragged
 const REACH = 22; // pixels from a place at which a click still takes it
 const LEAST_SQUARE = 2; // pixels
+const EDGED = 2.5; // pixels, the radius above which a mark has an edge
 const DEGREE = 111195; // metres of latitude
 const LINES = {
   running: { colour: "#b9b9b9", width: 1.1, dash: [], label: "where vehicles run" },
@@ -28,9 +30,9 @@ function onWorld(degrees) {
 }
 
 const Drawing = L.Layer.extend({
-  initialize(paint) {
+  initialize(name, paint) {
     this.paint = paint;
-    this.canvas = L.DomUtil.create("canvas", "drawing");
+    this.canvas = L.DomUtil.create("canvas", `drawing ${name}`);
   },
 
   onAdd(map) {
@@ -50,7 +52,7 @@ const Drawing = L.Layer.extend({
       return;
     }
     const size = map.getSize(), pad = size.multiplyBy(PAD).round(), whole = size.add(pad.multiplyBy(2));
-    const fine = Math.max(window.devicePixelRatio || 1, this.finest || 1);
+    const fine = Math.max(window.devicePixelRatio || 1, map.options.finest);
     this.canvas.width = whole.x * fine;
     this.canvas.height = whole.y * fine;
     this.canvas.style.width = `${whole.x}px`;
@@ -60,7 +62,7 @@ const Drawing = L.Layer.extend({
     const pen = this.canvas.getContext("2d");
     pen.scale(fine, fine);
     const origin = map.getPixelOrigin().add(corner);
-    this.paint(pen, { scale: 2 ** map.getZoom(), x: origin.x, y: origin.y, width: whole.x, height: whole.y, fine });
+    this.paint(pen, { scale: 2 ** map.getZoom(), x: origin.x, y: origin.y, width: whole.x, height: whole.y });
   },
 });
 
@@ -71,14 +73,15 @@ class PageMap {
     this.lines = {};
     this.shown = { classes: null, marks: [UNKNOWN], faint: null, place: -1, scenario: 0 };
     this.map = L.map("map", { zoomControl: true, zoomSnap: 0.25, wheelPxPerZoomLevel: 90, zoomAnimation: false,
-      fadeAnimation: false, attributionControl: head.tiles !== null, maxZoom: 19, minZoom: 2 });
+      fadeAnimation: false, attributionControl: head.tiles !== null, maxZoom: 19, minZoom: 2, finest: 1 });
     L.control.scale({ imperial: false }).addTo(this.map);
     this.addNorth();
     if (head.tiles !== null) {
       this.addTiles();
     }
     this.fit();
-    this.drawing = new Drawing((pen, view) => this.paint(pen, view)).addTo(this.map);
+    new Drawing("lines", (pen, view) => this.paintLines(pen, view, "running")).addTo(this.map);
+    this.drawing = new Drawing("places", (pen, view) => this.paint(pen, view)).addTo(this.map);
     this.map.on("click", (event) => {
       const place = this.placeAt(event.containerPoint);
       if (place >= 0) {
@@ -184,8 +187,6 @@ class PageMap {
   }
 
   paint(pen, view) {
-    pen.clearRect(0, 0, view.width, view.height);
-    this.paintLines(pen, view, "running");
     const squares = numbers.widths.some((width) => width > 0);
     if (!squares) {
       this.paintChanges(pen, view);
@@ -247,15 +248,14 @@ class PageMap {
     pen.globalAlpha = 1;
   }
 
-  /** The places of a class: their squares, or a mark that is drawn once and laid where each of them is. */
+  /** The places of a class: their squares, or their marks. */
   paintClass(pen, view, mark, some, radius) {
-    const stamp = some.length ? new Stamp(mark, radius, view.fine) : null;
     for (const place of some) {
       const [x, y] = this.at(place, view);
       if (numbers.widths[place] > 0) {
         paintSquare(pen, mark, x, y, Math.max(this.sideOf(place) * view.scale, LEAST_SQUARE));
       } else {
-        stamp.lay(pen, x, y);
+        paintMark(pen, mark, x, y, radius * mark.size);
       }
     }
   }
@@ -265,25 +265,6 @@ class PageMap {
     const size = this.map.getSize(), count = Math.max(1, head.names.length);
     const at = Math.min(6.5, Math.max(1.6, 0.2 * Math.sqrt((size.x * size.y) / count)));
     return Math.min(10, at * 1.35 ** Math.max(0, this.map.getZoom() - this.fitZoom));
-  }
-}
-
-/** A mark as a little picture. */
-class Stamp {
-  constructor(mark, radius, fine) {
-    this.fine = fine; // pixels of the screen for one of the map
-    this.half = Math.ceil(1.5 * radius * mark.size + 2);
-    this.canvas = document.createElement("canvas");
-    this.canvas.width = this.canvas.height = Math.ceil(2 * this.half * fine);
-    const pen = this.canvas.getContext("2d");
-    pen.scale(fine, fine);
-    paintMark(pen, mark, this.half, this.half, radius * mark.size);
-  }
-
-  /** Lays it on the nearest pixel of the screen. */
-  lay(pen, x, y) {
-    const [left, top] = [x, y].map((at) => Math.round((at - this.half) * this.fine) / this.fine);
-    pen.drawImage(this.canvas, left, top, this.canvas.width / this.fine, this.canvas.height / this.fine);
   }
 }
 
@@ -316,7 +297,7 @@ function paintMark(pen, mark, x, y, radius) {
     pen.arc(x, y, mark.shape === "dot" ? Math.min(radius, 1.5) : radius, 0, 2 * Math.PI);
   }
   pen.fill();
-  if (!mark.inside && mark.shape !== "dot" && radius > 2) {
+  if (!mark.inside && radius > EDGED) {
     pen.stroke();
   }
 }

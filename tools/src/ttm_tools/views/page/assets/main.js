@@ -284,10 +284,10 @@ function addPrinting() {
   const folded = element("sources");
   let was = false;
   const resize = (finest) => {
-    page.drawing.finest = finest;
+    page.map.options.finest = finest;
     page.map.invalidateSize({ animate: false });
     page.fit();
-    page.drawing.draw();
+    page.map.fire("viewreset");
   };
   window.addEventListener("beforeprint", () => {
     was = folded.open;
