@@ -6,7 +6,8 @@ without a window, and how long a click takes until the map and the panel show it
 
 WORDS are those of `ttm-tools page`, but for --out: the page is written to a folder that is removed. With --keep it is
 left at a path; without WORDS the page that lies there is measured. With --picture what is shown at --look (what stands
-behind # in the address) is written as PNG. Needs selenium, chromium and chromedriver; for --picture Pillow.
+behind # in the address) is written as PNG.
+Needs selenium, chromium and chromedriver; for --picture Pillow.
 """
 
 import argparse

@@ -5,8 +5,8 @@ peak memory, and tells what was written.
     scenario_times.py FEED OUT [ROUTES]
 
 Each scenario has three actions: a new line along twenty stops of a route; ROUTES routes (20 by default) every five
-minutes all day; and one that differs (a bus lane on so many routes, stops, routes and trips taken out or shifted,
-routes cut and extended).
+minutes all day; and one that differs (a bus lane on so many routes, stops, routes and trips taken out or shifted, a
+route cut or extended).
 OUT has the plan then, what was told, and in OUT/feed what was written.
 """
 

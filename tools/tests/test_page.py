@@ -166,6 +166,10 @@ def test_by_keyboard_on_a_phone_and_on_paper(town: Town, browser: Browser) -> No
     assert browser.lines("losers")[0] == ["Place", "before", "after", "change", "", "residents"]
     assert browser.run("return document.documentElement.scrollWidth") == 360
     browser.size(1280, 800)
+    empty = browser.colour("A", right=40)  # lines are on a canvas below, but on paper
+    browser.run("window.dispatchEvent(new Event('beforeprint'))")
+    assert (empty, browser.colour("A", right=40) != empty) == ("#000000", True)
+    browser.run("window.dispatchEvent(new Event('afterprint'))")
     printed = browser.driver.execute_cdp_cmd("Page.printToPDF", {"preferCSSPageSize": True})["data"]
     assert printed.startswith("JVBERi0")  # %PDF- in base64
     assert browser.run("return document.body.className") == ""

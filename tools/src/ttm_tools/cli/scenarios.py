@@ -38,8 +38,8 @@ at its stops) and service choose some trips. Times are "HH:MM" or "HH:MM:SS". A 
 new one. An action that changes nothing, names what isn't there, or lets times go back is told with the plan's line.
 
 The feed is one that ttm takes (ttm-tools prepare makes one). compare, map, long and others leave out what ttm prints as
-`base`, which has everything at once, and take `today` for it. Memory: some 400 bytes for each record of
-stop_times.txt."""
+`base`, which has everything at once, and take `today` for it. Memory: some 200 bytes for each stop time that is
+written."""
 
 
 def describe(parser: argparse.ArgumentParser) -> None:

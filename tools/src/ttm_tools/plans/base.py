@@ -1,7 +1,7 @@
 """The feed that a plan begins from, in columns: its stops and those that the plan adds, and its trips with their calls.
 
-It is read as `ttm-tools prepare` reads a feed, and one that `ttm` would refuse is refused. It takes some 400 bytes for
-each record of stop_times.txt.
+It is read as `ttm-tools prepare` reads a feed, and one that `ttm` would refuse is refused. A plan takes some 200 bytes
+for each stop time that is written in the end.
 """
 
 import datetime

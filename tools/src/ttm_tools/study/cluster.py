@@ -58,21 +58,36 @@ def words_of(options: Sequence[str]) -> list[str]:
 
 def run_elsewhere(run: Run, parts: Sequence[Part], key: str, version: Sequence[str], means: Means) -> list[Failed]:
     """Computes the parts that aren't done, and waits until other machines have done so."""
-    missing = [part for part in parts if not part.is_done()]
-    if not missing:
-        return []
-    write_task(run, len(parts), key, version)
-    with contextlib.ExitStack() as room:
-        if means.slurm:
-            is_over = by_slurm(missing, means.options)
-        else:
-            is_over = room.enter_context(by_parallel(missing, means.hosts or ":", means.options))
-        for _ in shown(ends_of(missing, is_over), len(missing)):
-            pass
-    failed = [Failed(part, told_of(part)) for part in missing if not part.is_done()]
+    missing = still(parts)
+    if missing:
+        write_task(run, len(parts), key, version)
+    job = job_that_goes_on() if means.slurm and missing else None
+    if job is not None:
+        say(f"parts: job {job} of this study goes on, and is waited for")
+        wait(missing, end_of(job))
+        missing = still(missing)
+    for part in missing:
+        remove(part.told_file)
+    if missing and means.slurm:
+        wait(missing, end_of(submit(missing, means.options)))
+    elif missing:
+        with by_parallel(missing, means.hosts or ":", means.options) as is_over:
+            wait(missing, is_over)
+    failed = [Failed(part, told_of(part)) for part in still(missing)]
     for it in failed:
         say(f"part {it.part.number}: {it.told}")
     return failed
+
+
+def still(parts: Sequence[Part]) -> list[Part]:
+    """The parts that aren't done."""
+    return [part for part in parts if not part.is_done()]
+
+
+def wait(missing: Sequence[Part], is_over: Callable[[], bool]) -> None:
+    """Waits for parts, and shows how many are done."""
+    for _ in shown(ends_of(missing, is_over), len(missing)):
+        pass
 
 
 def write_task(run: Run, parts: int, key: str, version: Sequence[str]) -> None:
@@ -144,9 +159,9 @@ def ends_of(missing: Sequence[Part], is_over: Callable[[], bool]) -> Iterator[No
     waiting, end = list(missing), None
     while waiting:
         over = is_over()
-        still = [part for part in waiting if not part.is_done()]
-        yield from [None] * (len(waiting) - len(still))
-        waiting = still
+        left = still(waiting)
+        yield from [None] * (len(waiting) - len(left))
+        waiting = left
         if over:
             end = end or time.monotonic() + SECONDS_FOR_FILES
             if time.monotonic() > end or all(part.told_file.exists() for part in waiting):
@@ -176,23 +191,29 @@ def ranges(numbers: Sequence[int]) -> str:
     return ",".join(made)
 
 
-def by_slurm(missing: Sequence[Part], options: Sequence[str]) -> Callable[[], bool]:
-    """Submits an array with a task for each part, unless one of this study still goes on; tells when it is over."""
-    needed("sbatch", "slurm-client")
+def job_that_goes_on() -> str | None:
+    """The array of this study that a command before submitted, and that still has tasks."""
+    needed("squeue", "slurm-client")
     job = Path(JOB).read_text(encoding="utf-8").strip() if Path(JOB).is_file() else ""
-    if job and is_queued(job):
-        say(f"parts: job {job} of this study goes on, and is waited for")
-    else:
-        for part in missing:
-            remove(part.told_file)
-        array = f"--array={ranges([part.number for part in missing])}"
-        own = ["--parsable", "--requeue", array, f"--output={PARTS}/slurm_%a.txt", "--open-mode=append"]
-        ran = subprocess.run(["sbatch", *own, *words_of(options), SCRIPT], capture_output=True, text=True)
-        if ran.returncode != 0:
-            raise BadInput("sbatch", one_line(ran.stderr) or f"ended with status {ran.returncode}")
-        job = ran.stdout.strip().split(";")[0]
-        write_settled(Path(JOB), job + "\n")
-        say(f"parts: {len(missing)} as job {job}; it goes on without this command, and the same command waits for it")
+    return job if job and is_queued(job) else None
+
+
+def submit(missing: Sequence[Part], options: Sequence[str]) -> str:
+    """Submits an array with a task for each part."""
+    needed("sbatch", "slurm-client")
+    array = f"--array={ranges([part.number for part in missing])}"
+    own = ["--parsable", "--requeue", array, f"--output={PARTS}/slurm_%a.txt", "--open-mode=append"]
+    ran = subprocess.run(["sbatch", *own, *words_of(options), SCRIPT], capture_output=True, text=True)
+    if ran.returncode != 0:
+        raise BadInput("sbatch", one_line(ran.stderr) or f"ended with status {ran.returncode}")
+    job = ran.stdout.strip().split(";")[0]
+    write_settled(Path(JOB), job + "\n")
+    say(f"parts: {len(missing)} as job {job}; it goes on without this command, and the same command waits for it")
+    return job
+
+
+def end_of(job: str) -> Callable[[], bool]:
+    """Tells whether a job is over."""
     return lambda: not is_queued(job)
 
 
@@ -208,8 +229,6 @@ def is_queued(job: str) -> bool:
 def by_parallel(missing: Sequence[Part], hosts: str, options: Sequence[str]) -> Iterator[Callable[[], bool]]:
     """Runs the parts on hosts by GNU parallel; tells when it is over."""
     needed("parallel", "parallel")
-    for part in missing:
-        remove(part.told_file)
     own = ["parallel", "--sshlogin", hosts, "--workdir", os.getcwd(), "--joblog", f"{PARTS}/log", *words_of(options)]
     words = [*own, os.path.abspath(SCRIPT), "{}", ":::", *[str(part.number) for part in missing]]
     with open(f"{PARTS}/hosts.txt", "wb") as told:

@@ -34,6 +34,7 @@ class Stage:
     outputs: Sequence[str]  # files and folders, from the study's folder on
     make: Callable[[], list[str]]  # writes them, and says what was done
     of_tools: bool = True  # whether other tools may make other outputs: done anew, then
+    keeps_task: bool = False  # whether what other machines compute stays what is asked for
 
     @property
     def key(self) -> str:
@@ -137,8 +138,9 @@ class Folder:
         if found is not None and self.is_done(stage, key):
             return found
         say(f"{stage.name} ..")
-        for path in (TASK, f"{RECORDS}/{stage.name}.json"):
-            self.at(path).unlink(missing_ok=True)
+        self.at(f"{RECORDS}/{stage.name}.json").unlink(missing_ok=True)
+        if not stage.keeps_task:
+            self.at(TASK).unlink(missing_ok=True)
         for name in stage.outputs:
             remove(self.at(name))
             self.at(name).parent.mkdir(parents=True, exist_ok=True)

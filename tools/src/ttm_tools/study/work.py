@@ -133,7 +133,7 @@ def matrix_stage(study: Study, inputs: Inputs, key: str, version: list[str], mea
 
     depends = {"study": key, "origins": inputs.records["origins"].outputs, "csv": with_csv}
     depends |= {"shown": inputs.destinations, "left_out": inputs.left_out, "form": FORM}
-    return Stage("matrix", depends, [MATRIX, *([CSV] if with_csv else [])], make, of_tools=False)
+    return Stage("matrix", depends, [MATRIX, *([CSV] if with_csv else [])], make, of_tools=False, keeps_task=True)
 
 
 def sweep(folder: Path, inside_parts: bool) -> None:

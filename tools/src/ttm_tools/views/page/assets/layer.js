@@ -187,6 +187,9 @@ class PageMap {
   }
 
   paint(pen, view) {
+    if (this.map.options.finest > 1) {
+      this.paintLines(pen, view, "running"); // on paper browsers may leave out a canvas that lies below another one
+    }
     const squares = numbers.widths.some((width) => width > 0);
     if (!squares) {
       this.paintChanges(pen, view);
