@@ -56,6 +56,9 @@ if [ "$kind" = analysts ]; then
     mkdir "$inside/study/made"
     cp "$room/made/"* "$inside/study/made/"
     chroot "$inside" apt-get install -q -y unzip zip /tmp/ttm.deb > "$room/log" 2>&1 || { tail "$room/log" >&2; exit 1; }
+    # bash hands files over by /dev/fd, as a machine has it
+    mount -t proc proc "$inside/proc"
+    [ -e "$inside/dev/fd" ] || ln -s /proc/self/fd "$inside/dev/fd"
     chroot "$inside" sh -c 'cd /study && python3 /tmp/pages.py /usr/share/doc/ttm/ANALYSTS.md' || exit 1
     echo "the commands of docs/ANALYSTS.md ran in a Debian of their own, and printed what it says"
     exit

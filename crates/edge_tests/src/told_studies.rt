@@ -370,7 +370,7 @@ fn a_shorter_line_covers_the_one_before(rt: HostRuntime) {
             &rt,
             alloc,
             12_000_000,
-            b"free: 336
+            b"free: 448
 ttm: rows done: 1 of 4, 25 percent, about 10:00:00 left\rttm: rows done: 2 of 4, 50 percent, about 6:40:00 left \rttm: rows done: 3 of 4, 75 percent, about 3:20:00 left\rttm: rows done: 4 of 4, 100 percent, about 0:00:00 left\r
 ttm: rows done: 4 of 4
 ttm: time: 20:00:00
