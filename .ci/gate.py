@@ -103,6 +103,7 @@ def scripts(room: Path) -> list[list[str]]:
         [".ci/random_feeds.py", program],
         [".ci/program_runs.py", program],
         [".ci/names.py"],
+        [".ci/same.py"],
     ]
     return [it for it in every if (room / it[0]).is_file()]
 

@@ -292,6 +292,8 @@ REPORTS = [
         + NO_WALKS
         + "ttm: runs on 2026-05-04: 2\nttm: runs on 2026-05-05: 0\n"
         "ttm: warning: no trip runs on the date itself; is it a date of the feed's calendar?\n"
+        "ttm: dates of the calendars: 2026-05-04 to 2026-05-31\n"
+        "ttm: nearest date with runs before it: 2026-05-04\nttm: nearest date with runs after it: 2026-05-11\n"
         "ttm: runs on 2026-05-06: 0\nttm: runs in scenario base: 2\n" + rows_done(1, 3, 56),
     ),
     Report(
@@ -303,9 +305,50 @@ REPORTS = [
         + "ttm: runs on 2026-05-03: 0\nttm: runs on 2026-05-04: 2\nttm: runs on 2026-05-05: 0\n"
         "ttm: runs in scenario base: 2\n" + rows_done(1, 1, 28),
     ),
-    Report("a feed that isn't there", f"--feed nowhere {ASKED} 0", "ttm: stops.txt: missing file\n"),
-    Report("a file for the folder", f"--feed cut.csv {ASKED} 0", "ttm: cut.csv/stops.txt: read fault\n"),
-    Report("a bad setting", f"--feed feed {ASKED} 7201", "ttm: bad walk\n"),
+    Report(
+        "a feed that isn't there",
+        f"--feed nowhere {ASKED} 0",
+        'ttm: stops.txt: missing file\nttm: there is no folder "nowhere"\n',
+    ),
+    Report(
+        "the folder above the feed's",
+        f"--feed . {ASKED} 0",
+        'ttm: stops.txt: missing file\nttm: folder "." has a.csv, b.csv, chances.csv, cut.csv, feed, late.csv, '
+        "none_named.csv, origins.csv, to.csv, walks.csv\n"
+        'ttm: folder "./feed" has stops.txt; is it the feed\'s?\n',
+    ),
+    Report(
+        "a file for the folder",
+        f"--feed cut.csv {ASKED} 0",
+        "ttm: cut.csv/stops.txt: read fault\n"
+        'ttm: "cut.csv" is a file; --feed names a folder, and ttm-tools prepare makes one of a zip\n',
+    ),
+    Report(
+        "an own file that isn't there",
+        f"--feed feed {ASKED} 0 --origins none.csv",
+        "ttm: none.csv: read fault\n",
+    ),
+    Report(
+        "a bad setting",
+        f"--feed feed {ASKED} 7201",
+        'ttm: bad walk\nttm: --walk is "7201"; a walk is whole seconds, 0 to 7200\n',
+    ),
+    Report(
+        "a day that isn't",
+        f"--feed feed {ASKED} 0".replace("20260504", "20260431"),
+        'ttm: bad date\nttm: --date is "20260431"; there is no such day\n',
+    ),
+    Report(
+        "ends of the window that aren't times of day",
+        f"--feed feed {ASKED} 0".replace("--from 08:00 --to 08:00", "--from 8:00 --to 8:59"),
+        'ttm: bad window\nttm: --from is "8:00"; a time of day is HH:MM, 00:00 to 23:59\n'
+        'ttm: --to is "8:59"; a time of day is HH:MM, 00:00 to 23:59\n',
+    ),
+    Report(
+        "shares that descend",
+        f"--feed feed {ASKED} 0".replace("--share 50", "--share 50,25"),
+        'ttm: bad share\nttm: --share is "50,25"; each number of a list is greater than the one before it\n',
+    ),
 ]
 
 

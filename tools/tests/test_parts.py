@@ -139,7 +139,8 @@ def test_a_fault_leaves_no_part_behind(room: Room) -> None:
     assert room.ran("split", "--feed", str(room.folder), "--parts", "0")[2] == 2
 
 
-def test_the_parts_of_a_study_joined_are_the_study(room: Room, program: str) -> None:
+@pytest.mark.parametrize("columns", (None, ["s,7", "s,0"], []), ids=("all columns", "two columns", "access alone"))
+def test_the_parts_of_a_study_joined_are_the_study(room: Room, program: str, columns: list[str] | None) -> None:
     stops = [f"s,{number}" for number in range(9)]
     room.write("stops.txt", "stop_id,location_type", [*[[stop, ""] for stop in stops], ["station", 1]])
     room.write("routes.txt", "route_id", [["R"], ["Q"]])
@@ -153,6 +154,9 @@ def test_the_parts_of_a_study_joined_are_the_study(room: Room, program: str) -> 
     assert (ran.returncode, ran.stderr) == (0, b"9 origins in 4 parts\n")
     words = f"--feed {room.folder} --date 20260504 --from 08:00 --to 08:03 --trips 2 --walk 0 --share 25,50,75"
     words += f" --within 300,600 --workers 1 --tries 1 {room.folder}/cut.csv"
+    if columns is not None:
+        room.write("columns.csv", "stop_id", [[stop] for stop in columns])
+        words += f" --destinations {room.path('columns.csv')}"
 
     def run(*more: str) -> bytes:
         return subprocess.run([program, *words.split(), *more], capture_output=True, check=True).stdout

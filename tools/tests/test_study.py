@@ -22,7 +22,7 @@ from ttm_tools.study.inputs import make_inputs
 from ttm_tools.study.stages import Folder
 from ttm_tools.study.study_file import read_study
 from ttm_tools.study.template import page, template
-from ttm_tools.study.ttm import version_of
+from ttm_tools.study.ttm import fault_of, version_of
 from ttm_tools.study.wishes import PartWish
 from ttm_tools.study.work import make_study
 
@@ -374,3 +374,36 @@ def key_of_study(folder: Path) -> str:
     """The sum of a study's inputs, words and version, as its stage of days has it."""
     inputs = make_inputs(read_study(str(folder.with_suffix(".toml"))), Folder(Path(".")))
     return study_key(inputs, version_of(os.environ["TTM_PROGRAM"]))
+
+
+FACTS = """\
+ttm: stops: 3
+ttm: runs on 2026-05-05: 0
+ttm: warning: no trip runs on the date itself; is it a date of the feed's calendar?
+ttm: dates of the calendars: 2026-05-04 to 2026-05-31
+ttm: nearest date with runs before it: none
+ttm: nearest date with runs after it: none in 366 days
+ttm: rows done: 2 of 3, 66 percent, about 0:00:00 left
+"""
+
+
+@pytest.mark.parametrize("facts", ["", FACTS, "ttm: dates of the calendars: none\n"])
+@pytest.mark.parametrize(
+    "fault",
+    [
+        "ttm: stop_times.txt: record 3: bad time\n",
+        'ttm: calendar.txt: record 2: bad time\nttm: column start_date is "2026: 1"; a date is YYYYMMDD\n',
+        "ttm: stops.txt: record 1: missing column\nttm: the header lacks column stop_id; it has stop_name\n",
+        'ttm: bad window\nttm: --from is "8:00"; a time of day is HH:MM, 00:00 to 23:59\n',
+        'ttm: stops.txt: missing file\nttm: folder "a" has b\nttm: folder "a/b" has stops.txt; is it the feed\'s?\n',
+        "ttm: scenario name: 13\nttm: each scenario file has a name of its own, which isn't empty and isn't base\n",
+        "ttm: unfinished: scenario 0, origin 3\n",
+    ],
+)
+def test_a_fault_is_told_with_what_explains_it_and_without_the_report(facts: str, fault: str) -> None:
+    assert fault_of(f"{facts}{fault}".encode(), 2) == "; ".join(fault.splitlines())
+
+
+def test_a_run_that_says_nothing_of_its_end_is_told_by_its_last_line_or_its_status() -> None:
+    assert fault_of(FACTS.encode(), -9) == "ttm: rows done: 2 of 3, 66 percent, about 0:00:00 left"
+    assert fault_of(b"\n", -9) == "ttm ended with status -9 and said nothing"

@@ -1,11 +1,15 @@
-//! The places of a study's rows, and the matrix that they make.
-//! A place keeps the first row that is handed over for it; a row that has no place here is a stranger and comes back.
+//! The places of a study's rows, and the matrix that they make: `workers` offer here the rows of the jobs of a
+//! `work_book`. A place keeps the first row that is offered for it; a row that has no place here is a stranger and
+//! comes back.
 //!
-//! - `Row` is what one scenario and one origin give, `Cells` for each share; `Collector` has a place for each row, and `finish` makes the `Matrix`.
-//! - `CoreStep` and `CoreAnswer` are steps of a book of work and rows handed over, as data; `run_core` makes a list of them.
-//! - `runs_are_right` is what holds of every list of such steps, and `core_runs_are_fair` what holds of the book in it.
+//! - `Row` is what one scenario and one origin give, `Cells` for each share; `Collector` has a place for each row, and
+//!   `finish` makes the `Matrix`.
+//! - `run_core`, a door for other programs, makes a list of steps: those of a book and offers of rows, as data
+//!   (`CoreStep`, answered by `CoreAnswer`). `runs_are_right` is what holds of every such list, `core_runs_are_fair`
+//!   what holds of the book in it.
 //!
-//! What an offer and a finish do stands in `specs/Places.antt`; the laws stand in `specs/Laws.antt`.
+//! `specs/Places.antt` says what places are, `specs/Offers.antt` what an offer and a finish do, `specs/Laws.antt` the
+//! laws.
 #![tactic(auto)]
 
 mod laws;

@@ -7,6 +7,7 @@ ghost use Rattle.collector.specs.Offers.{is_whole, belongs, offer_of, after_offe
 use crate::row::{Cells, Row};
 use std::alloc::{AllocError, Global};
 use std::marker::Model;
+use work_book::MOST_JOBS;
 
 /// The places of a study's rows, one for each scenario and origin.
 #[derive(Drop)]
@@ -23,6 +24,7 @@ pub struct Collector {
 impl Model for Collector {
     ghost use Rattle.std.specs.Prelude.{◌≡◌, ◌*◌, ◌≤◌, length};
     ghost use Rattle.collector.specs.Places.{PlacesData};
+    ghost use Rattle.work_book.specs.declared.limits.TheConstants.{MOST_JOBS};
 
     ghost Value = { PlacesData };
 
@@ -36,7 +38,7 @@ impl Model for Collector {
       rows = c.places.items;
     } };
 
-    ghost invariant = { λ c. (length c.places.items ≡ c.scenarios * c.origins) × (c.scenarios * c.origins ≤ 1048560) };
+    ghost invariant = { λ c. (length c.places.items ≡ c.scenarios * c.origins) × (c.scenarios * c.origins ≤ MOST_JOBS) };
 }
 
 /// What became of a row that was offered.
@@ -76,6 +78,7 @@ pub struct Matrix {
 impl Model for Matrix {
     ghost use Rattle.std.specs.Prelude.{◌≡◌, ◌*◌, ◌≤◌, length};
     ghost use Rattle.collector.specs.Places.{MatrixData, present, AreFull};
+    ghost use Rattle.work_book.specs.declared.limits.TheConstants.{MOST_JOBS};
 
     ghost Value = { MatrixData };
 
@@ -88,14 +91,14 @@ impl Model for Matrix {
       rows = present m.places.items;
     } };
 
-    ghost invariant = { λ m. (length m.places.items ≡ m.scenarios * m.origins) × (m.scenarios * m.origins ≤ 1048560) × AreFull m.places.items };
+    ghost invariant = { λ m. (length m.places.items ≡ m.scenarios * m.origins) × (m.scenarios * m.origins ≤ MOST_JOBS) × AreFull m.places.items };
 }
 
 impl Collector {
     /// An empty place for each of `scenarios` times `origins` rows, which have `width` cells and `limits` access sums for each of
     /// `shares` shares.
     ///
-    /// At most 1,048,560 places: 16 scenarios of 65,535 origins.
+    /// There are at most as many places as a book may have jobs.
     pub fn new(
         alloc: Global,
         study: u64,
@@ -105,7 +108,7 @@ impl Collector {
         shares: u32,
         limits: u32,
     ) -> Result<Collector, AllocError>
-        requires { scenarios * origins ≤ 1048560 }
+        requires { scenarios * origins ≤ MOST_JOBS }
         ensures { IfOk result (λ collector. collector ≡ empty_places study scenarios origins width shares limits) }
     {
         let count = scenarios * origins;

@@ -1,4 +1,4 @@
-//! Steps of a book of work and rows handed over, made together.
+//! Steps of a book of work and offers of rows, made together.
 ghost use Rattle.std.specs.Prelude.{◌≡◌, ◌≤◌, [], length, vec_capacity, IfOk, IfErr, OnOk, OnErr};
 ghost use Rattle.collector.specs.Run.{core, answers_of, run_of, book_steps, merged, offered, handed};
 
@@ -7,12 +7,12 @@ use crate::row::Row;
 use std::alloc::{AllocError, Global};
 use work_book::{Answer, Book, Step};
 
-/// A step of a seat, or a row that it hands over.
+/// A step of a seat, or a row that it offers.
 #[derive(Drop)]
 pub enum CoreStep {
     /// A step of the book.
     Book(Step),
-    /// A seat hands over a row. A lost seat may still do so.
+    /// A seat offers a row. A lost seat may still do so.
     Hand(u32, Row),
 }
 
@@ -25,9 +25,9 @@ pub enum CoreAnswer {
     Hand(Offer),
 }
 
-/// Makes the steps in order, and answers each.
+/// A door for other programs: makes the steps in order, and answers each.
 ///
-/// `Err` is want of memory alone: the steps come back, and the book and the collector are as they were.
+/// `Err` is out of memory alone: the steps come back, and the book and the collector are as they were.
 pub fn run_core(
     alloc: Global,
     book: &mut Book,

@@ -3,7 +3,7 @@ use Rattle.std.specs.Prelude.{◌<◌, ◌^◌, ℕ, List, Option, codes, length
 use Rattle.command_line.specs.declared.files.ReadFault.{ReadFault}
 use Rattle.command_line.specs.declared.files.ReadFault.TheVariants as fault
 
--- what is too long has more bytes than the limit; nothing is said of a read that failed or of want of memory
+-- what is too long has more bytes than the limit; nothing is said of a read that failed or of memory that ran out
 abbrev pub Tells : ReadFault → Option (List ℕ) → Type 0
 Tells fault.TooLong known = IfSome known (λ all. 2 ^ 30 < length all)
 Tells fault.Read known = ⊤

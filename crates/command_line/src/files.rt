@@ -16,7 +16,7 @@ pub enum ReadFault {
     Read,
     /// It has more than 1,073,741,824 bytes.
     TooLong,
-    /// A growth of memory was refused.
+    /// Out of memory.
     Memory,
 }
 

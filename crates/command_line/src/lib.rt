@@ -1,8 +1,8 @@
 //! The command line of a study: what its words ask for, the bytes of a file that they name, and the lines that tell a fault.
 //!
 //! - `options`: the command that the words are taken by. `version`: what it tells of its version.
-//! - `words`: [`task_of`] reads the words into a [`Task`], or tells why they ask for no study ([`WordFault`]). `window`: [`window_of`],
-//!   the departures that two times name. `numbers`: [`numbers_of`], the numbers that a text lists.
+//! - `words`: [`task_of`] reads the words into a [`Task`], or tells why they ask for no study ([`WordFault`]); [`text_of`] is the text
+//!   that they give one option. `window`: [`window_of`], the departures that two times name. `numbers`: [`numbers_of`], the numbers that a text lists.
 //! - `paths`: the path of a file of the feed, and the name of a scenario. `files`: [`read_all`], a file read whole.
 //! - `lines`: the line and the exit status of each fault. `statuses`: the statuses in numbers. `telling` puts a line out.
 //!
@@ -31,4 +31,4 @@ pub use task::{Opt, Task, WordFault};
 pub use telling::{tell, tell_made, tell_short};
 pub use version::VERSION;
 pub use window::window_of;
-pub use words::{task_of, word_status};
+pub use words::{task_of, text_of, word_status};

@@ -41,6 +41,6 @@ pub enum WordFault {
     Words(clap::Error),
     /// The words are the command's; this is the first option whose text isn't of its kind or within its limits.
     Bad(Opt),
-    /// A growth of memory was refused.
+    /// Out of memory.
     Memory,
 }

@@ -48,6 +48,21 @@ pub fn task_of(alloc: Global, words: &[String]) -> Result<Task, WordFault>
     }
 }
 
+/// The text that the words give an option, by its name without the dashes; none where they give it none. What a flag has as text
+/// is `true` or `false`.
+///
+/// The words are taken by the same command as those of a study, and are refused where it refuses them.
+pub fn text_of(alloc: Global, words: &[String], id: &str) -> Result<Option<String>, WordFault>
+    ensures text { IfOk result (λ text. spec.text_at (spec.rows_of_words (map string_bytes words.now)) id.now ≡ option_map string_bytes text) }
+    ensures fault { IfErr result (λ fault. spec.Tells fault (map string_bytes words.now)) }
+{
+    let matches = matched(alloc, words)?;
+    match copy_at(alloc, &matches, id) {
+        Ok(text) => Ok(text),
+        Err(_) => Err(WordFault::Memory),
+    }
+}
+
 /// The exit status where the words ask for no study; help and the version are no fault.
 pub fn word_status(fault: &WordFault) -> u8
     ensures { result ≡ spec.word_status_of fault.now }
@@ -257,8 +272,8 @@ fn settings_with(
 }
 
 /// A copy of the text of an option, if it is given.
-fn path_at(alloc: Global, matches: &ArgMatches<'_>, id: &str) -> Result<Option<String>, AllocError>
-    ensures { IfOk result (λ path. spec.text_at (rows_of (found_of matches.now)) id.now ≡ option_map string_bytes path) }
+fn copy_at(alloc: Global, matches: &ArgMatches<'_>, id: &str) -> Result<Option<String>, AllocError>
+    ensures { IfOk result (λ text. spec.text_at (rows_of (found_of matches.now)) id.now ≡ option_map string_bytes text) }
 {
     match text_at(matches, id) {
         Some(text) => Ok(Some(String::from_str(alloc, text)?)),
@@ -314,10 +329,10 @@ fn with_paths(
     Ok(Task {
         feed: String::from_str(alloc, feed)?,
         settings,
-        footpaths: path_at(alloc, matches, "footpaths")?,
-        origins: path_at(alloc, matches, "origins")?,
-        opportunities: path_at(alloc, matches, "opportunities")?,
-        destinations: path_at(alloc, matches, "destinations")?,
+        footpaths: copy_at(alloc, matches, "footpaths")?,
+        origins: copy_at(alloc, matches, "origins")?,
+        opportunities: copy_at(alloc, matches, "opportunities")?,
+        destinations: copy_at(alloc, matches, "destinations")?,
         scenarios: scenarios_at(alloc, matches)?,
         report: report_at(matches),
     })

@@ -2,8 +2,9 @@
 //!
 //! - `words`, `numbers`, `help`: what words ask for, the numbers that a text lists, and what help and version say.
 //! - `fault_lines`, `files`: the line and the status of each fault; files read whole, windows, paths, and lines put out.
-//! - `told_studies`, `told_faults`: what is told of studies of the small feed, and of their faults. `small_study` and `pages`: the feed, and
-//!   consoles that keep what is told.
+//! - `told_studies`, `told_dates`, `told_faults`: what is told of studies of the small feed, of dates without trips, and of faults;
+//!   `told_options`, `told_folders`: of options that are refused, and of folders in which a file is missing. `small_study` and `pages`: the
+//!   feed, and consoles that keep what is told.
 //! - `watched_studies`: by how many workers a study is run, how often each row is begun, and in which order a watch is told.
 #![tactic(auto)]
 
@@ -20,7 +21,13 @@ mod pages;
 #[cfg(test)]
 mod small_study;
 #[cfg(test)]
+mod told_dates;
+#[cfg(test)]
 mod told_faults;
+#[cfg(test)]
+mod told_folders;
+#[cfg(test)]
+mod told_options;
 #[cfg(test)]
 mod told_studies;
 #[cfg(test)]

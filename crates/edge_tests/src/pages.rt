@@ -2,9 +2,35 @@
 
 use crate::small_study::Asked;
 use reports::{Console, Memory};
-use std::alloc::Global;
+use std::alloc::{AllocError, Global};
+use std::io;
+use std::io::ErrorKind;
 use std::sync::atomic::{AtomicU64, Ordering};
 use std::sync::{Mutex, Wait};
+
+/// The folders that a page knows, with the names of what stands in each. What ends in `.zip` is a file, and `shut` can't be looked into.
+const FOLDERS: &[(&str, &[&str])] = &[
+    ("empty", &[]),
+    ("town", &["trips.txt", "Stops.txt", "maps"]),
+    ("town/maps", &["town.png"]),
+    (
+        "home",
+        &["notes", "letter.txt", "town.zip", "bus", "tram.zip"],
+    ),
+    ("home/notes", &[]),
+    ("home/bus", &["routes.txt", "stops.txt"]),
+    (
+        "many",
+        &[
+            "m", "a", "l", "b", "k", "c", "j", "d", "i", "e", "h", "f", "g",
+        ],
+    ),
+    (
+        "dozen",
+        &["l", "b", "k", "c", "j", "d", "i", "e", "h", "f", "g", "a"],
+    ),
+    ("feed", &["stops.txt", "old.zip"]),
+];
 
 /// A console that keeps what is told, with a clock that goes on by so much at each look.
 #[derive(Drop)]
@@ -37,6 +63,34 @@ impl<'r, R: Wait> Console for Page<'r, R> {
             peak: Some(500),
         }
     }
+
+    fn names_in(&self, alloc: Global, folder: &str) -> io::Result<Vec<String>> {
+        match names_of(folder) {
+            Some(names) => Ok(copies(alloc, names)?),
+            None if folder.ends_with(".zip") => Err(io::Error::from(ErrorKind::NotADirectory)),
+            None if folder == "shut" => Err(io::Error::from(ErrorKind::PermissionDenied)),
+            None => Err(io::Error::from(ErrorKind::NotFound)),
+        }
+    }
+}
+
+/// The names of what stands in a folder, if a page knows it.
+fn names_of(folder: &str) -> Option<&'static [&'static str]> {
+    for (name, names) in FOLDERS {
+        if *name == folder {
+            return Some(*names);
+        }
+    }
+    None
+}
+
+/// Copies of names.
+fn copies(alloc: Global, names: &[&str]) -> Result<Vec<String>, AllocError> {
+    let mut copies = Vec::new(alloc);
+    for name in names {
+        copies.push(String::from_str(alloc, name)?)?;
+    }
+    Ok(copies)
 }
 
 /// A page on which nothing is told yet.

@@ -15,7 +15,7 @@ use workers::Open;
 /// Tells of a fault on a page, beside its line.
 fn tell_on<R: Wait>(page: &Page<'_, R>, alloc: Global, fault: &StudyFault, inputs: &Inputs<'_>) {
     let report = Report::new(alloc, page, inputs);
-    report.refused(fault, inputs);
+    report.refused(fault, inputs, "feed");
 }
 
 /// What is told of a fault, beside its line.

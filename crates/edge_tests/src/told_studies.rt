@@ -139,6 +139,9 @@ ttm: closed footpaths: 0
 ttm: warning: no walk leads anywhere, so changes are at one stop alone; ttm-tools walks makes a file for --footpaths, and --walk says how long a walk may be
 ttm: runs on 2026-05-05: 0
 ttm: warning: no trip runs on the date itself; is it a date of the feed's calendar?
+ttm: dates of the calendars: 2026-05-04 to 2026-05-31
+ttm: nearest date with runs before it: 2026-05-04
+ttm: nearest date with runs after it: 2026-05-11
 ttm: runs in scenario base: 0
 ttm: rows: 1
 ttm: cells: 3

@@ -1,6 +1,6 @@
 //! What the words of the command line ask for.
 
-use command_line::{Opt, WordFault, task_of, word_status};
+use command_line::{Opt, WordFault, task_of, text_of, word_status};
 use jiff::civil::Date;
 use std::alloc::{AllocError, Global};
 use studies::Settings;
@@ -38,7 +38,12 @@ struct Refusal {
 }
 
 /// The words of the study with one word in another's place, and one more.
-fn changed(alloc: Global, place: usize, word: &str, more: &str) -> Result<Vec<String>, AllocError> {
+pub(crate) fn changed(
+    alloc: Global,
+    place: usize,
+    word: &str,
+    more: &str,
+) -> Result<Vec<String>, AllocError> {
     let mut words = Vec::new(alloc);
     for (k, kept) in STUDY.iter().enumerate() {
         let chosen = if k == place { word } else { *kept };
@@ -139,7 +144,7 @@ fn wrong_words_are_no_study(rt: HostRuntime) {
 }
 
 /// The words of the study, and more.
-fn with_more(alloc: Global, more: &[&str]) -> Result<Vec<String>, AllocError> {
+pub(crate) fn with_more(alloc: Global, more: &[&str]) -> Result<Vec<String>, AllocError> {
     let mut words = Vec::new(alloc);
     for word in STUDY.iter().chain(more.iter()) {
         words.push(String::from_str(alloc, word)?)?;
@@ -156,6 +161,27 @@ fn reports(alloc: Global, more: &[&str]) -> Result<bool, u8> {
         Ok(task) => Ok(task.report),
         Err(fault) => Err(word_status(&fault)),
     }
+}
+
+/// Whether the words of the study, and more, give an option this text.
+fn gives(alloc: Global, more: &[&str], name: &str, text: Option<&str>) -> bool {
+    let Ok(words) = with_more(alloc, more) else {
+        return false;
+    };
+    match text_of(alloc, &words, name) {
+        Ok(given) => given.as_deref() == text,
+        Err(_) => false,
+    }
+}
+
+#[test]
+fn an_option_has_the_text_that_words_give_it(rt: HostRuntime) {
+    assert!(rt; gives(rt.alloc(), &["--back", " 7"], "back", Some(" 7")));
+    assert!(rt; gives(rt.alloc(), &["--report"], "date", Some("20260504")));
+    assert!(rt; gives(rt.alloc(), &["--report"], "report", Some("true")));
+    assert!(rt; gives(rt.alloc(), &["cut.csv"], "report", Some("false")));
+    assert!(rt; gives(rt.alloc(), &["cut.csv"], "ahead", None));
+    assert!(rt; !gives(rt.alloc(), &["--nope"], "date", Some("20260504")));
 }
 
 #[test]

@@ -27,13 +27,12 @@ use Rattle.table_files.specs.declared.frequencies.Departures.{Departures}
 use Rattle.table_files.specs.declared.transfers.Transfers.{Transfers}
 use Rattle.timetable.specs.Trips.{EventsRise}
 use Rattle.timetable.specs.declared.trips.Event.{Event}
-use Rattle.gtfs_tables.specs.Catalog.{AreDatesWithTrips, AreRoutesWithTrips, IsCatalog}
-use Rattle.gtfs_tables.specs.Feed.{CalendarData, ExceptionData, IsDeparting, IsFeed, calendar_data}
+use Rattle.gtfs_tables.specs.Catalog.{IsCatalog}
+use Rattle.gtfs_tables.specs.Feed.{CalendarData, ExceptionData, IsDeparting, IsFeed}
 use Rattle.gtfs_tables.specs.FeedParts.{data_of}
 use Rattle.gtfs_tables.specs.Files as files
 use Rattle.gtfs_tables.specs.Files.{Bytes, FeedFiles, optional, required, rows_in}
 use Rattle.gtfs_tables.specs.declared.catalog.Catalog.{Catalog}
-use Rattle.gtfs_tables.specs.declared.catalog.RoutesWithTrips.{RoutesWithTrips}
 use Rattle.gtfs_tables.specs.declared.trip.FeedTrip.{FeedTrip}
 use Rattle.gtfs_tables.proofs.FeedTrips.{All-trips_of, all_departing, events-trips_of, ids-trips_of, length-departures_from}
 use Rattle.gtfs_tables.proofs.Named.{all_below, all_named, all_own, all_stay, length-named, named_distinct, values_stay}
@@ -174,60 +173,42 @@ module _ (f : FeedFiles) where
         links = links;
       }
 
-  -- what was read of the last two files, after the services of the calendar
-  pub are_dates : (routes services : List (List ℕ)) (d : CalendarDates) (t : FeedTrips) → routes ≡ files.routes_in f → services ≡ files.calendar_services_in f
-      → dates.AreExceptions services d (rows_in dates.date_rows f.calendar_dates) → trips.AreTrips routes d.services t (rows_in trips.trip_rows f.trips)
-      → files.faults_of_trips f ≡ [] → length d.services ≤ 2147483650 → AreDatesWithTrips (record { exceptions = d.rows; trips = t }) f
-  are_dates routes services d t are_routes first are_exceptions are_trips no_trips few_dated =
+  -- the catalog that was read file by file: the rows of both calendars keep the numbers of their services
+  pub is_catalog : (p : LocationData) (routes : List (List ℕ)) (c : Calendar) (d : CalendarDates) (t : FeedTrips)
+      → (p ≡ files.locations_in f) × AreLocations p → (routes ≡ files.routes_in f) × (length routes ≤ 1073741824) → calendar.IsCalendar c (rows_in calendar.service_rows f.calendar)
+      → dates.AreExceptions c.services d (rows_in dates.date_rows f.calendar_dates) × (length d.services ≤ 2147483650)
+      → trips.AreTrips routes d.services t (rows_in trips.trip_rows f.trips) × (files.faults_of_trips f ≡ [])
+      → IsCatalog (record { locations = p; routes = routes; calendar = c.rows; exceptions = d.rows; trips = t }) f
+  is_catalog p routes c d t (locations_are, sound) (routes_are, few_routes) weekly (are_exceptions, few_dated) (are_trips, no_trips) =
       let named_in_dates : List (List ℕ) = map (λ (r : dates.DateRow). r.service) (rows_in dates.date_rows f.calendar_dates) in
       let named_in_trips : List (List ℕ) = map (λ (r : trips.TripRow). r.service) (rows_in trips.trip_rows f.trips) in
-      let dated : d.services ≡ files.dated_services_in f = are_exceptions.services ∙ ap (λ (l : List (List ℕ)). named l named_in_dates) first in
-      let all : t.services ≡ files.services_in f = are_trips.services ∙ ap (λ (l : List (List ℕ)). named l named_in_trips) dated in
+      let service_rows : List calendar.ServiceRow = rows_in calendar.service_rows f.calendar in
       let date_rows : List dates.DateRow = rows_in dates.date_rows f.calendar_dates in
       let trip_rows : List trips.TripRow = rows_in trips.trip_rows f.trips in
+      let dated : d.services ≡ files.dated_services_in f = are_exceptions.services ∙ ap (λ (l : List (List ℕ)). named l named_in_dates) weekly.services in
+      let all : t.services ≡ files.services_in f = are_trips.services ∙ ap (λ (l : List (List ℕ)). named l named_in_trips) dated in
+      let of_calendar : calendar.ServiceRow → List ℕ = λ r. r.service in
+      let make_row : ℕ → calendar.ServiceRow → CalendarData = λ n r. record (calendar.data_of [] r) { service = n } in
+      let own = all_own of_calendar [] service_rows in
+      let rows_stay = values_stay of_calendar make_row (files.calendar_services_in f) named_in_dates service_rows own in
+      let rows_stay_too = values_stay of_calendar make_row (files.dated_services_in f) named_in_trips service_rows (all_stay of_calendar (files.calendar_services_in f) named_in_dates service_rows own) in
       let of_date : dates.DateRow → List ℕ = λ r. r.service in
       let make_date : ℕ → dates.DateRow → ExceptionData = λ n r. record (dates.data_of [] r) { service = n } in
       let dates_stay = values_stay of_date make_date (files.dated_services_in f) named_in_trips date_rows (all_named of_date (files.calendar_services_in f) date_rows) in
       record {
+        locations = locations_are;
+        routes = routes_are;
+        calendar = weekly.values ∙ ap (λ (l : List (List ℕ)). map (calendar.data_of l) service_rows) weekly.services ∙ sym (rows_stay_too ∙ rows_stay);
         exceptions = are_exceptions.values ∙ ap (λ (l : List (List ℕ)). map (dates.data_of l) date_rows) dated ∙ sym dates_stay;
         services = all;
         trip_ids = are_trips.ids;
-        numbers = are_trips.numbers ∙ (λ k. map (trips.numbers_of (are_routes k) (all k)) trip_rows);
+        numbers = are_trips.numbers ∙ (λ k. map (trips.numbers_of (routes_are k) (all k)) trip_rows);
+        sound_locations = sound;
+        few_routes = few_routes;
         few_services = let dated_few : length (files.dated_services_in f) ≤ 2147483650 = subst (λ (l : List (List ℕ)). length l ≤ 2147483650) dated few_dated in
             subst (λ (l : List (List ℕ)). length l ≤ 2148483650) (sym all) (few_services 2147483650 dated_few no_trips);
         few_trips = let ids = ap length are_trips.ids in omega (arith, ids, length-map trip_rows (λ (r : trips.TripRow). r.id), (listed no_trips).few);
       }
-
-  -- the rows of the calendar keep the numbers of their services
-  pub are_rows : (c : Calendar) → calendar.IsCalendar c (rows_in calendar.service_rows f.calendar) → map calendar_data c.rows.items ≡ files.calendar_in f
-  are_rows c is =
-      let named_in_dates : List (List ℕ) = map (λ (r : dates.DateRow). r.service) (rows_in dates.date_rows f.calendar_dates) in
-      let named_in_trips : List (List ℕ) = map (λ (r : trips.TripRow). r.service) (rows_in trips.trip_rows f.trips) in
-      let service_rows : List calendar.ServiceRow = rows_in calendar.service_rows f.calendar in
-      let of_calendar : calendar.ServiceRow → List ℕ = λ r. r.service in
-      let own = all_own of_calendar [] service_rows in
-      let in_dates = all_stay of_calendar (files.calendar_services_in f) named_in_dates service_rows own in
-      let make_row : ℕ → calendar.ServiceRow → CalendarData = λ n r. record (calendar.data_of [] r) { service = n } in
-      let rows_stay = values_stay of_calendar make_row (files.calendar_services_in f) named_in_dates service_rows own in
-      let rows_stay_too = values_stay of_calendar make_row (files.dated_services_in f) named_in_trips service_rows in_dates in
-      is.values ∙ ap (λ (l : List (List ℕ)). map (calendar.data_of l) service_rows) is.services ∙ sym (rows_stay_too ∙ rows_stay)
-
-  -- the catalog that was read file by file
-  pub is_catalog : (p : LocationData) (r : RoutesWithTrips) → p ≡ files.locations_in f → AreLocations p → AreRoutesWithTrips r f
-      → IsCatalog (record { locations = p; routes = r.routes; calendar = r.served.calendar; exceptions = r.served.dated.exceptions; trips = r.served.dated.trips }) f
-  is_catalog p r are_locations sound are = record {
-    locations = are_locations;
-    routes = are.routes;
-    calendar = are.served.calendar;
-    exceptions = are.served.dated.exceptions;
-    services = are.served.dated.services;
-    trip_ids = are.served.dated.trip_ids;
-    numbers = are.served.dated.numbers;
-    sound_locations = sound;
-    few_routes = are.few;
-    few_services = are.served.dated.few_services;
-    few_trips = are.served.dated.few_trips;
-  }
 
   module _ (c : Catalog) (all : List FeedTrip) (aside : ℕ) (events : List (List Event)) (departures : List (List Departures)) (is : IsCatalog c f) (are_events : events ≡ files.events_in f)
       (are_departures : departures ≡ files.departures_in f) (are_aside : aside ≡ files.aside_in f) where

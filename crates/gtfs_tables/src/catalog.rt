@@ -7,15 +7,7 @@ ghost use Rattle.table_files.specs.CalendarDates.{AreExceptions, date_rows};
 ghost use Rattle.table_files.specs.FeedTrips.{AreTrips, trip_rows};
 ghost use Rattle.table_files.specs.Locations.{AreLocations};
 ghost use Rattle.gtfs_tables.specs.Files as spec;
-ghost use Rattle.gtfs_tables.specs.Catalog.{
-  AreDatesWithTrips,
-  AreRoutesWithTrips,
-  AreServicesWithTrips,
-  IsCatalog,
-  faults_from_calendar,
-  faults_from_dates,
-  faults_from_routes,
-};
+ghost use Rattle.gtfs_tables.specs.Catalog.{IsCatalog};
 
 use crate::feed_bytes::{FeedBytes, missing};
 use std::alloc::Global;
@@ -43,113 +35,31 @@ pub fn read_catalog(alloc: Global, files: &FeedBytes<'_>) -> Result<Catalog, Fee
     ensures fault { IfErr result (λ e. Tells e (spec.catalog_faults (spec.files_of files.now))) }
 {
     let locations = locations_of(alloc, files)?;
-    match routes_with_trips(alloc, files) {
-        Ok(routed) => Ok(Catalog {
-            locations,
-            routes: routed.routes,
-            calendar: routed.served.calendar,
-            exceptions: routed.served.dated.exceptions,
-            trips: routed.served.dated.trips,
-        }),
-        Err(fault) => {
-            drop(locations);
-            Err(fault)
-        }
-    }
-}
-
-// Each step owns one big value, and what it makes holds that of the step after it: a function that owned several would make
-// the prover follow the letting go of each at every way out.
-
-/// The routes, and what runs on them.
-#[derive(Drop)]
-struct RoutesWithTrips {
-    routes: Identifiers,
-    served: ServicesWithTrips,
-}
-
-/// The rows of `calendar.txt`, and what follows its services.
-#[derive(Drop)]
-struct ServicesWithTrips {
-    calendar: Vec<CalendarRow>,
-    dated: DatesWithTrips,
-}
-
-/// The rows of `calendar_dates.txt`, and the trips.
-#[derive(Drop)]
-struct DatesWithTrips {
-    exceptions: Vec<ExceptionRow>,
-    trips: FeedTrips,
-}
-
-// The routes, and what runs on them.
-fn routes_with_trips(alloc: Global, files: &FeedBytes<'_>) -> Result<RoutesWithTrips, FeedFault>
-    requires { spec.AreWithinLimit (spec.files_of files.now) }
-    ensures good { IfOk result (λ r. (faults_from_routes (spec.files_of files.now) ≡ []) × AreRoutesWithTrips r (spec.files_of files.now)) }
-    ensures fault { IfErr result (λ e. Tells e (faults_from_routes (spec.files_of files.now))) }
-{
     let routes = routes_of(alloc, files)?;
-    match services_with_trips(alloc, files, &routes) {
-        Ok(served) => Ok(RoutesWithTrips { routes, served }),
-        Err(fault) => {
-            drop(routes);
-            Err(fault)
-        }
-    }
+    let Calendar {
+        services: weekly,
+        rows: calendar,
+    } = calendar_of(alloc, files)?;
+    let CalendarDates {
+        services: dated,
+        rows: exceptions,
+    } = dates_of(alloc, files, weekly)?;
+    let trips = trips_of(alloc, files, &routes, dated)?;
+    Ok(Catalog {
+        locations: Box::into_inner(locations),
+        routes,
+        calendar,
+        exceptions,
+        trips,
+    })
 }
 
-// The rows of `calendar.txt`, and what follows its services.
-fn services_with_trips(
-    alloc: Global,
-    files: &FeedBytes<'_>,
-    routes: &Identifiers,
-) -> Result<ServicesWithTrips, FeedFault>
-    requires size { spec.AreWithinLimit (spec.files_of files.now) }
-    requires routes { routes.now ≡ spec.routes_in (spec.files_of files.now) }
-    requires few { length routes.now ≤ 1073741824 }
-    ensures good { IfOk result (λ s. (faults_from_calendar (spec.files_of files.now) ≡ []) × AreServicesWithTrips s (spec.files_of files.now)) }
-    ensures fault { IfErr result (λ e. Tells e (faults_from_calendar (spec.files_of files.now))) }
-{
-    let Calendar { services, rows } = calendar_of(alloc, files)?;
-    match dates_with_trips(alloc, files, routes, services) {
-        Ok(dated) => Ok(ServicesWithTrips {
-            calendar: rows,
-            dated,
-        }),
-        Err(fault) => Err(fault),
-    }
-}
-
-// The rows of `calendar_dates.txt`, and the trips, after the services of `calendar.txt`.
-fn dates_with_trips(
-    alloc: Global,
-    files: &FeedBytes<'_>,
-    routes: &Identifiers,
-    services: Identifiers,
-) -> Result<DatesWithTrips, FeedFault>
-    requires size { spec.AreWithinLimit (spec.files_of files.now) }
-    requires routes { routes.now ≡ spec.routes_in (spec.files_of files.now) }
-    requires few { length routes.now ≤ 1073741824 }
-    requires services { services ≡ spec.calendar_services_in (spec.files_of files.now) }
-    requires known { length services ≤ 1073741824 }
-    ensures good { IfOk result (λ d. (faults_from_dates (spec.files_of files.now) ≡ []) × AreDatesWithTrips d (spec.files_of files.now)) }
-    ensures fault { IfErr result (λ e. Tells e (faults_from_dates (spec.files_of files.now))) }
-{
-    let CalendarDates { services, rows } = dates_of(alloc, files, services)?;
-    match trips_of(alloc, files, routes, services) {
-        Ok(trips) => Ok(DatesWithTrips {
-            exceptions: rows,
-            trips,
-        }),
-        Err(fault) => Err(fault),
-    }
-}
-
-// The locations of `stops.txt`.
-fn locations_of(alloc: Global, files: &FeedBytes<'_>) -> Result<Locations, FeedFault>
+// The locations of `stops.txt`, in a box.
+fn locations_of(alloc: Global, files: &FeedBytes<'_>) -> Result<Box<Locations>, FeedFault>
     requires { spec.IsWithinLimit (spec.bytes_of files.now.stops) }
-    ensures good { IfOk result (λ p. (spec.faults_of_stops (spec.files_of files.now) ≡ []) × (p ≡ spec.locations_in (spec.files_of files.now))) }
-    ensures sound { IfOk result AreLocations }
+    ensures good { IfOk result (λ p. (spec.faults_of_stops (spec.files_of files.now) ≡ [])
+        × (p.value ≡ spec.locations_in (spec.files_of files.now))) }
+    ensures sound { IfOk result (λ p. AreLocations p.value) }
     ensures fault { IfErr result (λ e. Tells e (spec.faults_of_stops (spec.files_of files.now))) }
 {
     let Some(bytes) = files.stops else {
@@ -157,7 +67,7 @@ fn locations_of(alloc: Global, files: &FeedBytes<'_>) -> Result<Locations, FeedF
     };
     let locations = read_locations(alloc, bytes)?;
     locations.known();
-    Ok(locations)
+    Ok(Box::new(alloc, locations)?)
 }
 
 // The identifiers of the routes.

@@ -1,6 +1,5 @@
 //! A feed from the bytes of its files.
-//! Each step owns one big value and borrows those before it: a function that owned several would make the prover follow the
-//! letting go of each at every way out.
+//! A big value is held in a box, which is dropped in one step: else the prover follows each drop at every way out.
 
 ghost use Rattle.std.specs.Prelude.{◌≡◌, ◌≤◌, ◌++◌, [], All, length, map, IfOk, IfErr};
 ghost use Rattle.timetable.specs.declared.limits.TheConstants.{MOST_STOPS, MOST_TRIPS};
@@ -8,8 +7,6 @@ ghost use Rattle.table_records.specs.Faults.{Tells};
 ghost use Rattle.table_files.specs.Transfers.{IsLink};
 ghost use Rattle.table_files.specs.WholeTrips.{AreEvents};
 ghost use Rattle.gtfs_tables.specs.Catalog.{IsCatalog};
-ghost use Rattle.gtfs_tables.specs.Feed.{IsFeed};
-ghost use Rattle.gtfs_tables.specs.FeedParts.{data_of};
 ghost use Rattle.gtfs_tables.specs.Files as spec;
 
 use crate::catalog::{Catalog, read_catalog};
@@ -37,98 +34,27 @@ pub fn read_feed(alloc: Global, files: &FeedBytes<'_>) -> Result<Feed, FeedFault
     ensures good { IfOk result (λ feed. (spec.feed_faults (spec.files_of files.now) ≡ []) × (feed ≡ spec.feed_of (spec.files_of files.now))) }
     ensures fault { IfErr result (λ e. Tells e (spec.feed_faults (spec.files_of files.now))) }
 {
-    match read_catalog(alloc, files) {
-        Ok(catalog) => feed_of(alloc, files, catalog),
-        Err(fault) => Err(fault),
-    }
+    let catalog = catalog_of(alloc, files)?;
+    let listed = catalog.as_ref();
+    let ids = &listed.trips.ids;
+    let StopTimes {
+        trips: events,
+        aside,
+    } = times_of(alloc, files, ids, listed.locations.stops())?;
+    let departures = departures_of(alloc, files, ids)?;
+    let trips = trips_of(alloc, &listed.trips, events, departures)?;
+    let transfers = transfers_of(alloc, files, &listed.locations)?;
+    Ok(Feed::new(Box::into_inner(catalog), trips, aside, transfers))
 }
 
-// The feed whose catalog was read.
-fn feed_of(alloc: Global, files: &FeedBytes<'_>, catalog: Catalog) -> Result<Feed, FeedFault>
-    requires size { spec.AreWithinLimit (spec.files_of files.now) }
-    requires sound { spec.catalog_faults (spec.files_of files.now) ≡ [] }
-    requires catalog { IsCatalog catalog (spec.files_of files.now) }
-    ensures good { let f = spec.files_of files.now in
-        IfOk result (λ feed. (spec.faults_of_stop_times f ++ spec.faults_of_frequencies f ++ spec.faults_of_transfers f ≡ []) × (feed ≡ spec.feed_of f)) }
-    ensures fault { let f = spec.files_of files.now in
-        IfErr result (λ e. Tells e (spec.faults_of_stop_times f ++ spec.faults_of_frequencies f ++ spec.faults_of_transfers f)) }
+// The catalog, in a box.
+fn catalog_of(alloc: Global, files: &FeedBytes<'_>) -> Result<Box<Catalog>, FeedFault>
+    requires { spec.AreWithinLimit (spec.files_of files.now) }
+    ensures good { IfOk result (λ c. (spec.catalog_faults (spec.files_of files.now) ≡ [])
+        × IsCatalog c.value (spec.files_of files.now)) }
+    ensures fault { IfErr result (λ e. Tells e (spec.catalog_faults (spec.files_of files.now))) }
 {
-    match trips_and_transfers_of(alloc, files, &catalog) {
-        Ok(rest) => Ok(Feed::new(catalog, rest.trips, rest.aside, rest.transfers)),
-        Err(fault) => {
-            // By a call: left to the end of the scope, this drop makes the check ten times as long.
-            drop(catalog);
-            Err(fault)
-        }
-    }
-}
-
-/// What a feed has beside its catalog: its trips, of which so many were set aside, and its walks.
-#[derive(Drop)]
-struct TripsAndTransfers {
-    trips: Vec<FeedTrip>,
-    aside: u32,
-    transfers: Transfers,
-}
-
-// The trips and the walks of a feed whose catalog was read.
-fn trips_and_transfers_of(
-    alloc: Global,
-    files: &FeedBytes<'_>,
-    catalog: &Catalog,
-) -> Result<TripsAndTransfers, FeedFault>
-    requires size { spec.AreWithinLimit (spec.files_of files.now) }
-    requires sound { spec.catalog_faults (spec.files_of files.now) ≡ [] }
-    requires catalog { IsCatalog catalog.now (spec.files_of files.now) }
-    ensures good { let f = spec.files_of files.now in
-        IfOk result (λ t. (spec.faults_of_stop_times f ++ spec.faults_of_frequencies f ++ spec.faults_of_transfers f ≡ [])
-        × (data_of catalog.now t.trips.items t.aside t.transfers ≡ spec.feed_of f)) }
-    ensures feed { IfOk result (λ t. IsFeed (data_of catalog.now t.trips.items t.aside t.transfers)) }
-    ensures ids { IfOk result (λ t. catalog.now.trips.ids ≡ map (λ trip. trip.id) t.trips.items) }
-    ensures fault { let f = spec.files_of files.now in
-        IfErr result (λ e. Tells e (spec.faults_of_stop_times f ++ spec.faults_of_frequencies f ++ spec.faults_of_transfers f)) }
-{
-    let timed = timed_trips_of(alloc, files, catalog)?;
-    match transfers_of(alloc, files, &catalog.locations) {
-        Ok(transfers) => Ok(TripsAndTransfers {
-            trips: timed.trips,
-            aside: timed.aside,
-            transfers,
-        }),
-        Err(fault) => Err(fault),
-    }
-}
-
-/// The trips with their times, of which so many were set aside.
-#[derive(Drop)]
-struct TimedTrips {
-    trips: Vec<FeedTrip>,
-    aside: u32,
-}
-
-// The trips of a catalog with their events and departures.
-fn timed_trips_of(
-    alloc: Global,
-    files: &FeedBytes<'_>,
-    catalog: &Catalog,
-) -> Result<TimedTrips, FeedFault>
-    requires size { spec.AreWithinLimit (spec.files_of files.now) }
-    requires catalog { IsCatalog catalog.now (spec.files_of files.now) }
-    ensures good { let f = spec.files_of files.now in
-        IfOk result (λ t. (spec.faults_of_stop_times f ++ spec.faults_of_frequencies f ≡ []) × (t.aside ≡ spec.aside_in f)
-        × (t.trips.items ≡ spec.trips_of catalog.now.trips.ids catalog.now.trips.numbers.items (spec.events_in f) (spec.departures_in f))) }
-    ensures fit { IfOk result (λ _. AreEvents (length catalog.now.locations.stops) (spec.events_in (spec.files_of files.now))) }
-    ensures few { IfOk result (λ t. t.aside ≤ length catalog.now.trips.ids) }
-    ensures fault { let f = spec.files_of files.now in IfErr result (λ e. Tells e (spec.faults_of_stop_times f ++ spec.faults_of_frequencies f)) }
-{
-    let times = times_of(alloc, files, &catalog.trips.ids, catalog.locations.stops())?;
-    match departures_of(alloc, files, &catalog.trips.ids) {
-        Ok(departures) => Ok(TimedTrips {
-            aside: times.aside,
-            trips: trips_of(alloc, &catalog.trips, times.trips, departures)?,
-        }),
-        Err(fault) => Err(fault),
-    }
+    Ok(Box::new(alloc, read_catalog(alloc, files)?)?)
 }
 
 // The events of each trip.

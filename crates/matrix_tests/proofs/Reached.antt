@@ -16,11 +16,11 @@ two_lanes first second l h =
       ]
     ]
 
--- where only the first of two stops is reached, that is early
-pub early : (a b : ℕ) → (a ≡ NEVER) ⊎ ((a ≡ 100) ⊎ (a ≡ NEVER)) → b ≡ NEVER → (p : ℕ) → slice_index (a ∷ b ∷ []) p ≢ NEVER → slice_index (a ∷ b ∷ []) p ≤ 100
-early a b either never zero ne = elim either [ inl n ↦ absurd (ne n) | inr o ↦ elim o [ inl e ↦ omega (arith, e) | inr n ↦ absurd (ne n) ] ]
-early a b either never (suc zero) ne = absurd (ne never)
-early a b either never (suc (suc p)) ne = omega arith
+-- where only the first of two stops is reached, that is at these seconds
+pub early : (seconds a b : ℕ) → (a ≡ NEVER) ⊎ ((a ≡ seconds) ⊎ (a ≡ NEVER)) → b ≡ NEVER → (p : ℕ) → slice_index (a ∷ b ∷ []) p ≢ NEVER → slice_index (a ∷ b ∷ []) p ≤ seconds
+early seconds a b either never zero ne = elim either [ inl n ↦ absurd (ne n) | inr o ↦ elim o [ inl e ↦ omega (arith, e) | inr n ↦ absurd (ne n) ] ]
+early seconds a b either never (suc zero) ne = absurd (ne never)
+early seconds a b either never (suc (suc p)) ne = omega arith
 
 pub below_two : (a b : Event) → a.stop.0 < 2 → b.stop.0 < 2 → (k : ℕ) (e : Event) → slice_get (a ∷ b ∷ []) k ≡ Some e → e.stop.0 < 2
 below_two a b x y zero e at = subst (λ (v : Event). v.stop.0 < 2) (same_Some a e at) x

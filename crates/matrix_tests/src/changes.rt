@@ -24,14 +24,14 @@ fn a_change_needs_its_time(rt: HostRuntime) -> Result<(), Fail> {
     let second = [at(1, 29_700, 29_700), at(2, 30_600, 30_600)];
 
     // at the stop of the change there are 300 seconds between the trips; no other stop's time counts
-    for (changes, expected) in [
+    for (changes, expected) in &[
         ([0, 300, 0], [0, 600, 1_800]),
         ([0, 301, 0], [0, 600, NEVER]),
         ([0, 16_777_216, 0], [0, 600, NEVER]),
         ([301, 0, 301], [0, 600, 1_800]),
     ] {
-        let found = durations(alloc, &changes, &[], &[&first, &second], (0, 28_800))?;
-        assert!(rt; are(&found, &expected), "{}", changes[1]);
+        let found = durations(alloc, changes, &[], &[&first, &second], (0, 28_800))?;
+        assert!(rt; are(&found, expected), "{}", changes[1]);
     }
     Ok(())
 }
@@ -68,14 +68,14 @@ fn a_stop_reached_by_a_ride_and_by_a_walk(rt: HostRuntime) -> Result<(), Fail> {
     // stop 2 is reached at 200 by the ride, and at 250 on foot from stop 1; its change time is 100
     let first = [at(0, 100, 100), at(1, 150, 150), at(2, 200, 200)];
     let walk = [(1, 2, 100)];
-    for (footpaths, leave, expected) in [
+    for (footpaths, leave, expected) in &[
         (walk.as_slice(), 249u32, NEVER),
         (walk.as_slice(), 250, 250),
         ([].as_slice(), 299, NEVER),
         ([].as_slice(), 300, 300),
     ] {
         let arrive = leave.saturating_add(100);
-        let second = [at(2, leave, leave), at(3, arrive, arrive)];
+        let second = [at(2, *leave, *leave), at(3, arrive, arrive)];
         let found = durations(
             alloc,
             &[0, 0, 100, 0],
@@ -83,7 +83,7 @@ fn a_stop_reached_by_a_ride_and_by_a_walk(rt: HostRuntime) -> Result<(), Fail> {
             &[&first, &second],
             (0, 100),
         )?;
-        assert!(rt; are(&found, &[0, 50, 100, expected]), "leaves at {leave}");
+        assert!(rt; are(&found, &[0, 50, 100, *expected]), "leaves at {leave}");
     }
     Ok(())
 }

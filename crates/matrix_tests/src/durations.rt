@@ -8,7 +8,7 @@ use timetable::{END_OF_AXIS, NEVER, StopNo};
 #[test]
 fn two_trips_with_a_change(rt: HostRuntime) -> Result<(), Fail> {
     let alloc = rt.alloc();
-    for (leave, board, origin, rides, expected) in [
+    for (leave, board, origin, rides, expected) in &[
         (29_700, true, 0, 2, [0, 600, 1_800]),
         (29_700, true, 0, 8, [0, 600, 1_800]),
         (29_700, true, 0, 1, [0, 600, NEVER]),
@@ -17,8 +17,8 @@ fn two_trips_with_a_change(rt: HostRuntime) -> Result<(), Fail> {
         (29_400, true, 0, 2, [0, 600, 1_800]),
         (29_399, true, 0, 2, [0, 600, NEVER]),
     ] {
-        let network = two_trips(alloc, leave, board)?;
-        let found = of_minute(alloc, &network, origin, 28_800, rides)?;
+        let network = two_trips(alloc, *leave, *board)?;
+        let found = of_minute(alloc, &network, *origin, 28_800, *rides)?;
         assert!(rt;
             are(&found, expected.as_slice()),
             "leave {leave}, origin {origin}, rides {rides}"
@@ -32,7 +32,7 @@ fn no_two_walks_follow_one_another(rt: HostRuntime) -> Result<(), Fail> {
     let alloc = rt.alloc();
     let closed = [(0, 1, 60), (0, 2, 120), (1, 2, 60)];
     let bare = [(0, 1, 60), (1, 2, 60)];
-    for (footpaths, expected) in [
+    for (footpaths, expected) in &[
         (closed.as_slice(), [0, 60, 120]),
         (bare.as_slice(), [0, 60, NEVER]),
     ] {
@@ -49,11 +49,11 @@ fn walks_come_first_and_last(rt: HostRuntime) -> Result<(), Fail> {
     let first = [at(0, 28_800, 28_800), at(1, 29_400, 29_400)];
     let second = [at(1, 29_700, 29_700), at(2, 30_600, 30_600)];
     let network = network_of(alloc, 5, &[(2, 4, 90), (3, 0, 120)], &[&first, &second])?;
-    for (depart, expected) in [
+    for (depart, expected) in &[
         (28_680, [120, 720, 1_920, 0, 2_010]),
         (28_740, [120, NEVER, NEVER, 0, NEVER]),
     ] {
-        let found = of_minute(alloc, &network, 3, depart, 2)?;
+        let found = of_minute(alloc, &network, 3, *depart, 2)?;
         assert!(rt; are(&found, expected.as_slice()), "at {depart}");
     }
     Ok(())
@@ -77,7 +77,7 @@ fn odd_trips(rt: HostRuntime) -> Result<(), Fail> {
 
     let trips = [twice.as_slice(), no_time.as_slice(), waits.as_slice()];
     let network = network_of(alloc, 8, &[(3, 7, 0), (4, 5, 50)], &trips)?;
-    for (origin, depart, rides, expected) in [
+    for (origin, depart, rides, expected) in &[
         (0, 100, 1, [0, 100, 300, NEVER, NEVER, NEVER, NEVER, NEVER]),
         (
             0,
@@ -89,7 +89,7 @@ fn odd_trips(rt: HostRuntime) -> Result<(), Fail> {
         (1, 900, 1, [NEVER, 0, 0, 0, NEVER, NEVER, NEVER, 0]),
         (4, 6_040, 1, [NEVER, NEVER, NEVER, NEVER, 0, 50, 160, NEVER]),
     ] {
-        let found = of_minute(alloc, &network, origin, depart, rides)?;
+        let found = of_minute(alloc, &network, *origin, *depart, *rides)?;
         assert!(rt;
             are(&found, expected.as_slice()),
             "from {origin} at {depart}"
@@ -105,12 +105,12 @@ fn the_faster_of_two_trips(rt: HostRuntime) -> Result<(), Fail> {
     let fast = [at(0, 2_000, 2_000), at(1, 3_000, 3_000)];
     let last = [at(1, 3_000, 3_000), at(2, 3_100, 3_100)];
     let network = network_of(alloc, 3, &[], &[&slow, &last, &fast])?;
-    for (depart, expected) in [
+    for (depart, expected) in &[
         (1_000, [0, 2_000, 2_100]),
         (2_000, [0, 1_000, 1_100]),
         (2_001, [0, NEVER, NEVER]),
     ] {
-        let found = of_minute(alloc, &network, 0, depart, 2)?;
+        let found = of_minute(alloc, &network, 0, *depart, 2)?;
         assert!(rt; are(&found, expected.as_slice()), "at {depart}");
     }
     Ok(())
@@ -128,14 +128,14 @@ fn a_trip_every_minute(rt: HostRuntime) -> Result<(), Fail> {
     waits[0] = 0;
 
     // 06:00, 06:13, 06:59, the last trip, and a second later
-    for (depart, expected) in [
+    for (depart, expected) in &[
         (21_600, rides),
         (22_380, rides),
         (25_140, rides),
         (41_940, rides),
         (41_941, waits),
     ] {
-        let found = of_minute(alloc, &network, 0, depart, 1)?;
+        let found = of_minute(alloc, &network, 0, *depart, 1)?;
         assert!(rt; are(&found, expected.as_slice()), "at {depart}");
     }
     Ok(())
@@ -153,7 +153,7 @@ fn is_at(found: &Option<Durations>, stop: u32, minute: u32, expected: Option<u32
 
 #[test]
 fn windows_that_fit(rt: HostRuntime) -> Result<(), Fail> {
-    for (first, minutes, expected) in [
+    for (first, minutes, expected) in &[
         (0, 0, false),
         (0, 1, true),
         (0, 1_440, true),
@@ -167,8 +167,14 @@ fn windows_that_fit(rt: HostRuntime) -> Result<(), Fail> {
         (END_OF_AXIS - 86_340, 1_440, false),
         (u32::MAX, 1, false),
     ] {
-        let window = Window { first, minutes };
-        assert!(rt; window.fits() == expected, "{minutes} minutes from {first}");
+        let window = Window {
+            first: *first,
+            minutes: *minutes,
+        };
+        assert!(rt;
+            window.fits() == *expected,
+            "{minutes} minutes from {first}"
+        );
     }
     Ok(())
 }
@@ -184,7 +190,7 @@ fn each_minute_of_a_window(rt: HostRuntime) -> Result<(), Fail> {
         minutes: 4,
     };
     let found = of_window(alloc, &network, 0, window, 2)?;
-    for (stop, minute, expected) in [
+    for (stop, minute, expected) in &[
         (0, 0, Some(0)),
         (0, 3, Some(0)),
         (1, 0, Some(720)),
@@ -197,7 +203,7 @@ fn each_minute_of_a_window(rt: HostRuntime) -> Result<(), Fail> {
         (2, 3, None),
     ] {
         assert!(rt;
-            is_at(&found, stop, minute, expected),
+            is_at(&found, *stop, *minute, *expected),
             "stop {stop}, minute {minute}"
         );
     }
@@ -208,13 +214,13 @@ fn each_minute_of_a_window(rt: HostRuntime) -> Result<(), Fail> {
 fn an_hour_of_a_trip_every_minute(rt: HostRuntime) -> Result<(), Fail> {
     let alloc = rt.alloc();
     let network = a_line(alloc)?;
-    for minutes in [1, 15, 16, 17, 32, 60] {
+    for minutes in &[1, 15, 16, 17, 32, 60] {
         let window = Window {
             first: 21_600,
-            minutes,
+            minutes: *minutes,
         };
         let found = of_window(alloc, &network, 0, window, 1)?;
-        for minute in 0..minutes {
+        for minute in 0..*minutes {
             for stop in 0..20u32 {
                 assert!(rt;
                     is_at(&found, stop, minute, Some(120 * stop)),

@@ -99,6 +99,22 @@ fn a_change_takes_its_time_and_a_walk_none(rt: HostRuntime) -> Result<(), Fail> 
     Ok(())
 }
 
+#[test]
+fn a_change_at_the_end_of_the_numbers_takes_its_time(rt: HostRuntime) -> Result<(), Fail> {
+    let alloc = rt.alloc();
+    let feet = feet_of(alloc, &[(StopNo(1), 60)], &[300, 7])?;
+    let Some(feet) = feet else {
+        return Err(Fail::new("feet"));
+    };
+    let ride = [two(4_000_000_000, NEVER), UNREACHED];
+    let mut ready = [UNREACHED, UNREACHED];
+    if feet.stops() == 2 {
+        transfer(&feet, &ride, &mut ready);
+    }
+    assert!(rt; ready[0] == two(4_000_000_300, NEVER) && ready[1] == two(4_000_000_060, NEVER));
+    Ok(())
+}
+
 /// A place of a line where all may board and alight.
 fn call(stop: u32) -> Call
     ensures { result.stop.0 ≡ stop }

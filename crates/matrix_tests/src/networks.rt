@@ -80,7 +80,7 @@ fn footpaths_lead_one_way(rt: HostRuntime) -> Result<(), Fail> {
         assert!(rt; false);
         return Ok(());
     };
-    for (from, to, seconds) in [
+    for (from, to, seconds) in &[
         (0, 1, Some(60)),
         (1, 0, None),
         (3, 0, Some(10)),
@@ -92,10 +92,9 @@ fn footpaths_lead_one_way(rt: HostRuntime) -> Result<(), Fail> {
         (3, 6, Some(7_200)),
         (3, 7, None),
     ] {
-        if from < feet.stops() {
-            assert_eq!(rt;
-                feet.seconds(StopNo(from), StopNo(to)),
-                seconds,
+        if *from < feet.stops() {
+            assert!(rt;
+                feet.seconds(StopNo(*from), StopNo(*to)) == *seconds,
                 "from {from} to {to}"
             );
         }
@@ -106,7 +105,7 @@ fn footpaths_lead_one_way(rt: HostRuntime) -> Result<(), Fail> {
 #[test]
 fn footpaths_are_refused(rt: HostRuntime) -> Result<(), Fail> {
     let alloc = rt.alloc();
-    for (stops, lists, footpaths, fault) in [
+    for (stops, lists, footpaths, fault) in &[
         (0, 0, [].as_slice(), None),
         (2, 2, [(0, 1, 60)].as_slice(), None),
         (2, 2, [(0, 1, 7_200)].as_slice(), None),
@@ -135,8 +134,8 @@ fn footpaths_are_refused(rt: HostRuntime) -> Result<(), Fail> {
         (65_536, 65_536, [].as_slice(), Some(NetFault::TooLarge)),
         (2, 2, [(0, 2, 7_201)].as_slice(), Some(NetFault::StopRange)),
     ] {
-        let expected = fault.map(|fault| (fault, lists));
-        assert_eq!(rt; feet_fault(alloc, stops, lists, footpaths)?, expected);
+        let expected = fault.map(|fault| (fault, *lists));
+        assert!(rt; feet_fault(alloc, *stops, *lists, footpaths)? == expected);
     }
     Ok(())
 }
@@ -144,7 +143,7 @@ fn footpaths_are_refused(rt: HostRuntime) -> Result<(), Fail> {
 #[test]
 fn change_times_are_refused(rt: HostRuntime) -> Result<(), Fail> {
     let alloc = rt.alloc();
-    for (changes, fault) in [
+    for (changes, fault) in &[
         ([0, 0].as_slice(), None),
         ([300, 16_777_216].as_slice(), None),
 
@@ -155,7 +154,7 @@ fn change_times_are_refused(rt: HostRuntime) -> Result<(), Fail> {
         ([16_777_217].as_slice(), Some(NetFault::StopRange)),
     ] {
         let expected = fault.map(|fault| (fault, 2, changes.len()));
-        assert_eq!(rt; change_fault(alloc, changes)?, expected);
+        assert!(rt; change_fault(alloc, changes)? == expected);
     }
     Ok(())
 }
@@ -168,9 +167,9 @@ fn each_stop_has_its_change_time(rt: HostRuntime) -> Result<(), Fail> {
         assert!(rt; false);
         return Ok(());
     };
-    for (stop, seconds) in [(0, 300), (1, 0), (2, 16_777_216)] {
-        if stop < feet.stops() {
-            assert_eq!(rt; feet.change(StopNo(stop)), seconds, "at {stop}");
+    for (stop, seconds) in &[(0, 300), (1, 0), (2, 16_777_216)] {
+        if *stop < feet.stops() {
+            assert!(rt; feet.change(StopNo(*stop)) == *seconds, "at {stop}");
         }
     }
     Ok(())
@@ -186,7 +185,7 @@ fn networks_off_their_stops_are_refused(rt: HostRuntime) -> Result<(), Fail> {
     let early = at(0, 100, 110);
     let late = at(1, 110, 200);
     let beyond = at(2, 110, 200);
-    for (stops, events, fault) in [
+    for (stops, events, fault) in &[
         (2, [early, late, early], None),
 
         // an event at stop 2 of two stops; footpaths for another number of stops; two faults at once
@@ -199,7 +198,7 @@ fn networks_off_their_stops_are_refused(rt: HostRuntime) -> Result<(), Fail> {
         ),
     ] {
         let expected = fault.map(|fault| (fault, 2));
-        assert_eq!(rt; net_fault(alloc, stops, events, &feet)?, expected);
+        assert!(rt; net_fault(alloc, *stops, *events, &feet)? == expected);
     }
     Ok(())
 }
@@ -215,7 +214,7 @@ fn networks_with_bad_times_are_refused(rt: HostRuntime) -> Result<(), Fail> {
     let late = at(1, 110, 200);
     let overlapping = at(1, 100, 120);
     let off_the_axis = at(0, 0, 16_777_216);
-    for (events, fault) in [
+    for (events, fault) in &[
         ([early, late, at(0, 0, 16_777_215)], None),
 
         // an arrival before the departure of the event before; a departure before its arrival
@@ -230,7 +229,7 @@ fn networks_with_bad_times_are_refused(rt: HostRuntime) -> Result<(), Fail> {
         ),
     ] {
         let expected = fault.map(|fault| (fault, 2));
-        assert_eq!(rt; net_fault(alloc, 2, events, &feet)?, expected);
+        assert!(rt; net_fault(alloc, 2, *events, &feet)? == expected);
     }
     Ok(())
 }

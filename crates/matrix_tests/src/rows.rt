@@ -193,7 +193,7 @@ const BASE: &[&[Ride]] = &[&[FIRST, SECOND]];
 /// The share, over windows from a minute of the day.
 fn give_the_nearest_rank(alloc: Global, networks: &[Network]) -> bool {
     let all = [Some(0), Some(600), Some(1_800)];
-    for (minute, minutes, share, access, cells) in [
+    for (minute, minutes, share, access, cells) in &[
         (478, 4, 1, 3, all),
         (478, 4, 25, 3, all),
         (478, 4, 50, 2, [Some(0), Some(660), Some(1_860)]),
@@ -203,13 +203,13 @@ fn give_the_nearest_rank(alloc: Global, networks: &[Network]) -> bool {
         (464, 17, 1, 3, all),
         (448, 33, 50, 2, [Some(0), Some(1_560), Some(2_760)]),
     ] {
-        let shares = [share];
+        let shares = [*share];
         let asked = Asked {
-            window: window(minute, minutes),
+            window: window(*minute, *minutes),
             shares: &shares,
             ..asked()
         };
-        if !gives_one(alloc, &asking(networks, asked), access, cells) {
+        if !gives_one(alloc, &asking(networks, asked), *access, *cells) {
             return false;
         }
     }
@@ -266,8 +266,8 @@ fn gives_each_share_its_cells_and_each_limit_its_sum(rt: HostRuntime) {
 
 /// The access, of what is reached within a limit.
 fn sum_the_opportunities(alloc: Global, networks: &[Network]) -> bool {
-    for (within, access) in [(1_800, 15), (1_799, 10), (599, 0)] {
-        let limits = [within];
+    for (within, access) in &[(1_800, 15), (1_799, 10), (599, 0)] {
+        let limits = [*within];
         let asked = Asked {
             limits: &limits,
             ..asked()
@@ -276,7 +276,7 @@ fn sum_the_opportunities(alloc: Global, networks: &[Network]) -> bool {
             opportunities: &[0, 10, 5],
             ..asking(networks, asked)
         };
-        if !gives_one(alloc, &study, access, [Some(0), Some(600), Some(1_800)]) {
+        if !gives_one(alloc, &study, *access, [Some(0), Some(600), Some(1_800)]) {
             return false;
         }
     }
@@ -521,15 +521,15 @@ const LIMITS: [(&[u32], bool); 6] = [
 
 /// Each of the shares, and each of the limits.
 fn fit_with_theirs(networks: &[Network]) -> bool {
-    for (shares, want) in SHARES {
+    for (shares, want) in &SHARES {
         let asked = Asked { shares, ..asked() };
-        if shares_fit(shares) != want || asking(networks, asked).fits() != want {
+        if shares_fit(shares) != *want || asking(networks, asked).fits() != *want {
             return false;
         }
     }
-    for (limits, want) in LIMITS {
+    for (limits, want) in &LIMITS {
         let asked = Asked { limits, ..asked() };
-        if limits_fit(limits) != want || asking(networks, asked).fits() != want {
+        if limits_fit(limits) != *want || asking(networks, asked).fits() != *want {
             return false;
         }
     }

@@ -48,7 +48,7 @@ line_text fields = row_text default_writer fields
 abbrev pub limit_field : ℕ → List ℕ
 limit_field limit = codes "access_" ++ decimal limit
 
--- the element at a place, or an empty text
+-- the element at a position, or an empty text
 abbrev pub text_at : List (List ℕ) → ℕ → List ℕ
 text_at texts k = option_map_or (λ (text : List ℕ). text) (slice_get texts k) []
 

@@ -8,7 +8,7 @@ use thiserror::Error;
 pub enum TextFault {
     /// The writer failed, or took nothing.
     Write,
-    /// A growth of memory was refused.
+    /// Out of memory.
     Memory,
 }
 

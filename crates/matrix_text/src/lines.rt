@@ -54,7 +54,7 @@ impl Line {
         self.fields.clear();
     }
 
-    /// Puts a field last. Where there is no room, all fields are gone.
+    /// Puts a field last. Out of memory, all fields are gone.
     pub fn push(&mut self, field: &[u8]) -> Result<(), TextFault>
         ensures ok { OnOk result (self.new ≡ self.old ++ field.now ∷ []) }
         ensures err { OnErr result (self.new ≡ []) }

@@ -21,8 +21,8 @@ use timetable::StopNo;
 /// cells in seconds, an absent one as an empty field. Fields are quoted where commas, quotes or line ends in them ask for
 /// it (RFC 4180), and each line ends with LF.
 ///
-/// `Write` comes where the writer fails or takes nothing, `Memory` where a line found no room; then a prefix of the text
-/// is out.
+/// `Write` comes where the writer fails or takes nothing, `Memory` where a line ran out of memory; then a prefix of the
+/// text is out.
 #[tactic(auto, using(crate::proofs::Prefixes::cut_before, crate::proofs::Prefixes::cut_after))]
 pub fn write_matrix<W: Write>(
     alloc: Global,

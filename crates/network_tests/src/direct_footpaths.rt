@@ -13,8 +13,13 @@ A,,\nB,,S\nS,1,\nC,0,S\nT,1,\nD,,T\nE,,T\nU,1,\nX,2,S\n";
 // Walks between the stops of S, and from A to B.
 const TRANSFERS: &[u8] = b"from_stop_id,to_stop_id,min_transfer_time\nS,S,30\nA,B,60\n";
 
-/// A feed with these stops and transfers, and no trips.
-fn feed_of<'a>(alloc: Global, stops: &'a [u8], transfers: &'a [u8]) -> Result<Feed, FeedFault> {
+/// A feed with these stops and transfers, and no trips. It stands in a box, so that whoever holds it lets go of it in one
+/// step.
+fn feed_of<'a>(
+    alloc: Global,
+    stops: &'a [u8],
+    transfers: &'a [u8],
+) -> Result<Box<Feed>, FeedFault> {
     let files = FeedBytes {
         stops: Some(stops),
         routes: Some(b"route_id\n"),
@@ -28,7 +33,10 @@ fn feed_of<'a>(alloc: Global, stops: &'a [u8], transfers: &'a [u8]) -> Result<Fe
     if !files.fits() {
         return Err(FeedFault::at(FileName::Stops, 0, What::TooMany));
     }
-    read_feed(alloc, &files)
+    match read_feed(alloc, &files) {
+        Ok(feed) => Ok(Box::new(alloc, feed)?),
+        Err(fault) => Err(fault),
+    }
 }
 
 /// A footpath: from, to, and seconds.
@@ -81,8 +89,7 @@ fn gives_over(alloc: Global, feed: &Feed, own: Option<&[u8]>, expected: Expected
     }
 }
 
-/// Whether the direct footpaths of these stops and transfers, and of a file, are as expected. One function owns the feeds of
-/// all tests, since letting go of one is long to prove.
+/// Whether the direct footpaths of these stops and transfers, and of a file, are as expected.
 fn gives(
     alloc: Global,
     stops: &[u8],

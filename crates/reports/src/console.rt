@@ -1,16 +1,16 @@
-//! Where a report goes, and what the machine says of itself.
+//! Where a report goes, and what the machine says of itself and of its folders.
 
 use crate::memory::{Memory, memory_of};
-use std::alloc::Global;
-use std::fs;
+use std::alloc::{AllocError, Global};
 use std::io::{IsTerminal, Read, Write};
 use std::rt::Files;
 use std::time::Clock;
+use std::{fs, io};
 
 /// The most reads of a file in which the system tells of itself.
 const MOST_READS: u32 = 16;
 
-/// Where a report goes, and what the machine says of itself. Several workers call it at once.
+/// Where a report goes, and what the machine says of itself and of its folders. Several workers call it at once.
 pub trait Console {
     /// Puts out a text, as far as it is taken.
     fn tell(&self, text: &[u8]);
@@ -23,6 +23,9 @@ pub trait Console {
 
     /// What is known of the memory of the machine and of this program.
     fn memory(&self, alloc: Global) -> Memory;
+
+    /// The names of what stands in a folder, in no order; those that aren't UTF-8 are left out.
+    fn names_in(&self, alloc: Global, folder: &str) -> io::Result<Vec<String>>;
 }
 
 impl Console for HostRuntime {
@@ -51,6 +54,22 @@ impl Console for HostRuntime {
             peak: told_in(alloc, self, "/proc/self/status", b"VmHWM:"),
         }
     }
+
+    fn names_in(&self, alloc: Global, folder: &str) -> io::Result<Vec<String>> {
+        let mut names = Vec::new(alloc);
+        for entry in fs::read_dir(self, folder)? {
+            if let Ok(entry) = entry {
+                add_name(alloc, &mut names, entry.file_name())?;
+            }
+        }
+        Ok(names)
+    }
+}
+
+/// Adds a name to others.
+fn add_name(alloc: Global, names: &mut Vec<String>, name: &str) -> Result<(), AllocError> {
+    names.push(String::from_str(alloc, name)?)?;
+    Ok(())
 }
 
 /// The bytes that a file of the system tells under a name.

@@ -1,5 +1,6 @@
 //! What runs on the days of a study and in its scenarios, and where one can walk.
 
+use crate::calendar_lines::tell_calendar;
 use crate::console::Console;
 use crate::lines::{shown, tell_count, tell_count_of, warn};
 use gtfs_tables::Feed;
@@ -13,6 +14,9 @@ use timetable::{Feet, StopNo};
 /// What is said where nobody can walk from a stop to another.
 const NO_WALKS: &str =
     "no walk leads anywhere, so changes are at one stop alone; ttm-tools walks makes a file for --footpaths, and --walk says how long a walk may be";
+
+/// What is said where no trip runs on the date of the departures.
+const NO_RUNS: &str = "no trip runs on the date itself; is it a date of the feed's calendar?";
 
 /// What a scenario does to the runs of a study.
 #[derive(Clone, Copy)]
@@ -77,20 +81,12 @@ fn tell_day<C: Console>(console: &C, alloc: Global, feed: &Feed, day: Date, is_d
     let Some(runs) = runs_on(alloc, feed, day) else {
         return;
     };
-    if let Ok(day) = format!(in alloc; "{day}") {
-        tell_runs_on(console, alloc, &day, runs, is_date);
+    if let Ok(name) = format!(in alloc; "{day}") {
+        tell_count_of(console, alloc, "runs on", &name, runs);
     }
-}
-
-/// Tells how many runs a day has, by its name.
-fn tell_runs_on<C: Console>(console: &C, alloc: Global, day: &str, runs: u64, is_date: bool) {
-    tell_count_of(console, alloc, "runs on", day, runs);
     if is_date && runs == 0 {
-        warn(
-            console,
-            alloc,
-            "no trip runs on the date itself; is it a date of the feed's calendar?",
-        );
+        warn(console, alloc, NO_RUNS);
+        tell_calendar(console, alloc, feed, day);
     }
 }
 

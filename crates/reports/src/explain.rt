@@ -15,6 +15,14 @@ use table_records::{FileName, What, column};
 /// The most columns of a header that are shown.
 const MOST_COLUMNS: usize = 40;
 
+/// Whether a fault is that a file of the feed is missing.
+pub(crate) fn is_missing(fault: &StudyFault) -> bool {
+    match fault {
+        StudyFault::Feed(fault) => fault.what == What::MissingFile,
+        _ => false,
+    }
+}
+
 /// A line that says more of a fault, if there is more to say and memory for it.
 pub(crate) fn explanation(
     alloc: Global,

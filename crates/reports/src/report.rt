@@ -3,7 +3,8 @@ ghost use Rattle.std.specs.Prelude.{◌≡◌};
 
 use crate::console::Console;
 use crate::day_lines::{tell_days, tell_scenarios, tell_walks};
-use crate::explain::explanation;
+use crate::explain::{explanation, is_missing};
+use crate::folder_lines::tell_folder;
 use crate::lines::{tell_count, tell_made};
 use crate::measures::time_text;
 use crate::progress::Progress;
@@ -54,9 +55,11 @@ impl<'a, C: Console> Report<'a, C> {
     }
 
     /// Tells what the line of a fault of these files can't say, if there is more to say: the column, its value as it stands in the
-    /// record, and what is allowed; or what can be done.
-    pub fn refused(&self, fault: &StudyFault, inputs: &Inputs<'_>) {
-        if let Some(line) = explanation(self.alloc, fault, inputs) {
+    /// record, and what is allowed; or what can be done; or, of a file of the feed that is missing, what stands in the feed's folder.
+    pub fn refused(&self, fault: &StudyFault, inputs: &Inputs<'_>, folder: &str) {
+        if is_missing(fault) {
+            tell_folder(self.console, self.alloc, folder);
+        } else if let Some(line) = explanation(self.alloc, fault, inputs) {
             self.console.tell(line.as_bytes());
         }
     }

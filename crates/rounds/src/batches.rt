@@ -10,6 +10,7 @@ ghost use Rattle.rounds.specs.State.{arrival};
 ghost use Rattle.rounds.specs.Batches.{IsDeparture};
 ghost use Rattle.rounds.specs.Query.{IsAsked, AreTablesFor};
 ghost use Rattle.rounds.specs.Table.{batches_of, label_of};
+ghost use Rattle.trip_lanes.specs.declared.lanes.TheConstants.{LANES};
 
 use crate::bounded::{Batch, Kept, run_bounded};
 use crate::query::Query;
@@ -18,19 +19,19 @@ use crate::window::Window;
 use std::simd::prelude::*;
 use std::simd::u32x16;
 use timetable::NEVER;
-use trip_lanes::{Lanes, lower_of};
+use trip_lanes::{LANES, Lanes, lower_of};
 
 /// The departures of a batch of a window.
 fn departs_of(window: Window, batch: u32) -> Lanes
     requires fits { Fits window }
     requires batch { batch < 90 }
-    ensures { (l : ℕ) → l < 16 → IsDeparture window batch l (slice_index result l) }
+    ensures { (l : ℕ) → l < LANES → IsDeparture window batch l (slice_index result l) }
 {
-    let mut departs = [NEVER; 16];
-    for l in 0..16 {
-        let minute = batch * 16 + l;
+    let mut departs = [NEVER; LANES];
+    for l in 0..LANES {
+        let minute = batch * LANES as u32 + l as u32;
         if minute < window.minutes {
-            departs[l as usize] = window.first + 60 * minute;
+            departs[l] = window.first + 60 * minute;
         }
     }
     departs
@@ -47,7 +48,7 @@ fn clear_kept(labels: &mut [Kept])
 
 /// Some labels, each counted from its departure.
 fn since(labels: Lanes, departs: Lanes) -> Lanes
-    ensures { (l : ℕ) → l < 16 → slice_index labels l ≤ NEVER_VALUE → (slice_index labels l ≢ NEVER_VALUE → slice_index departs l ≤ slice_index labels l) → IsSince (slice_index departs l) (slice_index labels l) (slice_index result l) }
+    ensures { (l : ℕ) → l < LANES → slice_index labels l ≤ NEVER_VALUE → (slice_index labels l ≢ NEVER_VALUE → slice_index departs l ≤ slice_index labels l) → IsSince (slice_index departs l) (slice_index labels l) (slice_index result l) }
 {
     let times = u32x16::from_array(labels);
     times
@@ -69,10 +70,10 @@ fn write_batch(
     requires batch { batch < batches }
     requires same { length ride.now ≡ length ready.now }
     requires room { length labels.old ≡ length ready.now * batches }
-    requires fits { (l p : ℕ) → l < 16 → slice_index (lane l ready.now) p ≤ NEVER_VALUE }
-    requires since { (l p : ℕ) → l < 16 → p < length ready.now → arrival (lane l ride.now) (lane l ready.now) p ≢ NEVER_VALUE → slice_index departs l ≤ arrival (lane l ride.now) (lane l ready.now) p }
+    requires fits { (l p : ℕ) → l < LANES → slice_index (lane l ready.now) p ≤ NEVER_VALUE }
+    requires since { (l p : ℕ) → l < LANES → p < length ready.now → arrival (lane l ride.now) (lane l ready.now) p ≢ NEVER_VALUE → slice_index departs l ≤ arrival (lane l ride.now) (lane l ready.now) p }
     ensures same { length labels.new ≡ length labels.old }
-    ensures written { (l p : ℕ) → l < 16 → p < length ready.now → IsSince (slice_index departs l) (arrival (lane l ride.now) (lane l ready.now) p) (slice_index (slice_index_or labels.new (p * batches + batch) []) l) }
+    ensures written { (l p : ℕ) → l < LANES → p < length ready.now → IsSince (slice_index departs l) (arrival (lane l ride.now) (lane l ready.now) p) (slice_index (slice_index_or labels.new (p * batches + batch) []) l) }
     ensures kept { (p b : ℕ) → b < batches → b ≢ batch → slice_index_or labels.new (p * batches + b) [] ≡ slice_index_or labels.old (p * batches + b) [] }
 {
     for stop in 0..ready.len() {
@@ -91,10 +92,10 @@ pub(crate) fn run_window(query: Query<'_>, tables: &mut Tables, labels: &mut [La
     ensures same { length labels.new ≡ length labels.old }
     ensures each { (p m : ℕ) → p < query.entry.network.now.stops → m < query.entry.window.minutes →
         IsLeastOrNever (IsDuration query.entry.network.now query.entry.origin.0 (departure query.entry.window m) query.entry.rides p) (label_of query.entry.window.minutes labels.new p m) }
-    ensures dead { (p m : ℕ) → p < query.entry.network.now.stops → query.entry.window.minutes ≤ m → m < 16 * batches_of query.entry.window.minutes → label_of query.entry.window.minutes labels.new p m ≡ NEVER_VALUE }
+    ensures dead { (p m : ℕ) → p < query.entry.network.now.stops → query.entry.window.minutes ≤ m → m < LANES * batches_of query.entry.window.minutes → label_of query.entry.window.minutes labels.new p m ≡ NEVER_VALUE }
 {
     query.network.known();
-    let batches = (query.window.minutes + 15) / 16;
+    let batches = (query.window.minutes + (LANES as u32 - 1)) / LANES as u32;
     clear_kept(tables.bound_ride.as_mut_slice());
     clear_kept(tables.bound_ready.as_mut_slice());
     let mut later = NEVER;

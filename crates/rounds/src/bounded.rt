@@ -5,11 +5,14 @@ ghost use Rattle.trip_lanes.specs.Lane.{lane};
 ghost use Rattle.rounds.specs.State.{LaneState, Bounds};
 ghost use Rattle.rounds.specs.Query.{IsAsked, AreTablesFor};
 ghost use Rattle.rounds.specs.Batches.{IsBatch, start_at};
+ghost use Rattle.trip_lanes.specs.declared.lanes.TheConstants.{LANES};
 
 use crate::query::Query;
 use crate::scan::{Round, clear, scan_lines};
 use crate::tables::Tables;
-use trip_lanes::{Labels, Lanes, falls_of, lower_all, lower_of, transfer_marked, walk_marked};
+use trip_lanes::{
+    LANES, Labels, Lanes, falls_of, lower_all, lower_of, transfer_marked, walk_marked,
+};
 
 /// The most rides for which labels are kept.
 pub(crate) const MOST_KEPT: u32 = 8;
@@ -21,10 +24,10 @@ pub(crate) type Kept = [u32; 9];
 fn lower_to(labels: &mut [Lanes], bound: &[Kept], k: usize)
     requires rides { k < 9 }
     requires same { length bound.now ≡ length labels.old }
-    ensures { (l : ℕ) → l < 16 → Lowers (Bounds (lane k bound.now)) (lane l labels.old) (lane l labels.new) }
+    ensures { (l : ℕ) → l < LANES → Lowers (Bounds (lane k bound.now)) (lane l labels.old) (lane l labels.new) }
 {
     for stop in 0..labels.len() {
-        lower_all(labels, stop, [bound[stop][k]; 16]);
+        lower_all(labels, stop, [bound[stop][k]; LANES]);
     }
 }
 
@@ -33,11 +36,11 @@ fn begin(labels: &mut [Lanes], before: &mut [Lanes], bound: &[Kept], k: usize)
     requires rides { k < 9 }
     requires bound { length bound.now ≡ length labels.old }
     requires before { length before.old ≡ length labels.old }
-    ensures lanes { (l : ℕ) → l < 16 → Lowers (Bounds (lane k bound.now)) (lane l labels.old) (lane l labels.new) }
+    ensures lanes { (l : ℕ) → l < LANES → Lowers (Bounds (lane k bound.now)) (lane l labels.old) (lane l labels.new) }
     ensures before { before.new ≡ labels.new }
 {
     for stop in 0..labels.len() {
-        let low = lower_of(labels[stop], [bound[stop][k]; 16]);
+        let low = lower_of(labels[stop], [bound[stop][k]; LANES]);
         labels[stop] = low;
         before[stop] = low;
     }
@@ -72,7 +75,7 @@ pub(crate) fn run_bounded(query: Query<'_>, batch: Batch, tables: &mut Tables)
     requires tables { AreTablesFor query.network.now.stops query.lines.now tables.old }
     requires bounds { (k : ℕ) → k ≤ query.rides → LaneState query.network.now (start_at query batch.later) k (lane k tables.old.bound_ride.items) (lane k tables.old.bound_ready.items) }
     ensures tables { AreTablesFor query.entry.network.now.stops query.entry.lines.now tables.new }
-    ensures states { (l : ℕ) → l < 16 → LaneState query.entry.network.now (start_at query.entry (slice_index batch.departs l)) query.entry.rides (lane l tables.new.ride.items) (lane l tables.new.ready.items) }
+    ensures states { (l : ℕ) → l < LANES → LaneState query.entry.network.now (start_at query.entry (slice_index batch.departs l)) query.entry.rides (lane l tables.new.ride.items) (lane l tables.new.ready.items) }
     ensures kept { (k : ℕ) → k ≤ query.entry.rides → LaneState query.entry.network.now (start_at query.entry (slice_index batch.departs 0)) k (lane k tables.new.bound_ride.items) (lane k tables.new.bound_ready.items) }
 {
     query.network.known();

@@ -10,17 +10,18 @@ ghost use Rattle.trip_lanes.specs.Falls.{AreFalls};
 ghost use Rattle.trip_lanes.specs.Rows.{NoneCaughtBefore};
 ghost use Rattle.timetable.specs.LineViews.{rows_of_line};
 ghost use Rattle.rounds.specs.Scan.{CarriesLine, AreSized};
+ghost use Rattle.trip_lanes.specs.declared.lanes.TheConstants.{LANES};
 
 use crate::due::note_lines;
 use timetable::{Lines, NEVER, Trip};
-use trip_lanes::{Labels, Lanes, LineView, scan_line};
+use trip_lanes::{LANES, Labels, Lanes, LineView, scan_line};
 
 /// Makes all labels NEVER.
 pub(crate) fn clear(labels: &mut [Lanes])
-    ensures { labels.new ≡ replicate (length labels.old) (replicate 16 NEVER_VALUE) }
+    ensures { labels.new ≡ replicate (length labels.old) (replicate LANES NEVER_VALUE) }
 {
     for stop in 0..labels.len() {
-        labels[stop] = [NEVER; 16];
+        labels[stop] = [NEVER; LANES];
     }
 }
 
@@ -47,15 +48,15 @@ fn scan_trips(
     requires stops { All (λ t. All (λ e. e.stop.0 < length ride.old) t.events) round.trips.now }
     requires aboard { All (λ row. length row ≤ length aboard.old) round.lines.now.lines }
     requires labels { AreSized (length ride.old) round.labels }
-    requires fallen { (l : ℕ) → l < 16 → AreFalls (lane l round.labels.before.now) (lane l round.labels.ready.now) round.labels.falls.now }
+    requires fallen { (l : ℕ) → l < LANES → AreFalls (lane l round.labels.before.now) (lane l round.labels.ready.now) round.labels.falls.now }
     requires marked { length marked.old ≡ length ride.old }
-    requires fits { (l p : ℕ) → l < 16 → slice_index (lane l ride.old) p ≤ NEVER_VALUE }
-    requires first { (row : List ℕ) → slice_get round.lines.now.lines line ≡ Some row → (l : ℕ) → l < 16 →
+    requires fits { (l p : ℕ) → l < LANES → slice_index (lane l ride.old) p ≤ NEVER_VALUE }
+    requires first { (row : List ℕ) → slice_get round.lines.now.lines line ≡ Some row → (l : ℕ) → l < LANES →
         NoneCaughtBefore (lane l round.labels.before.now) (lane l round.labels.ready.now) (rows_of_line round.trips.now row) first }
-    requires settled { (row : List ℕ) → slice_get round.lines.now.lines line ≡ Some row → (l : ℕ) → l < 16 →
+    requires settled { (row : List ℕ) → slice_get round.lines.now.lines line ≡ Some row → (l : ℕ) → l < LANES →
         NothingLower (CarriesLine (lane l round.labels.before.now) round.trips.now row) (lane l ride.old) }
     ensures same { length aboard.new ≡ length aboard.old }
-    ensures lanes { (row : List ℕ) → slice_get round.entry.lines.now.lines line ≡ Some row → (l : ℕ) → l < 16 →
+    ensures lanes { (row : List ℕ) → slice_get round.entry.lines.now.lines line ≡ Some row → (l : ℕ) → l < LANES →
         Lowers (CarriesLine (lane l round.entry.labels.ready.now) round.entry.trips.now row) (lane l ride.old) (lane l ride.new) }
     ensures marks { MarksFallen ride.old ride.new marked.old marked.new }
 {
@@ -85,14 +86,14 @@ pub(crate) fn scan_lines(
     requires stops { All (λ t. All (λ e. e.stop.0 < length ride.old) t.events) round.trips.now }
     requires aboard { All (λ row. length row ≤ length aboard.old) round.lines.now.lines }
     requires labels { AreSized (length ride.old) round.labels }
-    requires fallen { (l : ℕ) → l < 16 → AreFalls (lane l round.labels.before.now) (lane l round.labels.ready.now) round.labels.falls.now }
+    requires fallen { (l : ℕ) → l < LANES → AreFalls (lane l round.labels.before.now) (lane l round.labels.ready.now) round.labels.falls.now }
     requires due { length due.old ≡ length round.lines.now.lines }
     requires marked { length marked.old ≡ length ride.old }
-    requires fits { (l p : ℕ) → l < 16 → slice_index (lane l ride.old) p ≤ NEVER_VALUE }
-    requires settled { (l : ℕ) → l < 16 → NothingLower (CarriesAny (lane l round.labels.before.now) round.trips.now) (lane l ride.old) }
+    requires fits { (l p : ℕ) → l < LANES → slice_index (lane l ride.old) p ≤ NEVER_VALUE }
+    requires settled { (l : ℕ) → l < LANES → NothingLower (CarriesAny (lane l round.labels.before.now) round.trips.now) (lane l ride.old) }
     ensures due { length due.new ≡ length due.old }
     ensures same { length aboard.new ≡ length aboard.old }
-    ensures lanes { (l : ℕ) → l < 16 → Lowers (CarriesAny (lane l round.entry.labels.ready.now) round.entry.trips.now) (lane l ride.old) (lane l ride.new) }
+    ensures lanes { (l : ℕ) → l < LANES → Lowers (CarriesAny (lane l round.entry.labels.ready.now) round.entry.trips.now) (lane l ride.old) (lane l ride.new) }
     ensures marks { MarksFallen ride.old ride.new marked.old marked.new }
 {
     due.fill(NEVER);

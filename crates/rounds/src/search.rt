@@ -11,7 +11,7 @@ use crate::tables::Tables;
 use crate::window::{Window, labels_by_minute};
 use std::alloc::{AllocError, Global};
 use timetable::{NEVER, Network, StopNo};
-use trip_lanes::Lanes;
+use trip_lanes::{LANES, Lanes};
 
 /// The tables of a search: labels, bounds and marks, of each stop, line or place.
 ///
@@ -93,8 +93,8 @@ impl Search {
             rides,
         };
         let stops = network.stops() as usize;
-        let batches = (window.minutes as usize + 15) / 16;
-        let mut labels = vec![in alloc; [NEVER; 16]; stops * batches]?;
+        let batches = (window.minutes as usize + (LANES - 1)) / LANES;
+        let mut labels = vec![in alloc; [NEVER; LANES]; stops * batches]?;
         self.tables.fit(alloc, stops, query.lines)?;
         run_window(query, &mut self.tables, &mut labels);
         Ok(labels)

@@ -7,7 +7,7 @@ use crate::bounded::Kept;
 use crate::window::longest;
 use std::alloc::{AllocError, Global};
 use timetable::{Lines, NEVER};
-use trip_lanes::{Fall, Lanes, UNFALLEN};
+use trip_lanes::{Fall, LANES, Lanes, UNFALLEN};
 
 /// Labels, bounds and marks, of each stop, line or trip of a line. What they hold from before a search doesn't matter.
 #[derive(Drop)]
@@ -79,7 +79,7 @@ fn make_lanes(alloc: Global, table: &mut Vec<Lanes>, places: usize) -> Result<()
     ensures { OnOk result (length table.new.items ≡ places) }
 {
     if table.len() != places {
-        *table = vec![in alloc; [NEVER; 16]; places]?;
+        *table = vec![in alloc; [NEVER; LANES]; places]?;
     }
     Ok(())
 }

@@ -5,13 +5,14 @@ ghost use Rattle.rounds.specs.Batches.{AreLabels};
 ghost use Rattle.rounds.specs.Table.{batches_of, label_of};
 ghost use Rattle.rounds.specs.Window.{Fits, AreDurations};
 ghost use Rattle.rounds.specs.declared.window.TheConstants as limit;
+ghost use Rattle.trip_lanes.specs.declared.lanes.TheConstants.{LANES};
 
 use crate::minutes::one_minute;
 use crate::search::Search;
 use crate::table::Durations;
 use std::alloc::{AllocError, Global};
 use timetable::{END_OF_AXIS, Lines, NEVER, Network, StopNo};
-use trip_lanes::Lanes;
+use trip_lanes::{LANES, Lanes};
 
 /// The most minutes of a window: a day.
 pub const MOST_MINUTES: u32 = 1_440;
@@ -90,8 +91,8 @@ pub(crate) fn labels_by_minute(
 {
     network.known();
     let stops = network.stops() as usize;
-    let batches = (window.minutes as usize + 15) / 16;
-    let mut labels = vec![in alloc; [NEVER; 16]; stops * batches]?;
+    let batches = (window.minutes as usize + (LANES - 1)) / LANES;
+    let mut labels = vec![in alloc; [NEVER; LANES]; stops * batches]?;
     for minute in 0..window.minutes {
         let depart = window.first + 60 * minute;
         let of_minute = one_minute(alloc, network, origin, depart, rides)?;
@@ -113,11 +114,11 @@ fn write_minute(labels: &mut [Lanes], of_minute: &[u32], minute: usize, minutes:
     ensures same { length labels.new ≡ length labels.old }
     ensures written { (p : ℕ) → p < length of_minute.now →
         label_of minutes labels.new p minute ≡ slice_index of_minute.now p }
-    ensures kept { (p m : ℕ) → m < 16 * batches_of minutes → m ≢ minute →
+    ensures kept { (p m : ℕ) → m < LANES * batches_of minutes → m ≢ minute →
         label_of minutes labels.new p m ≡ label_of minutes labels.old p m }
 {
-    let batches = (minutes + 15) / 16;
+    let batches = (minutes + (LANES - 1)) / LANES;
     for stop in 0..of_minute.len() {
-        labels[stop * batches + minute / 16][minute % 16] = of_minute[stop];
+        labels[stop * batches + minute / LANES][minute % LANES] = of_minute[stop];
     }
 }

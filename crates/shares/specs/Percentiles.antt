@@ -6,6 +6,7 @@ use Rattle.timetable.specs.declared.least.TheConstants.{NEVER}
 use Rattle.timetable.specs.declared.trips.StopNo.{StopNo}
 use Rattle.rounds.specs.declared.window.TheConstants.{MOST_MINUTES}
 use Rattle.rounds.specs.Table.{Times, at, batches_of, known_of, label_in, IsLeastOrNone}
+use Rattle.trip_lanes.specs.declared.lanes.TheConstants.{LANES}
 
 -- a minute without a duration has none that is at most d
 abbrev pub is_within : ℕ → Option ℕ → Bool
@@ -45,11 +46,11 @@ pub record AreCellsOf (t : Times) (destinations : List StopNo) (shares : List �
 pub record HoldMinutes (lanes : List (List ℕ)) (minutes : ℕ) : Type 0 where
   pub few : minutes ≤ MOST_MINUTES
   pub batches : length lanes ≡ batches_of minutes
-  pub dead : (m : ℕ) → minutes ≤ m → m < 16 * batches_of minutes → label_in lanes m ≡ NEVER
+  pub dead : (m : ℕ) → minutes ≤ m → m < LANES * batches_of minutes → label_in lanes m ≡ NEVER
 
 -- no duration that these lanes tell is greater
 abbrev pub IsTop : List (List ℕ) → ℕ → Type 0
-IsTop lanes top = (m d : ℕ) → m < 16 * length lanes → known_of (label_in lanes m) ≡ Some d → d ≤ top
+IsTop lanes top = (m d : ℕ) → m < LANES * length lanes → known_of (label_in lanes m) ≡ Some d → d ≤ top
 
 -- the label of a lane, and 0 where it is NEVER
 abbrev pub known_label : ℕ → ℕ

@@ -1,4 +1,4 @@
-//! Shares: what a window's durations come to, as one cell per destination and as one sum of opportunities.
+//! Shares: percentiles of a window's durations, as one cell per destination, and access, as sums of opportunities.
 //! A cell is the least duration that a share of the minutes attains; access is the sum of the opportunities
 //! at the stops whose cell is within a limit: at all stops, whichever are destinations.
 //!

@@ -2,13 +2,14 @@
 ghost use Rattle.std.specs.Prelude.{◌≡◌, ◌≢◌, ◌<◌, ◌≤◌, ◌*◌, ℕ, All, Some, length, max, slice_index, IfOk, IsTrue, ◌↔◌};
 ghost use Rattle.rounds.specs.Table.{at, known_of, label_in, IsLeastOrNone};
 ghost use Rattle.shares.specs.Percentiles.{minutes_within, Attains, IsCell, AreCellsAt, HoldMinutes, IsTop, known_label};
+ghost use Rattle.trip_lanes.specs.declared.lanes.TheConstants.{LANES};
 
 use rounds::Durations;
 use std::alloc::{AllocError, Global};
 use std::simd::prelude::*;
 use std::simd::u32x16;
 use timetable::{NEVER, StopNo};
-use trip_lanes::Lanes;
+use trip_lanes::{LANES, Lanes};
 
 /// The least duration to a stop, in seconds, that so many of a hundred minutes attain; none where too few minutes have
 /// a journey to it. A minute attains each duration that isn't below its own.
@@ -21,7 +22,7 @@ pub fn cell(durations: &Durations, stop: StopNo, share: u32) -> Option<u32>
     least_attained(durations.lanes_of(stop), durations.minutes(), share)
 }
 
-/// The cell of each destination, in their order. Want of memory is the only refusal.
+/// The cell of each destination, in their order. The only error is out of memory.
 pub fn cells(
     alloc: Global,
     durations: &Durations,
@@ -55,7 +56,7 @@ pub(crate) fn is_reached(durations: &Durations, stop: StopNo, share: u32, within
 fn reach_of(lanes: &[Lanes], within: u32) -> u32
     ensures below { result < NEVER }
     ensures upto { result ≤ within }
-    ensures all { (m d : ℕ) → m < 16 * length lanes.now → known_of (label_in lanes.now m) ≡ Some d → d ≤ within → d ≤ result }
+    ensures all { (m d : ℕ) → m < LANES * length lanes.now → known_of (label_in lanes.now m) ≡ Some d → d ≤ within → d ≤ result }
 {
     if within < NEVER {
         within
@@ -92,7 +93,7 @@ pub(crate) fn greatest(lanes: &[Lanes]) -> u32
     ensures below { result < NEVER }
     ensures greatest { IsTop lanes.now result }
 {
-    let mut high = [0; 16];
+    let mut high = [0; LANES];
     for batch in lanes {
         let higher = higher_of(high, *batch);
         high = higher;
@@ -102,7 +103,7 @@ pub(crate) fn greatest(lanes: &[Lanes]) -> u32
 
 /// In each lane the greater one, where the label is known.
 fn higher_of(high: Lanes, labels: Lanes) -> Lanes
-    ensures { (l : ℕ) → l < 16 → slice_index result l ≡ max (slice_index high l) (known_label (slice_index labels l)) }
+    ensures { (l : ℕ) → l < LANES → slice_index result l ≡ max (slice_index high l) (known_label (slice_index labels l)) }
 {
     let known = u32x16::from_array(labels)
         .simd_eq(u32x16::splat(NEVER))
@@ -112,12 +113,12 @@ fn higher_of(high: Lanes, labels: Lanes) -> Lanes
 
 /// The greatest of sixteen lanes.
 fn greatest_lane(lanes: Lanes) -> u32
-    requires { (l : ℕ) → l < 16 → slice_index lanes l ≢ NEVER }
+    requires { (l : ℕ) → l < LANES → slice_index lanes l ≢ NEVER }
     ensures below { result < NEVER }
-    ensures greatest { (l : ℕ) → l < 16 → slice_index lanes l ≤ result }
+    ensures greatest { (l : ℕ) → l < LANES → slice_index lanes l ≤ result }
 {
     let mut greatest = 0;
-    for l in 0..16 {
+    for l in 0..LANES {
         if greatest < lanes[l] {
             greatest = lanes[l];
         }
@@ -139,8 +140,8 @@ fn attains(lanes: &[Lanes], minutes: u32, share: u32, duration: u32) -> bool
 fn count_within(lanes: &[Lanes], duration: u32) -> u32
     requires few { length lanes.now ≤ 90 }
     requires duration { duration < NEVER }
-    ensures count { result ≡ minutes_within (λ m. known_of (label_in lanes.now m)) duration (16 * length lanes.now) }
-    ensures bound { result ≤ 16 * length lanes.now }
+    ensures count { result ≡ minutes_within (λ m. known_of (label_in lanes.now m)) duration (LANES * length lanes.now) }
+    ensures bound { result ≤ LANES * length lanes.now }
 {
     let mut minutes = 0;
     for batch in lanes {
@@ -152,8 +153,8 @@ fn count_within(lanes: &[Lanes], duration: u32) -> u32
 /// In how many of sixteen minutes the duration is at most this one.
 fn count_batch(batch: Lanes, duration: u32) -> u32
     requires { duration < NEVER }
-    ensures count { result ≡ minutes_within (λ l. known_of (slice_index batch l)) duration 16 }
-    ensures bound { result ≤ 16 }
+    ensures count { result ≡ minutes_within (λ l. known_of (slice_index batch l)) duration LANES }
+    ensures bound { result ≤ LANES }
 {
     u32x16::from_array(batch)
         .simd_le(u32x16::splat(duration))

@@ -2,6 +2,7 @@
 //! plane's bit; so a rank is found from the highest bit to the lowest, sixty-four lanes at a time.
 ghost use Rattle.std.specs.Prelude.{◌≡◌, ◌≢◌, ◌&&◌, ◌<◌, ◌≤◌, ◌+◌, ◌*◌, ◌^◌, [], ℕ, Bool, List, cond, not, length, slice_index, slice_index_or};
 ghost use Rattle.shares.specs.Planes.{AreMasks, ArePlanes, IsRanked, block, count_of, has, mask, words_of};
+ghost use Rattle.trip_lanes.specs.declared.lanes.TheConstants.{LANES};
 
 use std::simd::prelude::*;
 use std::simd::u32x16;
@@ -163,7 +164,7 @@ fn count_both(among: &Plane, plane: &Plane, words: usize) -> u32
 #[inline(always)]
 fn keep(among: &mut Plane, plane: &Plane, words: usize, with: bool)
     requires { words ≤ 23 }
-    ensures { (lanes : List (List ℕ)) (Is Has : ℕ → Bool) → ((i : ℕ) → i < length lanes → length (slice_index_or lanes i []) ≡ 16) →
+    ensures { (lanes : List (List ℕ)) (Is Has : ℕ → Bool) → ((i : ℕ) → i < length lanes → length (slice_index_or lanes i []) ≡ LANES) →
         AreMasks Is lanes words among.old → AreMasks Has lanes words plane.now →
         AreMasks (λ x. Is x && cond with (Has x) (not (Has x))) lanes words among.new }
 {

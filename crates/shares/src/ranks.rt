@@ -16,8 +16,8 @@ use trip_lanes::Lanes;
 /// The cells of the destinations for each of some shares, in the shares' order: one list per share, with one cell per
 /// destination.
 ///
-/// Of several shares each destination's labels are laid out bit by bit once, whatever their number. Want of memory is the only
-/// refusal.
+/// Of several shares each destination's labels are laid out bit by bit once, whatever their number. The only error is
+/// out of memory.
 pub fn cells_of(
     alloc: Global,
     durations: &Durations,

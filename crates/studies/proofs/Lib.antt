@@ -2,7 +2,6 @@ pub mod Joined
 pub mod Runs
 pub mod NoFootpaths
 pub mod Refusals
-pub mod Composed
 pub mod NameFaults
 pub mod Firsts
 pub mod ScenarioFiles

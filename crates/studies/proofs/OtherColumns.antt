@@ -1,5 +1,5 @@
 -- The texts of a study with destinations and without have columns of one matrix.
-use Rattle.std.proofs.Common.{◌≡◌, ◌∙◌, ℕ, List, All, ap, length, map, subst, sym}
+use Rattle.std.proofs.Common.{◌≡◌, ◌∙◌, ℕ, List, All, ap, map, subst, sym}
 use Rattle.std.specs.List.{range_with_len}
 use Rattle.timetable.specs.declared.trips.StopNo.{StopNo}
 use Rattle.timetable.specs.Footpaths.{FeetData}

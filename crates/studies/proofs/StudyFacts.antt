@@ -1,7 +1,9 @@
 -- What each stage of a study tells is told of the files, and what it makes is made of them.
 use Rattle.std.proofs.Common.{◌≡◌, ◌⊎◌, ◌≤◌, ◌<◌, ◌+◌, ◌*◌, ◌∙◌, ℕ, suc, List, [], ◌∷◌, All, Result, Ok, Err, ap, subst, sym, refl, inl, inr, length, arith}
 use Rattle.std.specs.Prelude.{IfErr, IfOk}
+use Rattle.std.specs.Result.{IsErrAnd}
 use Rattle.std.proofs.lemmas.List.{length-map}
+use Rattle.std.proofs.lemmas.Result.{err_from_is_err_and}
 use Rattle.std.proofs.lemmas.List.Elements.{All-cons, All-nil}
 use Rattle.table_records.specs.Faults.{IsFirst}
 use Rattle.table_records.specs.Faults as records
@@ -12,10 +14,13 @@ use Rattle.timetable.specs.Footpaths.{FeetData}
 use Rattle.timetable.specs.Networks.{Net}
 use Rattle.gtfs_tables.specs.Feed.{FeedData, IsFeed, day_number}
 use Rattle.gtfs_tables.specs.Files.{feed_faults}
+use Rattle.gtfs_tables.specs.Opportunities.{opportunities_of}
+use Rattle.gtfs_tables.specs.Origins.{origins_of}
 use Rattle.service_days.specs.declared.fault.DayFault.{DayFault}
 use Rattle.service_days.specs.declared.fault.DayFault.TheVariants as day
 use Rattle.service_days.specs.declared.run.Run.{Run}
 use Rattle.service_days.specs.Instances as days
+use Rattle.service_days.specs.Instances.{IsRun}
 use Rattle.footpaths.specs.Direct.{DirectLists}
 use Rattle.footpaths.specs.declared.faults.FootFault.{FootFault}
 use Rattle.footpaths.specs.declared.faults.FootFault.TheVariants as foot
@@ -32,9 +37,10 @@ use Rattle.studies.specs.declared.fault.StudyFault.{StudyFault}
 use Rattle.studies.specs.declared.fault.StudyFault.TheVariants as fault
 use Rattle.studies.specs.declared.settings.Settings.TheInside.{Inside}
 use Rattle.studies.specs.Inputs.{InputFiles}
+use Rattle.studies.specs.declared.parts.NetworkParts.{NetworkParts}
 use Rattle.studies.specs.declared.parts.Tables.{Tables}
 use Rattle.studies.specs.NamedFile.{NamedBytes}
-use Rattle.studies.specs.Names.{names_of}
+use Rattle.studies.specs.Names.{name_faults, names_of}
 use Rattle.studies.specs.Settings.{SettingsData, SettingsFit, query_of, window_of}
 use Rattle.studies.specs.Parts.{destination_faults, destinations_in, direct_in, edit_faults, feed_in, labels_in, network_faults, networks_of, opportunities_in, origins_in, own_faults, runs_in, scenarios_in, study_in, table_faults}
 use Rattle.work_book.specs.declared.rule.View.{View}
@@ -44,8 +50,8 @@ use Rattle.workers.specs.Held.{Decides, WasTold}
 use Rattle.workers.specs.Jobs.{jobs_of}
 use Rattle.workers.specs.Outcomes.{IsFaultOf, IsFaultOfNew}
 use Rattle.workers.specs.declared.faults.RunFault.{RunFault}
-use Rattle.studies.specs.Stages.{AreTables, IsFeedOf, TellsEdits, TellsNames, TellsNetworks, TellsTables, TellsText}
-use Rattle.studies.specs.Study.{AreDated, AreEdited, AreNamed, AreNetworks, AreRead, AreWalked, IsFaultOfRun, IsStudyText, Tells, TellsBy}
+use Rattle.studies.specs.Stages.{AreNetworkParts, AreTables, IsFeedOf, TellsEdits, TellsNames, TellsNetworks, TellsTables, TellsText}
+use Rattle.studies.specs.Study.{AreDated, AreEdited, AreNamed, AreNetworks, AreRead, AreWalked, IsFaultOfRun, IsStudyText, Means, Tells, TellsBy}
 use Rattle.studies.proofs.Firsts.{first_left, first_right, none_of_both}
 
 -- settings, by their fields
@@ -64,6 +70,10 @@ seen s = record {
   tries = s.tries;
 }
 
+-- what holds of a fault holds of what a `?` returns of it
+pub err_by : {T E : Type 0} (P : E → Type 0) (r : Result T E) (x : E) → IsErrAnd r (λ e. e ≡ x) → P x → IfErr r P
+err_by P r x h told = let (e, is, same) = err_from_is_err_and r h in rw (is, same) told
+
 module _ (i : InputFiles) (s : SettingsData) where
   pub names_told : (e : StudyFault) → TellsNames e i.scenarios → Tells e i s
   names_told fault.Scenarios h = inr h
@@ -78,8 +88,14 @@ module _ (i : InputFiles) (s : SettingsData) where
   names_told (fault.Text e) h = absurd h
   names_told fault.Memory h = absurd h
 
+  pub are_named : (length i.scenarios ≤ 15) × (name_faults i.scenarios ≡ []) → AreNamed i
+  are_named good = record { few = good.0; names = good.1 }
+
   pub feed_told : (e : FeedFault) → AreNamed i → records.Tells e (feed_faults i.feed) → Tells (fault.Feed e) i s
   feed_told e named h = elim h [ inl m ↦ inl m | inr f ↦ inr (named, first_left e (feed_faults i.feed) (own_faults i (feed_in i)) f) ]
+
+  pub is_feed : (feed held : FeedData) → held ≡ feed → feed_faults i.feed ≡ [] → feed ≡ feed_in i → IsFeedOf i held
+  is_feed feed held same none is = record { faultless = none; feed_is = same ∙ is }
 
   pub own_told : (e : FeedFault) (feed : FeedData) → AreNamed i → IsFeedOf i feed → records.Tells e (own_faults i feed) → Tells (fault.Feed e) i s
   own_told e feed named is h =
@@ -118,7 +134,10 @@ module _ (i : InputFiles) (s : SettingsData) where
   tables_told decides was_told (fault.Net k e) feed named is h = absurd h
   tables_told decides was_told (fault.Run e) feed named is h = absurd h
   tables_told decides was_told (fault.Text e) feed named is h = absurd h
-  tables_told decides was_told fault.Memory feed named is h = absurd h
+  tables_told decides was_told fault.Memory feed named is h = inl h
+
+  pub are_edited : (feed : FeedData) → AreRead i → feed ≡ feed_in i → edit_faults feed 0 i.scenarios ≡ [] → AreEdited i
+  are_edited feed read is none = record { read = read; edits = subst (λ (d : FeedData). edit_faults d 0 i.scenarios ≡ []) is none }
 
   pub edits_told : (e : StudyFault) (feed : FeedData) → AreRead i → feed ≡ feed_in i → TellsEdits e feed i.scenarios → Tells e i s
   edits_told fault.Scenarios feed read is h = absurd h
@@ -169,43 +188,57 @@ module _ (i : InputFiles) (s : SettingsData) where
   text_told decides was_told (Err (fault.Text e)) h = inl h
   text_told decides was_told (Err fault.Memory) h = inl h
 
--- the parts before the networks, as they are of the files
-module _ (i : InputFiles) (s : SettingsData) (feed : FeedData) (runs : List Run) (feet : FeetData) (scenarios : List ScenarioData)
-    (walked : AreWalked i s feet) (feed_is : feed ≡ feed_in i) (runs_are : runs ≡ days.runs_of feed (day_number s.date) s.back s.ahead)
-    (scenarios_are : scenarios ≡ scenarios_in i) where
-  runs_are_in : runs ≡ runs_in i s
-  runs_are_in = runs_are ∙ ap (λ (d : FeedData). days.runs_of d (day_number s.date) s.back s.ahead) feed_is
+one_first : (n : ℕ) → suc n ≡ n + 1
+one_first n = omega arith
 
+-- there is a scenario for each file, and one more
+pub scenario_count : (i : InputFiles) → length (scenarios_in i) ≡ length i.scenarios + 1
+scenario_count i =
+    let scenario : NamedBytes → ScenarioData = λ f. scenario_in f.name f.bytes (feed_in i) in
+    ap suc (length-map i.scenarios scenario) ∙ one_first (length i.scenarios)
+
+-- networks of these parts, as they are of the files
+module _ (i : InputFiles) (s : SettingsData) (feed : FeedData) (p : NetworkParts) (runs : List Run) (scenarios : List ScenarioData)
+    (feed_is : feed ≡ feed_in i) (parts : AreNetworkParts i s p) (runs_are : runs ≡ p.runs.items) (scenarios_are : scenarios ≡ p.scenarios.items) where
   faults_in : network_faults feed runs 0 scenarios ≡ network_faults (feed_in i) (runs_in i s) 0 (scenarios_in i)
   faults_in =
       ap (λ (d : FeedData). network_faults d runs 0 scenarios) feed_is
-      ∙ ap (λ (r : List Run). network_faults (feed_in i) r 0 scenarios) runs_are_in
-      ∙ ap (λ (x : List ScenarioData). network_faults (feed_in i) (runs_in i s) 0 x) scenarios_are
+      ∙ ap (λ (r : List Run). network_faults (feed_in i) r 0 scenarios) (runs_are ∙ parts.runs_are)
+      ∙ ap (λ (x : List ScenarioData). network_faults (feed_in i) (runs_in i s) 0 x) (scenarios_are ∙ parts.scenarios_are)
 
-  networks_in : networks_of feed runs feet scenarios ≡ networks_of (feed_in i) (runs_in i s) feet (scenarios_in i)
+  networks_in : networks_of feed runs p.feet scenarios ≡ networks_of (feed_in i) (runs_in i s) p.feet (scenarios_in i)
   networks_in =
-      ap (λ (d : FeedData). networks_of d runs feet scenarios) feed_is
-      ∙ ap (λ (r : List Run). networks_of (feed_in i) r feet scenarios) runs_are_in
-      ∙ ap (λ (x : List ScenarioData). networks_of (feed_in i) (runs_in i s) feet x) scenarios_are
+      ap (λ (d : FeedData). networks_of d runs p.feet scenarios) feed_is
+      ∙ ap (λ (r : List Run). networks_of (feed_in i) r p.feet scenarios) (runs_are ∙ parts.runs_are)
+      ∙ ap (λ (x : List ScenarioData). networks_of (feed_in i) (runs_in i s) p.feet x) (scenarios_are ∙ parts.scenarios_are)
 
-  pub networks_told : {V : Type 0} (r : Result V StudyFault) → IfErr r (λ e. TellsNetworks e feed runs scenarios) → IfErr r (λ e. Tells e i s)
-  networks_told (Ok v) h = h
-  networks_told (Err fault.Scenarios) h = absurd h
-  networks_told (Err (fault.Name k)) h = absurd h
-  networks_told (Err (fault.Feed e)) h = absurd h
-  networks_told (Err (fault.Destinations e)) h = absurd h
-  networks_told (Err (fault.Scenario k e)) h = absurd h
-  networks_told (Err (fault.Days e)) h = absurd h
-  networks_told (Err (fault.Feet e)) h = absurd h
-  networks_told (Err (fault.Net k e)) h = elim h [ inl m ↦ inl m | inr f ↦ inr (feet, walked, subst (λ (l : List (ℕ × NetFault)). IsFirst (k, e) l) faults_in f) ]
-  networks_told (Err (fault.Run e)) h = absurd h
-  networks_told (Err (fault.Text e)) h = absurd h
-  networks_told (Err fault.Memory) h = inl h
+  pub few_scenarios : length scenarios ≤ 16
+  few_scenarios =
+      let count : length scenarios ≡ length i.scenarios + 1 = ap (λ (l : List ScenarioData). length l) (scenarios_are ∙ parts.scenarios_are) ∙ scenario_count i in
+      let few : length i.scenarios ≤ 15 = parts.walked.dated.edited.read.named.few in
+      omega (arith, count, few)
 
-  pub networks_made : {V : Type 0} (items : V → List Net) (r : Result V StudyFault) → IfOk r (λ v. network_faults feed runs 0 scenarios ≡ [])
-      → IfOk r (λ v. items v ≡ networks_of feed runs feet scenarios) → IfOk r (λ v. AreNetworks i s (items v))
-  networks_made items (Ok v) none is = record { feet = feet; walked = walked; faultless = sym faults_in ∙ none; networks_are = is ∙ networks_in }
-  networks_made items (Err e) none is = none
+  pub runs_of_feed : All (IsRun feed) runs
+  runs_of_feed = subst (λ (l : List Run). All (IsRun feed) l) (sym runs_are) (subst (λ (d : FeedData). All (IsRun d) p.runs.items) (sym feed_is) parts.of_feed)
+
+  pub feet_for_stops : length p.feet.walks ≡ length feed.stops
+  feet_for_stops = parts.walked.walks.closed.lists ∙ sym (ap (λ (d : FeedData). length d.stops) feed_is)
+
+  pub networks_told : (e : StudyFault) → TellsNetworks e feed runs scenarios → Tells e i s
+  networks_told fault.Scenarios h = absurd h
+  networks_told (fault.Name k) h = absurd h
+  networks_told (fault.Feed e) h = absurd h
+  networks_told (fault.Destinations e) h = absurd h
+  networks_told (fault.Scenario k e) h = absurd h
+  networks_told (fault.Days e) h = absurd h
+  networks_told (fault.Feet e) h = absurd h
+  networks_told (fault.Net k e) h = elim h [ inl m ↦ inl m | inr f ↦ inr (p.feet, parts.walked, subst (λ (l : List (ℕ × NetFault)). IsFirst (k, e) l) faults_in f) ]
+  networks_told (fault.Run e) h = absurd h
+  networks_told (fault.Text e) h = absurd h
+  networks_told fault.Memory h = inl h
+
+  pub networks_made : (networks : List Net) → network_faults feed runs 0 scenarios ≡ [] → networks ≡ networks_of feed runs p.feet scenarios → AreNetworks i s networks
+  networks_made networks none is = record { feet = p.feet; walked = parts.walked; faultless = sym faults_in ∙ none; networks_are = is ∙ networks_in }
 
 -- a study of these parts
 abbrev pub study_with : Query → List Net → List StopNo → List ℕ → StudyData
@@ -218,28 +251,31 @@ study_with query networks origins opportunities = record {
 }
 
 -- the study that is computed is the one that the files mean
-pub study_is : (i : InputFiles) (s : SettingsData) (networks : List Net) (origins : List StopNo) (opportunities : List ℕ) (query : Query)
+study_is : (i : InputFiles) (s : SettingsData) (networks : List Net) (origins : List StopNo) (opportunities : List ℕ) (query : Query)
     → origins ≡ origins_in i → opportunities ≡ opportunities_in i → query ≡ query_of s (destinations_in i) → study_with query networks origins opportunities ≡ study_in i s networks
 study_is i s networks origins opportunities query p q asked =
     ap (λ (x : List StopNo). study_with query networks x opportunities) p
     ∙ ap (λ (x : List ℕ). study_with query networks (origins_in i) x) q
     ∙ ap (λ (x : Query). study_with x networks (origins_in i) (opportunities_in i)) asked
 
-pub text_made : {V : Type 0} (items : V → List ℕ) (r : Result V StudyFault) (i : InputFiles) (s : SettingsData) (networks : List Net) (study : StudyData) (matrix : MatrixData)
-    → AreNetworks i s networks → study ≡ study_in i s networks → IsMatrix study matrix → IfOk r (λ v. items v ≡ matrix_text (labels_in i s) matrix)
-    → IfOk r (λ v. IsStudyText i s (items v))
-text_made items (Ok v) i s networks study matrix made is is_matrix text =
-    record { study = study; matrix = matrix; means = record { networks = networks; made = made; study_is = is }; is_matrix = is_matrix; text_is = text }
-text_made items (Err e) i s networks study matrix made is is_matrix text = text
+-- the files mean the study of these networks
+pub means : (i : InputFiles) (s : SettingsData) (feed : FeedData) (t : Tables) (networks : List Net) (origins : List StopNo) (opportunities : List ℕ) (query : Query)
+    → feed ≡ feed_in i → AreTables i feed t → AreNetworks i s networks → origins ≡ t.origins.items → opportunities ≡ t.opportunities.items → query ≡ query_of s t.destinations.items
+    → Means i s (study_with query networks origins opportunities)
+means i s feed t networks origins opportunities query is are made p q asked = record {
+  networks = networks;
+  made = made;
+  study_is = study_is i s networks origins opportunities query
+      (p ∙ are.origins_are ∙ ap (λ (d : FeedData). origins_of i.origins d) is)
+      (q ∙ are.opportunities_are ∙ ap (λ (d : FeedData). opportunities_of i.opportunities d) is)
+      (asked ∙ ap (λ (l : List StopNo). query_of s l) (are.destinations_are ∙ ap (λ (d : FeedData). origins_of i.destinations d) is));
+}
 
-one_first : (n : ℕ) → suc n ≡ n + 1
-one_first n = omega arith
-
--- there is a scenario for each file, and one more
-pub scenario_count : (i : InputFiles) → length (scenarios_in i) ≡ length i.scenarios + 1
-scenario_count i =
-    let scenario : NamedBytes → ScenarioData = λ f. scenario_in f.name f.bytes (feed_in i) in
-    ap suc (length-map i.scenarios scenario) ∙ one_first (length i.scenarios)
+pub text_made : {V : Type 0} (items : V → List ℕ) (r : Result V StudyFault) (i : InputFiles) (s : SettingsData) (study : StudyData) (matrix : MatrixData)
+    → Means i s study → IsMatrix study matrix → IfOk r (λ v. items v ≡ matrix_text (labels_in i s) matrix) → IfOk r (λ v. IsStudyText i s (items v))
+text_made items (Ok v) i s study matrix means is_matrix text =
+    record { study = study; matrix = matrix; means = means; is_matrix = is_matrix; text_is = text }
+text_made items (Err e) i s study matrix means is_matrix text = text
 
 -- there is a network for each scenario
 pub network_count : (i : InputFiles) (s : SettingsData) (networks : List Net) → AreNetworks i s networks → length networks ≡ length i.scenarios + 1
@@ -319,9 +355,9 @@ name_count files =
     ap suc (length-map files name) ∙ one_first (length files)
 
 -- what a run of workers tells
-pub run_told : (decides : Decides) (was_told : WasTold) (i : InputFiles) (s : SettingsData) (networks : List Net) (study : StudyData) (e : RunFault) → AreNetworks i s networks
-    → study ≡ study_in i s networks → IsFaultOfNew study decides was_told s.workers s.tries e → IsFaultOfRun decides was_told e i s
-run_told decides was_told i s networks study e made is h = record { study = study; means = record { networks = networks; made = made; study_is = is }; why = h }
+pub run_told : (decides : Decides) (was_told : WasTold) (i : InputFiles) (s : SettingsData) (study : StudyData) (e : RunFault) → Means i s study
+    → IsFaultOfNew study decides was_told s.workers s.tries e → IsFaultOfRun decides was_told e i s
+run_told decides was_told i s study e means h = record { study = study; means = means; why = h }
 
 -- the fault of a run over a new board
 pub run_fault : (r : Result MatrixData RunFault) (s : StudyData) (decides : Decides) (was_told : WasTold) (board : Board) (v : View) (workers tries : ℕ)

@@ -8,16 +8,20 @@ use Rattle.gtfs_tables.specs.Origins.{origins_of}
 use Rattle.gtfs_tables.specs.Opportunities.{opportunities_of}
 use Rattle.footpaths.specs.Walks.{direct_of}
 use Rattle.service_days.specs.declared.run.Run.{Run}
+use Rattle.service_days.specs.Instances.{IsRun}
 use Rattle.scenarios.specs.declared.faults.ScenarioWhat.TheVariants as edit
 use Rattle.scenarios.specs.ScenarioData.{ScenarioData}
 use Rattle.matrix_text.specs.declared.faults.TextFault.TheVariants as text
 use Rattle.studies.specs.declared.fault.StudyFault.{StudyFault}
 use Rattle.studies.specs.declared.fault.StudyFault.TheVariants as fault
+use Rattle.studies.specs.declared.parts.NetworkParts.{NetworkParts}
 use Rattle.studies.specs.declared.parts.Tables.{Tables}
 use Rattle.studies.specs.Inputs.{InputFiles}
 use Rattle.studies.specs.NamedFile.{NamedBytes}
 use Rattle.studies.specs.Names.{name_faults}
-use Rattle.studies.specs.Parts.{destination_faults, feed_in, edit_faults, network_faults, own_faults}
+use Rattle.studies.specs.Parts.{destination_faults, feed_in, edit_faults, network_faults, own_faults, runs_in, scenarios_in}
+use Rattle.studies.specs.Settings.{SettingsData}
+use Rattle.studies.specs.Study.{AreWalked}
 
 -- the feed is what its files state, without a fault
 pub record IsFeedOf (i : InputFiles) (feed : FeedData) : Type 0 where
@@ -36,10 +40,18 @@ pub record AreTables (i : InputFiles) (feed : FeedData) (t : Tables) : Type 0 wh
   pub destinations_in_range : All (λ o. o.0 < length feed.stops) t.destinations.items
   pub few_destinations : length t.destinations.items ≤ length feed.stops
 
+-- what the networks are made of: the scenarios, the runs of the study's days, and the closed footpaths
+pub record AreNetworkParts (i : InputFiles) (s : SettingsData) (p : NetworkParts) : Type 0 where
+  pub scenarios_are : p.scenarios.items ≡ scenarios_in i
+  pub runs_are : p.runs.items ≡ runs_in i s
+  pub of_feed : All (IsRun (feed_in i)) p.runs.items
+  pub walked : AreWalked i s p.feet
+
 -- the first fault of the analyst's own tables, or, where they have none, of the destinations; or want of memory
 abbrev pub TellsTables : StudyFault → InputFiles → FeedData → Type 0
 TellsTables (fault.Feed e) i feed = Tells e (own_faults i feed)
 TellsTables (fault.Destinations e) i feed = (own_faults i feed ≡ []) × Tells e (destination_faults i feed)
+TellsTables fault.Memory i feed = ⊤
 TellsTables _ i feed = ⊥
 
 -- too many files, or the first name that is refused

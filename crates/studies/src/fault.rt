@@ -47,3 +47,47 @@ impl From<AllocError> for StudyFault {
         StudyFault::Memory
     }
 }
+
+impl From<FeedFault> for StudyFault {
+    ghost use Rattle.std.specs.Prelude.{◌≡◌};
+    ghost use Rattle.studies.specs.declared.fault.StudyFault.TheVariants.{Feed};
+
+    ghost from_gives = { λ e fault. fault ≡ Feed e };
+
+    fn from(fault: FeedFault) -> StudyFault {
+        StudyFault::Feed(fault)
+    }
+}
+
+impl From<DayFault> for StudyFault {
+    ghost use Rattle.std.specs.Prelude.{◌≡◌};
+    ghost use Rattle.studies.specs.declared.fault.StudyFault.TheVariants.{Days};
+
+    ghost from_gives = { λ e fault. fault ≡ Days e };
+
+    fn from(fault: DayFault) -> StudyFault {
+        StudyFault::Days(fault)
+    }
+}
+
+impl From<FootFault> for StudyFault {
+    ghost use Rattle.std.specs.Prelude.{◌≡◌};
+    ghost use Rattle.studies.specs.declared.fault.StudyFault.TheVariants.{Feet};
+
+    ghost from_gives = { λ e fault. fault ≡ Feet e };
+
+    fn from(fault: FootFault) -> StudyFault {
+        StudyFault::Feet(fault)
+    }
+}
+
+impl From<RunFault> for StudyFault {
+    ghost use Rattle.std.specs.Prelude.{◌≡◌};
+    ghost use Rattle.studies.specs.declared.fault.StudyFault.TheVariants.{Run};
+
+    ghost from_gives = { λ e fault. fault ≡ Run e };
+
+    fn from(fault: RunFault) -> StudyFault {
+        StudyFault::Run(fault)
+    }
+}

@@ -1,8 +1,8 @@
 //! Studies of files: from the bytes of a feed and of an analyst's own files to the text of the matrix.
 //!
 //! - `study`: [`run_study`], the text of the matrix that the files ([`Inputs`], [`NamedFile`]) and the [`Settings`] mean, or the
-//!   first [`StudyFault`]. Its parts, each handing what it made to the next: `names`, `tables` (with `parts`), `scenario_files`,
-//!   `networks`, `matrix`.
+//!   first [`StudyFault`]. Its stages, each making one value of those before it: `names`, `tables`, `networks` (with
+//!   `scenario_files`), `matrix`; `parts` has what they hand on, and `boxes` puts it in boxes.
 //! - `watch`: [`watch_study`] is [`run_study`] with a [`Watch`], who is told what each stage has made.
 //! - `inputs`, `named_file`, `settings`: what a study is made of; `fault`: why there is none.
 //! - `laws`: a study has one text, which with destinations has some of the columns of the text without; and no files are both refused
@@ -13,6 +13,7 @@
 //! `specs/Study` says what the inputs mean and which fault comes first.
 #![tactic(auto)]
 
+mod boxes;
 mod fault;
 mod feed_files;
 mod inputs;

@@ -1,14 +1,15 @@
 //! The line for one minute of the day.
 
 ghost use Rattle.std.specs.Prelude.{◌≡◌, ◌<◌, ◌≤◌, [], IfOk, IfErr};
-ghost use Rattle.gtfs_tables.specs.Files.{AreWithinLimit, feed_faults, feed_of, files_of};
+ghost use Rattle.gtfs_tables.specs.Files.{AreWithinLimit, feed_of, files_of};
 ghost use Rattle.studies.specs.MinuteLine.{IsMinuteLine};
-ghost use Rattle.studies.specs.MinuteFaults.{minute_faults, origin_faults, Tells};
+ghost use Rattle.studies.specs.MinuteFaults.{minute_faults, Tells};
 
+use crate::boxes::feed_from;
 use crate::fault::StudyFault;
 use crate::line::line_of;
 use crate::once::network_once;
-use gtfs_tables::{Feed, FeedBytes, FeedFault, FileName, What, read_feed};
+use gtfs_tables::{FeedBytes, FeedFault, FileName, What};
 use rounds::one_minute;
 use std::alloc::Global;
 
@@ -32,37 +33,7 @@ pub fn minute_line(
     ensures fault { IfErr result (λ fault. Tells fault (minute_faults (files_of files.now) origin.now)) }
 {
     let feed = feed_from(alloc, files)?;
-    let line = line_from(alloc, &feed, origin, minute, rides);
-    drop(feed);
-    line
-}
-
-/// What the files say, or the first fault among them.
-fn feed_from(alloc: Global, files: &FeedBytes<'_>) -> Result<Feed, StudyFault>
-    requires { AreWithinLimit (files_of files.now) }
-    ensures good { IfOk result (λ feed. (feed_faults (files_of files.now) ≡ []) × (feed ≡ feed_of (files_of files.now))) }
-    ensures fault { IfErr result (λ fault. Tells fault (feed_faults (files_of files.now))) }
-{
-    match read_feed(alloc, files) {
-        Ok(feed) => Ok(feed),
-        Err(fault) => Err(StudyFault::Feed(fault)),
-    }
-}
-
-/// The line of a feed that was read.
-fn line_from(
-    alloc: Global,
-    feed: &Feed,
-    origin: &[u8],
-    minute: u32,
-    rides: u32,
-) -> Result<Vec<u8>, StudyFault>
-    requires minute { minute < 1440 }
-    requires rides { (1 ≤ rides) × (rides ≤ 8) }
-    ensures good { IfOk result (λ _. origin_faults feed.now origin.now ≡ []) }
-    ensures line { IfOk result (λ line. IsMinuteLine feed.now origin.now minute rides line.items) }
-    ensures fault { IfErr result (λ fault. Tells fault (origin_faults feed.now origin.now)) }
-{
+    let feed = feed.as_ref();
     let Some(stop) = feed.stop_no(origin) else {
         return Err(unknown_origin());
     };

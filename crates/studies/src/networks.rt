@@ -1,18 +1,18 @@
-//! The networks of a study's scenarios.
+//! The networks of a study's scenarios, and what they are made of.
 ghost use Rattle.std.specs.Prelude.{◌≡◌, ◌≤◌, [], All, IfErr, IfOk, length};
 ghost use Rattle.service_days.specs.Instances.{IsRun};
 ghost use Rattle.studies.specs.Inputs.{AreWithinLimit, inputs_of};
-ghost use Rattle.studies.specs.Parts.{direct_in, feed_in, network_faults, networks_of, scenarios_in};
+ghost use Rattle.studies.specs.Parts.{direct_in, feed_in, network_faults, networks_of};
 ghost use Rattle.studies.specs.Settings.{SettingsFit};
-ghost use Rattle.studies.specs.Stages.{IsOfNoRun, TellsNetworks};
-ghost use Rattle.studies.specs.Watched.{read, listed};
-ghost use Rattle.studies.specs.Study.{AreEdited, AreNetworks, AreRead, Tells};
+ghost use Rattle.studies.specs.Stages.{AreNetworkParts, IsOfNoRun, TellsNetworks};
+ghost use Rattle.studies.specs.Study.{AreRead, Tells};
 
+use crate::boxes::boxed;
 use crate::fault::StudyFault;
 use crate::inputs::Inputs;
+use crate::parts::NetworkParts;
 use crate::scenario_files::read_scenarios;
 use crate::settings::Settings;
-use crate::watch::Watch;
 use footpaths::{Direct, close};
 use gtfs_tables::Feed;
 use scenarios::{Scenario, network_of};
@@ -20,69 +20,38 @@ use service_days::{Run, active};
 use std::alloc::Global;
 use timetable::{Feet, Network};
 
-/// The networks of all scenarios, once the scenario files are read; else the first fault.
-pub(crate) fn make_networks<W: Watch>(
+/// What the networks of a study are made of, in a box: the scenario files are read, the runs of the study's days are listed,
+/// and then the footpaths are closed; else the first fault.
+pub(crate) fn network_parts(
     alloc: Global,
     inputs: &Inputs<'_>,
     settings: &Settings,
     feed: &Feed,
     direct: &Direct,
-    watch: &W,
-) -> Result<Vec<Network>, StudyFault>
+) -> Result<Box<NetworkParts>, StudyFault>
     requires files { AreWithinLimit (inputs_of inputs.now) }
     requires settings { SettingsFit settings.now }
     requires read { AreRead (inputs_of inputs.now) }
     requires feed { feed.now ≡ feed_in (inputs_of inputs.now) }
     requires direct { direct.now ≡ direct_in (inputs_of inputs.now) }
-    requires told { W.saw watch.now read }
-    ensures networks { IfOk result (λ v. AreNetworks (inputs_of inputs.now) settings.now v.items) }
-    ensures told { IfOk result (λ _. W.saw watch.now listed) }
+    ensures parts { IfOk result (λ parts. AreNetworkParts (inputs_of inputs.now) settings.now parts.value) }
     ensures fault { IfErr result (λ e. Tells e (inputs_of inputs.now) settings.now) }
     ensures no_run { IfErr result IsOfNoRun }
 {
-    let scenarios = match read_scenarios(alloc, inputs.scenarios, feed) {
-        Ok(scenarios) => scenarios,
-        Err(fault) => return Err(fault),
+    let scenarios = read_scenarios(alloc, inputs.scenarios, feed)?;
+    let runs = active(alloc, feed, settings.date, settings.back, settings.ahead)?;
+    let feet = close(alloc, direct, settings.walk)?;
+    let parts = NetworkParts {
+        scenarios,
+        runs,
+        feet,
     };
-    networks_for(alloc, inputs, settings, feed, direct, &scenarios, watch)
-}
-
-/// The networks of these scenarios: the runs of the study's days are listed, and then the footpaths are closed.
-fn networks_for<W: Watch>(
-    alloc: Global,
-    inputs: &Inputs<'_>,
-    settings: &Settings,
-    feed: &Feed,
-    direct: &Direct,
-    scenarios: &[Scenario],
-    watch: &W,
-) -> Result<Vec<Network>, StudyFault>
-    requires settings { SettingsFit settings.now }
-    requires edited { AreEdited (inputs_of inputs.now) }
-    requires feed { feed.now ≡ feed_in (inputs_of inputs.now) }
-    requires direct { direct.now ≡ direct_in (inputs_of inputs.now) }
-    requires told { W.saw watch.now read }
-    requires scenarios { scenarios.now ≡ scenarios_in (inputs_of inputs.now) }
-    ensures networks { IfOk result (λ v. AreNetworks (inputs_of inputs.now) settings.now v.items) }
-    ensures told { IfOk result (λ _. W.saw watch.now listed) }
-    ensures fault { IfErr result (λ e. Tells e (inputs_of inputs.now) settings.now) }
-    ensures no_run { IfErr result IsOfNoRun }
-{
-    let runs = match active(alloc, feed, settings.date, settings.back, settings.ahead) {
-        Ok(runs) => runs,
-        Err(fault) => return Err(StudyFault::Days(fault)),
-    };
-    let feet = match close(alloc, direct, settings.walk) {
-        Ok(feet) => feet,
-        Err(fault) => return Err(StudyFault::Feet(fault)),
-    };
-    watch.days_listed(feed, settings, scenarios, &runs, &feet);
-    all_networks(alloc, feed, scenarios, &runs, &feet)
+    Ok(boxed(alloc, parts)?)
 }
 
 /// The network of each of at most 16 scenarios, made of the same runs and footpaths; else the first fault of the networks.
 #[tactic(auto, using(crate::proofs::NetworkFaults::networks))]
-fn all_networks(
+pub(crate) fn make_networks(
     alloc: Global,
     feed: &Feed,
     scenarios: &[Scenario],

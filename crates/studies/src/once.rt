@@ -5,6 +5,7 @@ ghost use Rattle.std.specs.Prelude.{◌≡◌, ◌≤◌, [], replicate, map, If
 ghost use Rattle.timetable.specs.Footpaths.{rows_of};
 ghost use Rattle.studies.specs.MinuteLine as spec;
 
+use crate::boxes::boxed;
 use gtfs_tables::Feed;
 use std::alloc::{AllocError, Global};
 use timetable::{Events, Feet, NetFault, Network, StopNo, Trip};
@@ -59,16 +60,16 @@ fn no_feet(alloc: Global, stops: u32) -> Result<Feet, AllocError>
     }
 }
 
-/// Every trip of the feed once. Only want of memory can refuse it, since the feed's limits are the network's.
-pub(crate) fn network_once(alloc: Global, feed: &Feed) -> Result<Network, AllocError>
-    ensures { IfOk result (λ network. network ≡ spec.network_once feed.now) }
+/// Every trip of the feed once, in a box. Only want of memory can refuse it, since the feed's limits are the network's.
+pub(crate) fn network_once(alloc: Global, feed: &Feed) -> Result<Box<Network>, AllocError>
+    ensures { IfOk result (λ network. network.value ≡ spec.network_once feed.now) }
 {
     feed.known();
     let stops = feed.stop_count();
     let runs = runs_of(alloc, feed)?;
     let feet = no_feet(alloc, stops)?;
     match Network::new(alloc, stops, runs, &feet) {
-        Ok(network) => Ok(network),
+        Ok(network) => boxed(alloc, network),
         Err((fault, _)) => Err(only_memory(fault)),
     }
 }

@@ -1,7 +1,9 @@
-//! What the analyst's own tables state.
+//! What the stages of a study hand on, beside the feed: the analyst's own tables, and what networks are made of.
 
 use footpaths::Direct;
-use timetable::StopNo;
+use scenarios::Scenario;
+use service_days::Run;
+use timetable::{Feet, StopNo};
 
 /// What the analyst's own tables state, beside a feed.
 #[derive(Drop)]
@@ -14,4 +16,15 @@ pub(crate) struct Tables {
     pub opportunities: Vec<u32>,
     /// The stops that a row has cells for.
     pub destinations: Vec<StopNo>,
+}
+
+/// What the networks of a study are made of, beside a feed.
+#[derive(Drop)]
+pub(crate) struct NetworkParts {
+    /// The scenarios, `base` first.
+    pub scenarios: Vec<Scenario>,
+    /// The runs of the study's days.
+    pub runs: Vec<Run>,
+    /// The closed footpaths.
+    pub feet: Feet,
 }

@@ -8,6 +8,7 @@ use jiff::civil::Date;
 use rounds::{MOST_MINUTES, Window};
 use std::marker::Model;
 use timetable::StopNo;
+use work_book::MOST_TRIES;
 use workers::{Asked, MOST_RIDES, limits_fit, shares_fit};
 
 /// The most service days of a study before that of its date, and the most after it.
@@ -15,9 +16,6 @@ const MOST_DAYS: u32 = 6;
 
 /// The most worker threads of a run.
 const MOST_WORKERS: u32 = 64;
-
-/// How often each row may be begun, at most.
-const MOST_TRIES: u32 = 8;
 
 /// The seconds of a service day, on the axis of a study's times.
 const DAY: u32 = 86_400;

@@ -1,32 +1,31 @@
 //! A study of files: from their bytes and the settings to the text of the matrix.
-//! Each stage hands what it made to the next, so that the first stage that refuses is the one that is told.
-//! Each is a function of its own and owns one big value: a function that owned several would make the prover follow the
-//! letting go of each at every way out.
+//! Each stage makes one value of those before it, so that the first stage that refuses is the one that is told.
+//! A big value is held in a box, which is dropped in one step: else the prover follows each drop at every way out.
 ghost use Rattle.std.specs.Prelude.{◌≡◌, ◌+◌, IfErr, IfOk, length};
 ghost use Rattle.matrix_text.specs.Text.{matrix_text};
 ghost use Rattle.studies.specs.Inputs.{AreWithinLimit, inputs_of};
 ghost use Rattle.studies.specs.Parts.{feed_in, labels_in};
 ghost use Rattle.studies.specs.Settings.{SettingsFit};
-ghost use Rattle.studies.specs.Stages.{AreTables, IsFeedOf, TellsText};
-ghost use Rattle.studies.specs.Watched.{SawAll, read, listed};
-ghost use Rattle.studies.specs.Study.{AreNamed, AreNetworks, AreRead, IsStudyText, Tells, TellsBy};
+ghost use Rattle.studies.specs.Stages.{AreTables, TellsText};
+ghost use Rattle.studies.specs.Watched.{SawAll};
+ghost use Rattle.studies.specs.Study.{IsStudyText, Tells, TellsBy};
 
+use crate::boxes::feed_from;
 use crate::fault::StudyFault;
 use crate::inputs::Inputs;
 use crate::matrix::matrix_of;
 use crate::names::{check_names, names_of};
-use crate::networks::make_networks;
+use crate::networks::{make_networks, network_parts};
 use crate::parts::Tables;
 use crate::settings::Settings;
 use crate::tables::read_tables;
 use crate::watch::{Unwatched, Watch};
 use collector::Matrix;
-use gtfs_tables::{Feed, read_feed};
+use gtfs_tables::Feed;
 use matrix_text::{Labels, TextFault, write_matrix};
 use std::alloc::Global;
 use std::sync::Wait;
 use std::thread::Threads;
-use timetable::Network;
 use workers::{Gate, Study};
 
 /// The text of the matrix of the study that the files mean, or why there is none.
@@ -72,127 +71,26 @@ pub fn watch_study<G: Gate + Sync, W: Watch, R: Threads + Wait + Sync>(
     ensures fault { IfErr result (λ e. Tells e (inputs_of inputs.now) settings.now) }
     ensures run { IfErr result (λ e. TellsBy (G.decides gate.now) (G.was_told gate.now) e (inputs_of inputs.now) settings.now) }
 {
-    match check_names(inputs.scenarios) {
-        Ok(()) => text_of_files(rt, alloc, inputs, settings, gate, watch),
-        Err(fault) => Err(fault),
-    }
-}
-
-/// The text, once the names are accepted: the feed is read.
-fn text_of_files<G: Gate + Sync, W: Watch, R: Threads + Wait + Sync>(
-    rt: &R,
-    alloc: Global,
-    inputs: &Inputs<'_>,
-    settings: &Settings,
-    gate: &G,
-    watch: &W,
-) -> Result<Vec<u8>, StudyFault>
-    requires files { AreWithinLimit (inputs_of inputs.now) }
-    requires settings { SettingsFit settings.now }
-    requires named { AreNamed (inputs_of inputs.now) }
-    ensures text { IfOk result (λ text. IsStudyText (inputs_of inputs.now) settings.now text.items) }
-    ensures told { IfOk result (λ _. SawAll (W.saw watch.now) (inputs_of inputs.now) settings.now) }
-    ensures fault { IfErr result (λ e. TellsBy (G.decides gate.now) (G.was_told gate.now) e (inputs_of inputs.now) settings.now) }
-{
-    let feed = match read_feed(alloc, &inputs.feed) {
-        Ok(feed) => feed,
-        Err(fault) => return Err(StudyFault::Feed(fault)),
-    };
-    let text = text_of_feed(rt, alloc, inputs, settings, &feed, gate, watch);
-    drop(feed);
-    text
-}
-
-/// The text, once the feed is read: the analyst's own tables are.
-fn text_of_feed<G: Gate + Sync, W: Watch, R: Threads + Wait + Sync>(
-    rt: &R,
-    alloc: Global,
-    inputs: &Inputs<'_>,
-    settings: &Settings,
-    feed: &Feed,
-    gate: &G,
-    watch: &W,
-) -> Result<Vec<u8>, StudyFault>
-    requires files { AreWithinLimit (inputs_of inputs.now) }
-    requires settings { SettingsFit settings.now }
-    requires named { AreNamed (inputs_of inputs.now) }
-    requires feed { IsFeedOf (inputs_of inputs.now) feed.now }
-    ensures text { IfOk result (λ text. IsStudyText (inputs_of inputs.now) settings.now text.items) }
-    ensures told { IfOk result (λ _. SawAll (W.saw watch.now) (inputs_of inputs.now) settings.now) }
-    ensures fault { IfErr result (λ e. TellsBy (G.decides gate.now) (G.was_told gate.now) e (inputs_of inputs.now) settings.now) }
-{
-    let tables = match read_tables(alloc, inputs, feed) {
-        Ok(tables) => tables,
-        Err(fault) => return Err(fault),
-    };
+    check_names(inputs.scenarios)?;
+    let feed = feed_from(alloc, &inputs.feed)?;
+    let feed = feed.as_ref();
+    let tables = read_tables(alloc, inputs, feed)?;
+    let tables = tables.as_ref();
     watch.tables_read(feed, &tables.direct, &tables.origins, &tables.destinations);
-    text_of_tables(rt, alloc, inputs, settings, feed, &tables, gate, watch)
-}
-
-/// The text, once all tables are read: the networks are made.
-fn text_of_tables<G: Gate + Sync, W: Watch, R: Threads + Wait + Sync>(
-    rt: &R,
-    alloc: Global,
-    inputs: &Inputs<'_>,
-    settings: &Settings,
-    feed: &Feed,
-    tables: &Tables,
-    gate: &G,
-    watch: &W,
-) -> Result<Vec<u8>, StudyFault>
-    requires files { AreWithinLimit (inputs_of inputs.now) }
-    requires settings { SettingsFit settings.now }
-    requires read { AreRead (inputs_of inputs.now) }
-    requires feed { feed.now ≡ feed_in (inputs_of inputs.now) }
-    requires tables { AreTables (inputs_of inputs.now) feed.now tables.now }
-    requires told { W.saw watch.now read }
-    ensures text { IfOk result (λ text. IsStudyText (inputs_of inputs.now) settings.now text.items) }
-    ensures told { IfOk result (λ _. SawAll (W.saw watch.now) (inputs_of inputs.now) settings.now) }
-    ensures fault { IfErr result (λ e. TellsBy (G.decides gate.now) (G.was_told gate.now) e (inputs_of inputs.now) settings.now) }
-{
-    let networks = match make_networks(alloc, inputs, settings, feed, &tables.direct, watch) {
-        Ok(networks) => networks,
-        Err(fault) => return Err(fault),
-    };
-    text_of_networks(
-        rt, alloc, inputs, settings, feed, tables, &networks, gate, watch,
-    )
-}
-
-/// The text, once the networks are made: the matrix is computed.
-fn text_of_networks<G: Gate + Sync, W: Watch, R: Threads + Wait + Sync>(
-    rt: &R,
-    alloc: Global,
-    inputs: &Inputs<'_>,
-    settings: &Settings,
-    feed: &Feed,
-    tables: &Tables,
-    networks: &[Network],
-    gate: &G,
-    watch: &W,
-) -> Result<Vec<u8>, StudyFault>
-    requires settings { SettingsFit settings.now }
-    requires feed { feed.now ≡ feed_in (inputs_of inputs.now) }
-    requires tables { AreTables (inputs_of inputs.now) feed.now tables.now }
-    requires networks { AreNetworks (inputs_of inputs.now) settings.now networks.now }
-    requires told { W.saw watch.now listed }
-    ensures text { IfOk result (λ text. IsStudyText (inputs_of inputs.now) settings.now text.items) }
-    ensures told { IfOk result (λ _. SawAll (W.saw watch.now) (inputs_of inputs.now) settings.now) }
-    ensures fault { IfErr result (λ e. TellsBy (G.decides gate.now) (G.was_told gate.now) e (inputs_of inputs.now) settings.now) }
-{
+    let parts = network_parts(alloc, inputs, settings, feed, &tables.direct)?;
+    let parts = parts.as_ref();
+    watch.days_listed(feed, settings, &parts.scenarios, &parts.runs, &parts.feet);
+    let networks = make_networks(alloc, feed, &parts.scenarios, &parts.runs, &parts.feet)?;
     feed.known();
     let study = Study {
         number: 0,
-        networks,
+        networks: networks.as_slice(),
         origins: tables.origins.as_slice(),
         opportunities: tables.opportunities.as_slice(),
         asked: settings.asked(tables.destinations.as_slice()),
     };
-    let matrix = match matrix_of(rt, alloc, &study, settings, gate, watch) {
-        Ok(matrix) => matrix,
-        Err(fault) => return Err(StudyFault::Run(fault)),
-    };
-    text_of_matrix(alloc, inputs, settings, feed, tables, &matrix)
+    let matrix = matrix_of(rt, alloc, &study, settings, gate, watch)?;
+    text_of_matrix(alloc, inputs, settings, feed, tables, matrix.as_ref())
 }
 
 /// The text of the matrix.

@@ -1,6 +1,6 @@
 //! The records of one trip: when it calls at which stop, in ascending order of `stop_sequence`.
 
-ghost use Rattle.std.specs.Prelude.{◌≡◌, ◌<◌, ◌≤◌, ℕ, [], true, false, length, slice_index_or, IfNone, IfSome, OnErr, OnOk};
+ghost use Rattle.std.specs.Prelude.{◌≡◌, ◌<◌, ◌≤◌, ℕ, [], true, false, length, slice_index_or, IfNone, IfSome, IsTrue, OnErr, OnOk};
 ghost use Rattle.table_files.specs.declared.trip_times.StopTime.{StopTime};
 ghost use Rattle.table_files.specs.TripTimes.{FitsAt, IsAscending, has_number, insert_in_order};
 
@@ -118,12 +118,24 @@ fn position_of(trip_times: &VecDeque<StopTime>, sequence: u32) -> Option<usize>
     Some(i)
 }
 
-// How many records have a lesser sequence number. In most files that is all of them.
+// How many records have a lesser sequence number. In most files that is all of them, so the last is looked at first.
 fn count_below(trip_times: &VecDeque<StopTime>, sequence: u32) -> usize
     requires { IsAscending 0 trip_times.now.items }
     ensures within { result ≤ length trip_times.now.items }
     ensures below { (k : ℕ) (d : StopTime) → k < result → (slice_index_or trip_times.now.items k d).sequence < sequence }
     ensures from { (k : ℕ) (d : StopTime) → result ≤ k → k < length trip_times.now.items → sequence ≤ (slice_index_or trip_times.now.items k d).sequence }
 {
+    if is_past_all(trip_times, sequence) {
+        return trip_times.len();
+    }
     trip_times.partition_point(|stop_time| stop_time.sequence < sequence)
+}
+
+// Whether all records have a lesser sequence number.
+fn is_past_all(trip_times: &VecDeque<StopTime>, sequence: u32) -> bool
+    requires { IsAscending 0 trip_times.now.items }
+    ensures { IsTrue result → (k : ℕ) (d : StopTime) → k < length trip_times.now.items → (slice_index_or trip_times.now.items k d).sequence < sequence }
+{
+    let count = trip_times.len();
+    count == 0 || trip_times[count - 1].sequence < sequence
 }

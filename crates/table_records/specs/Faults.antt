@@ -1,5 +1,5 @@
 -- All faults of a file, in the order in which its records and their checks stand.
--- "What is told is the first fault: the least by record, then by check; want of memory may be told in its place."
+-- "What is told is the first fault: the least by record, then by check; out of memory may be told in its place."
 -- (This project's rule; the checks are those of the GTFS reference for the file.)
 use Rattle.std.specs.Prelude.{◌≡◌, ◌⊎◌, ◌+◌, Bool, List, [], ◌∷◌, ◌++◌, length, map, Some, slice_get, if◌then◌else◌}
 use Rattle.table_records.specs.declared.fault.FeedFault.{FeedFault}

@@ -89,7 +89,7 @@ impl FeedFault {
         FeedFault { file, at, what }
     }
 
-    // Want of memory, which no file is the cause of.
+    // Out of memory, which no file is the cause of.
     fn memory() -> FeedFault
         ensures { result.what ≡ Memory }
     {

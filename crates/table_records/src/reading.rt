@@ -91,7 +91,7 @@ pub trait RecordTaker {
         ensures fault { IfErr result (λ e. (start : Self.Table) (before after : List (List (List ℕ))) → at ≡ length before + 2 → Makes self.now start before table.old
             → Refuses self.now start (before ++ fields_of row.now ∷ after) e) };
 
-    /// Want of memory, which may be told of any records.
+    /// The error when memory runs out, which may be told of any records.
     fn memory(&self) -> Self::Fault
         ensures { (start : Self.Table) (records : List (List (List ℕ))) → Refuses self.now start records result };
 }
@@ -119,7 +119,7 @@ pub fn take_records<T: RecordTaker>(
     Ok(())
 }
 
-// Puts the next record into `row`, and says whether there was one; want of memory is told as the taker tells it.
+// Puts the next record into `row`, and says whether there was one; out of memory is told as the taker tells it.
 fn next_of<T: RecordTaker>(
     taker: &T,
     rows: &mut Rows<'_>,

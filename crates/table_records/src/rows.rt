@@ -48,7 +48,7 @@ impl<'a> Rows<'a> {
 
     /// Puts the next record into `row`, and says whether there was one.
     ///
-    /// No bytes are malformed to this reader, so an error is want of memory; no record comes
+    /// No bytes are malformed to this reader, so an error is out of memory; no record comes
     /// after it.
     pub fn next(&mut self, row: &mut ByteRecord) -> Result<bool, AllocError>
         ensures { MatchResult result (λ found. Gives self.old found (fields_of row.new) self.new)

@@ -30,18 +30,23 @@ fn has_six_places(places: &Locations) -> bool {
         && places.place(b"Z") == None
 }
 
-// Whether six places of three kinds are read as such.
-fn reads_six_places(alloc: Global) -> Result<bool, FeedFault> {
-    let places = read_locations(
-        alloc,
-        b"stop_id,location_type\nA,\nS,1\nB, 0 \nE,2\nT,1\n\" \",0\n",
-    )?;
-    Ok(has_six_places(&places))
+// The places of a file. They stand in a box, so that whoever holds them lets go of them in one step.
+fn places_of(alloc: Global, bytes: &[u8]) -> Result<Box<Locations>, Fail>
+    requires { length bytes.now ≤ 1073741824 }
+{
+    match read_locations(alloc, bytes) {
+        Ok(places) => Ok(Box::new(alloc, places)?),
+        Err(_) => Err(Fail::new("a fault of stops.txt")),
+    }
 }
 
 #[test]
 fn stops_and_stations_are_numbered_apart(rt: HostRuntime) -> Result<(), Fail> {
-    assert!(rt; reads_six_places(rt.alloc())?);
+    let places = places_of(
+        rt.alloc(),
+        b"stop_id,location_type\nA,\nS,1\nB, 0 \nE,2\nT,1\n\" \",0\n",
+    )?;
+    assert!(rt; has_six_places(&places));
     Ok(())
 }
 
@@ -54,19 +59,14 @@ fn has_two_stations(places: &Locations) -> bool {
         && stands_for(places, b"E", &[])
 }
 
-// Whether two stations are read with their stops. B's parent comes later in the file, D's is a stop, C's is nowhere,
-// and the entrance E is no stop.
-fn reads_two_stations(alloc: Global) -> Result<bool, FeedFault> {
-    let places = read_locations(
-        alloc,
-        b"stop_id,parent_station,location_type\nA,S,\nB,T,0\nS,,1\nT,,1\nC,Z,\nD,A,\nE,S,2\nF,S,0\n",
-    )?;
-    Ok(has_two_stations(&places))
-}
-
 #[test]
 fn a_station_stands_for_its_stops(rt: HostRuntime) -> Result<(), Fail> {
-    assert!(rt; reads_two_stations(rt.alloc())?);
+    // B's parent comes later in the file, D's is a stop, C's is nowhere, and the entrance E is no stop
+    let places = places_of(
+        rt.alloc(),
+        b"stop_id,parent_station,location_type\nA,S,\nB,T,0\nS,,1\nT,,1\nC,Z,\nD,A,\nE,S,2\nF,S,0\n",
+    )?;
+    assert!(rt; has_two_stations(&places));
     Ok(())
 }
 

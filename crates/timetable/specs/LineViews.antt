@@ -1,6 +1,5 @@
--- The events of a line's trips, laid out for a scan: what travellers may do at each place, and the times of its trips, one trip
--- after another.
--- (The RAPTOR paper lays out its routes so: Delling, Pajor, Werneck, ALENEX 2012.)
+-- The events of a line's trips, laid out for a scan: what travellers may do at each position, and the times of its
+-- trips, one trip after another. (The RAPTOR paper lays out its routes so: Delling, Pajor, Werneck, ALENEX 2012.)
 use Rattle.std.specs.Prelude.{◌≡◌, ℕ, ◌+◌, ◌*◌, ◌<◌, List, [], map, length, slice_get, slice_index, slice_index_or, Some}
 use Rattle.timetable.specs.declared.trips.Event.{Event}
 use Rattle.timetable.specs.declared.trips.Trip.{Trip}
@@ -15,7 +14,7 @@ events_of trips i = slice_index_or (map (λ t. t.events) trips) i []
 abbrev pub rows_of_line : List Trip → List ℕ → List (List Event)
 rows_of_line trips line = map (events_of trips) line
 
--- the trip that comes r-th in the line, counted from 0, makes this event at its place j
+-- the trip that comes r-th in the line, counted from 0, makes this event at its position j
 pub record IsAt (rows : List (List Event)) (r j : ℕ) (e : Event) : Type 0 where
   pub row : List Event
   pub trip : slice_get rows r ≡ Some row
@@ -28,7 +27,7 @@ arrivals_in times = map (λ t. t.arrive) times
 abbrev pub departures_in : List Times → List ℕ
 departures_in times = map (λ t. t.depart) times
 
--- calls and times show these trips
+-- calls and times show these trips: the stop and the flags of each position, and the times of one trip after another
 pub record IsViewOf (rows : List (List Event)) (calls : List Call) (times : List Times) : Type 0 where
   pub places : (r : ℕ) (row : List Event) → slice_get rows r ≡ Some row → length row ≡ length calls
   pub size : length times ≡ length rows * length calls
@@ -38,7 +37,7 @@ pub record IsViewOf (rows : List (List Event)) (calls : List Call) (times : List
   pub arrival : (r j : ℕ) (e : Event) → IsAt rows r j e → slice_index (arrivals_in times) (r * length calls + j) ≡ e.arrive
   pub departure : (r j : ℕ) (e : Event) → IsAt rows r j e → slice_index (departures_in times) (r * length calls + j) ≡ e.depart
 
--- what an event says of its place
+-- what an event says of its position
 abbrev pub call_of : Event → Call
 call_of e = record { stop = e.stop; board = e.board; alight = e.alight }
 
@@ -46,7 +45,7 @@ call_of e = record { stop = e.stop; board = e.board; alight = e.alight }
 abbrev pub times_at : Event → Times
 times_at e = record { arrive = e.arrive; depart = e.depart }
 
--- when the r-th row arrives at place j, and when it departs there
+-- when the r-th row arrives at position j, and when it departs there
 abbrev pub arrives : List (List Event) → ℕ → ℕ → ℕ
 arrives rows r j = slice_index (map (λ e. e.arrive) (slice_index_or rows r [])) j
 
@@ -68,7 +67,7 @@ pub record AreTimes (m n : ℕ) (rows : List (List Event)) (times : List Times) 
   pub arrivals : IsGrid m n (arrives rows) (arrivals_in times)
   pub departures : IsGrid m n (departs rows) (departures_in times)
 
--- the places of a line, and its times trip by trip, by the events of its first trip
+-- the positions of a line, and its times trip by trip, by the events of its first trip
 abbrev pub IsCalls : List Trip → List ℕ → List Call → Type 0
 IsCalls trips line calls = calls ≡ map call_of (events_of trips (slice_index line 0))
 

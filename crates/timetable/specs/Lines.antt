@@ -49,7 +49,7 @@ pub record AreLines (trips : List Trip) (lines : List Line) : Type 0 where
   pub line : All (IsLine trips) lines
   pub all : (trip : ℕ) → trip < length trips → IsInLine lines trip
 
--- an event at a place of one of a line's trips
+-- an event at a position of one of a line's trips
 abbrev pub IsPlace : List Trip → List Line → ℕ → ℕ → Event → Type 0
 IsPlace trips lines line k event = (trip : ℕ) × IsIn lines line trip × IsEvent trips trip k event
 
@@ -64,7 +64,7 @@ FirstBoards trips lines n p x = (line : ℕ) × (row : Line) × (i : ℕ) × (t 
     (line < n) × (slice_get lines line ≡ Some row) × (slice_get row 0 ≡ Some i) × (slice_get trips i ≡ Some t) ×
     BoardsBefore (length t.events) line t.events p x
 
--- for each stop, the lines that can be boarded there, each with the place
+-- for each stop, the lines that can be boarded there, each with the position
 pub record AreBoarded (stops : ℕ) (trips : List Trip) (lines : List Line) (boarded : List (List (ℕ × ℕ))) : Type 0 where
   pub size : length boarded ≡ stops
   pub complete : (line k : ℕ) (e : Event) →

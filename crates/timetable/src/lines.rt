@@ -72,7 +72,7 @@ impl Lines {
         self.lines.list(line as usize)
     }
 
-    /// The lines that can be boarded at a stop, each with the place of the stop in it.
+    /// The lines that can be boarded at a stop, each with the position of the stop in it.
     pub fn boarded_at(&self, stop: StopNo) -> &[(u32, u32)]
         requires { stop.0 < length self.now.boarded }
         ensures { slice_get self.now.boarded stop.0 ≡ Some result.now }
@@ -80,7 +80,7 @@ impl Lines {
         self.boarded.list(stop.0 as usize)
     }
 
-    /// The places of a line, in order: which stop each is, and whether travellers may board and alight there.
+    /// The positions of a line, in order: which stop each is, and whether travellers may board and alight there.
     pub fn calls_of(&self, line: u32) -> &[Call]
         requires { line < length self.now.calls }
         ensures { slice_get self.now.calls line ≡ Some result.now }
@@ -88,8 +88,8 @@ impl Lines {
         self.calls.list(line as usize)
     }
 
-    /// The times of a line, trip by trip, and of each trip place by place: those of the trip at `rank` at `place` are at
-    /// `rank * places + place`, where `places` counts the line's places.
+    /// The times of a line, trip by trip, and of each trip position by position: those of the trip of `rank` at
+    /// `position` are at `rank * positions + position`, where `positions` counts the line's positions.
     pub fn times_of(&self, line: u32) -> &[Times]
         requires { line < length self.now.times }
         ensures { slice_get self.now.times line ≡ Some result.now }
@@ -232,7 +232,7 @@ fn is_no_earlier(before: &Event, after: &Event) -> bool
         && before.depart <= after.depart
 }
 
-/// For each stop, the lines that can be boarded there, each with the place.
+/// For each stop, the lines that can be boarded there, each with the position.
 fn boarded_of(
     alloc: Global,
     stops: u32,
@@ -257,7 +257,7 @@ fn boarded_of(
     Ok(boarded)
 }
 
-/// Adds the places of a line where one may board.
+/// Adds the positions of a line where one may board.
 fn add_places(
     boarded: &mut Vec<Vec<(u32, u32)>>,
     line: u32,

@@ -9,7 +9,7 @@ use crate::flat_lists::FlatLists;
 use crate::trips::{Event, StopNo, Trip};
 use std::alloc::{AllocError, Global};
 
-/// A place of a line: its stop, and whether travellers may board and alight there.
+/// A position of a line: its stop, and whether travellers may board and alight there.
 #[derive(Clone, Copy, Debug, PartialEq, Eq)]
 pub struct Call {
     pub stop: StopNo,
@@ -17,8 +17,8 @@ pub struct Call {
     pub alight: bool,
 }
 
-/// When a trip arrives at a place and departs there, in seconds. Of a line's times the two stand side by side, since who scans
-/// a line at a place looks at both.
+/// When a trip arrives at a position and departs there, in seconds. Of a line's times the two stand side by side, since
+/// who scans a line at a position looks at both.
 #[derive(Clone, Copy, Debug, PartialEq, Eq)]
 pub struct Times {
     pub arrive: u32,
@@ -47,7 +47,7 @@ pub(crate) fn views_of(
     Ok((calls, times))
 }
 
-/// The places of a trip.
+/// The positions of a trip.
 fn calls_of(alloc: Global, events: &[Event]) -> Result<Vec<Call>, AllocError>
     ensures { IfOk result (λ calls. calls.items ≡ map call_of events.now) }
 {

@@ -1,5 +1,5 @@
 -- One lane of a choice between two vectors.
-use Rattle.std.proofs.Common.{◌≡◌, ℕ, zero, suc, [], ◌∷◌, ◌+◌, ◌-◌, ◌^◌, ◌<◌, Bool, true, false, cond, ltb, min, max, List, length, get_or, map, replicate, refl, sym, ◌∙◌, ap, arith}
+use Rattle.std.proofs.Common.{◌≡◌, ℕ, zero, suc, [], ◌∷◌, ◌+◌, ◌-◌, ◌^◌, ◌<◌, ◌≤◌, Bool, true, false, cond, eqb, ltb, min, max, List, length, get_or, map, replicate, refl, sym, ◌∙◌, ap, arith}
 use Rattle.std.proofs.lemmas.Simd.{tops_compared, get_or-sel_l, get_or-zip2, length-zip2, mask_l-mod, length-sel_l, get_or-replicate}
 use Rattle.std.proofs.lemmas.Bool.Decides.{nat_tests}
 use Rattle.std.proofs.lemmas.Bool.{false≢true, lt-ltb}
@@ -47,6 +47,12 @@ set_some (true ∷ ms) i l e = omega arith
 set_some (false ∷ ms) zero l e = absurd (cc)
 set_some (false ∷ ms) (suc i) l e = let rest = set_some ms i (omega arith) e in omega arith
 
+lower_where_other : (a b : ℕ) → a ≤ b → not (eqb a b) ≡ true → a < b
+lower_where_other a b le other = grind (arith, nat_tests)
+
+other_where_lower : (a b : ℕ) → a < b → not (eqb a b) ≡ true
+other_where_lower a b lt = grind (arith, nat_tests)
+
 pub any_lower : (xs ys : List ℕ) → length xs ≡ 16 → length ys ≡ 16 → IsTrue (not (nat_eq (mask_l (map (top 31) (zip2 (λ a b. cond (ltb a b) (2 ^ 32 - 1) 0) xs ys)) % 2 ^ 64) 0)) ↔ ((l : ℕ) × (l < 16) × (slice_index xs l < slice_index ys l))
 any_lower xs ys xl yl =
     let e : length (zip2 ltb xs ys) ≡ 16 = length-zip2 ltb xs ys (xl ∙ sym yl) ∙ xl in
@@ -60,6 +66,24 @@ any_lower xs ys xl yl =
       λ s.
           let at = get_or-zip2 ltb xs ys s.0 0 0 false (omega (arith, s.1)) (omega (arith, s.1)) in
           let pos : 0 < mask_l (zip2 ltb xs ys) = set_some (zip2 ltb xs ys) s.0 (omega (arith, s.1)) (at ∙ lt-ltb (get_or xs s.0 0) (get_or ys s.0 0) s.2) in
+          grind (arith, nat_tests),
+    )
+
+-- two vectors differ, of which the first is nowhere higher
+pub any_other : (xs ys : List ℕ) → length xs ≡ 16 → length ys ≡ 16 → ((l : ℕ) → l < 16 → slice_index xs l ≤ slice_index ys l) → IsTrue (not (nat_eq (mask_l (map (top 31) (zip2 (λ a b. cond (not (eqb a b)) (2 ^ 32 - 1) 0) xs ys)) % 2 ^ 64) 0)) ↔ ((l : ℕ) × (l < 16) × (slice_index xs l < slice_index ys l))
+any_other xs ys xl yl no_higher =
+    let t : ℕ → ℕ → Bool = λ a b. not (eqb a b) in
+    let e : length (zip2 t xs ys) ≡ 16 = length-zip2 t xs ys (xl ∙ sym yl) ∙ xl in
+    let whole = mask_l-mod (zip2 t xs ys) 64 (omega arith) in
+    rw (tops_compared w32 t xs ys, whole) (
+      λ set.
+          let found = some_set (zip2 t xs ys) (λ z. false≢true (rw z at set)) in
+          let lt : found.0 < 16 = omega (arith, found.1) in
+          let at = get_or-zip2 t xs ys found.0 0 0 false (omega arith) (omega arith) in
+          (found.0, lt, lower_where_other (get_or xs found.0 0) (get_or ys found.0 0) (no_higher found.0 lt) (sym at ∙ found.2)),
+      λ s.
+          let at = get_or-zip2 t xs ys s.0 0 0 false (omega (arith, s.1)) (omega (arith, s.1)) in
+          let pos : 0 < mask_l (zip2 t xs ys) = set_some (zip2 t xs ys) s.0 (omega (arith, s.1)) (at ∙ other_where_lower (get_or xs s.0 0) (get_or ys s.0 0) s.2) in
           grind (arith, nat_tests),
     )
 

@@ -3,6 +3,7 @@ use Rattle.std.specs.Prelude.{◌≡◌, ℕ, ◌<◌, ◌≤◌, List, length, 
 use Rattle.trip_lanes.specs.declared.riders.Span.{Span}
 use Rattle.trip_lanes.specs.Lane.{lane}
 use Rattle.trip_lanes.specs.Scan.{IsMask}
+use Rattle.trip_lanes.specs.declared.lanes.TheConstants.{LANES}
 
 -- lane l rides the trip of rank r
 pub record Rides (aboard : List (List ℕ)) (span : Span) (l r : ℕ) : Type 0 where
@@ -13,7 +14,7 @@ pub record Rides (aboard : List (List ℕ)) (span : Span) (l r : ℕ) : Type 0 w
 -- in each lane each trip of the span is ridden or not
 pub record AreRiders (aboard : List (List ℕ)) (span : Span) : Type 0 where
   pub within : span.end ≤ length aboard
-  pub masks : (l r : ℕ) → l < 16 → span.first ≤ r → r < span.end → IsMask (slice_index (lane l aboard) r)
+  pub masks : (l r : ℕ) → l < LANES → span.first ≤ r → r < span.end → IsMask (slice_index (lane l aboard) r)
 
 -- who is ready by a departure, and was not before it
 pub record Catches (before ready depart : ℕ) : Type 0 where

@@ -2,8 +2,9 @@
 ghost use Rattle.std.specs.Prelude.{◌≡◌, ℕ, ◌<◌, ◌≤◌, length, slice_index, slice_get, Some, true};
 ghost use Rattle.trip_lanes.specs.Lane.{lane};
 ghost use Rattle.trip_lanes.specs.Falls.{HasFallen, AreFalls};
+ghost use Rattle.trip_lanes.specs.declared.lanes.TheConstants.{LANES};
 
-use crate::kernels::Lanes;
+use crate::lanes::{LANES, Lanes};
 use std::simd::prelude::*;
 use std::simd::u32x16;
 use timetable::NEVER;
@@ -28,7 +29,7 @@ pub const UNFALLEN: Fall = Fall {
 
 /// The labels of the lanes that fell, and another number in the others.
 fn of_fallen(before: Lanes, ready: Lanes, labels: Lanes, other: u32) -> Lanes
-    ensures { (l : ℕ) → l < 16 → slice_index ready l < slice_index before l → slice_index result l ≡ slice_index labels l }
+    ensures { (l : ℕ) → l < LANES → slice_index ready l < slice_index before l → slice_index result l ≡ slice_index labels l }
 {
     u32x16::from_array(ready)
         .simd_lt(u32x16::from_array(before))
@@ -38,10 +39,10 @@ fn of_fallen(before: Lanes, ready: Lanes, labels: Lanes, other: u32) -> Lanes
 
 /// The least of some labels.
 fn least(labels: Lanes) -> u32
-    ensures { (l : ℕ) → l < 16 → result ≤ slice_index labels l }
+    ensures { (l : ℕ) → l < LANES → result ≤ slice_index labels l }
 {
     let mut low = NEVER;
-    for l in 0..16 {
+    for l in 0..LANES {
         if labels[l] < low {
             low = labels[l];
         }
@@ -51,10 +52,10 @@ fn least(labels: Lanes) -> u32
 
 /// The greatest of some labels.
 fn greatest(labels: Lanes) -> u32
-    ensures { (l : ℕ) → l < 16 → slice_index labels l ≤ result }
+    ensures { (l : ℕ) → l < LANES → slice_index labels l ≤ result }
 {
     let mut high = 0;
-    for l in 0..16 {
+    for l in 0..LANES {
         if high < labels[l] {
             high = labels[l];
         }
@@ -64,7 +65,7 @@ fn greatest(labels: Lanes) -> u32
 
 /// How far the labels of one stop fell.
 fn fall_of(before: Lanes, ready: Lanes) -> Fall
-    ensures { (l : ℕ) → l < 16 → HasFallen (slice_index before l) (slice_index ready l) result }
+    ensures { (l : ℕ) → l < LANES → HasFallen (slice_index before l) (slice_index ready l) result }
 {
     Fall {
         low: least(of_fallen(before, ready, ready, NEVER)),
@@ -78,9 +79,9 @@ pub fn falls_of(before: &[Lanes], ready: &[Lanes], fallen: &[bool], falls: &mut 
     requires before { length before.now ≡ length ready.now }
     requires fallen { length fallen.now ≡ length ready.now }
     requires falls { length falls.old ≡ length ready.now }
-    requires same { (l p : ℕ) → l < 16 → (slice_get fallen.now p ≡ Some true → ⊥) → slice_index (lane l before.now) p ≡ slice_index (lane l ready.now) p }
+    requires same { (l p : ℕ) → l < LANES → (slice_get fallen.now p ≡ Some true → ⊥) → slice_index (lane l before.now) p ≡ slice_index (lane l ready.now) p }
     ensures same { length falls.new ≡ length falls.old }
-    ensures falls { (l : ℕ) → l < 16 → AreFalls (lane l before.now) (lane l ready.now) falls.new }
+    ensures falls { (l : ℕ) → l < LANES → AreFalls (lane l before.now) (lane l ready.now) falls.new }
 {
     for stop in 0..ready.len() {
         if fallen[stop] {

@@ -2,16 +2,16 @@ ghost use Rattle.std.specs.Prelude.{◌≡◌, ℕ, ◌<◌, ◌≤◌, length, 
 ghost use Rattle.trip_lanes.specs.Lane.{SomeFell, lane, MarksFallen};
 ghost use Rattle.timetable.specs.Steps.{Lowers, Carries};
 ghost use Rattle.timetable.specs.declared.trips.Event.{Event};
+ghost use Rattle.trip_lanes.specs.declared.lanes.TheConstants.{LANES};
 
+use crate::lanes::{LANES, Lanes};
 use std::simd::prelude::*;
 use std::simd::u32x16;
 use timetable::{NEVER, Trip};
 
-pub type Lanes = [u32; 16];
-
 /// Lowers each lane that is aboard, whose bar is 0, to the arrival.
 pub(crate) fn alight(old: Lanes, bar: Lanes, arrive: u32) -> Lanes
-    ensures { (l : ℕ) → l < 16 → slice_index result l ≡ min (slice_index old l) (max (slice_index bar l) arrive) }
+    ensures { (l : ℕ) → l < LANES → slice_index result l ≡ min (slice_index old l) (max (slice_index bar l) arrive) }
 {
     let best = u32x16::from_array(bar).simd_max(u32x16::splat(arrive));
     u32x16::from_array(old).simd_min(best).to_array()
@@ -19,7 +19,7 @@ pub(crate) fn alight(old: Lanes, bar: Lanes, arrive: u32) -> Lanes
 
 /// Takes each lane aboard that is ready by the departure.
 fn board(ready: Lanes, bar: Lanes, depart: u32) -> Lanes
-    ensures { (l : ℕ) → l < 16 → slice_index result l ≡ cond (nat_le (slice_index ready l) depart) 0 (slice_index bar l) }
+    ensures { (l : ℕ) → l < LANES → slice_index result l ≡ cond (nat_le (slice_index ready l) depart) 0 (slice_index bar l) }
 {
     let aboard = u32x16::from_array(ready).simd_le(u32x16::splat(depart));
     aboard
@@ -31,14 +31,22 @@ fn board(ready: Lanes, bar: Lanes, depart: u32) -> Lanes
 pub fn fell(new: Lanes, old: Lanes) -> bool
     ensures { IsTrue result ↔ SomeFell new old }
 {
-    u32x16::from_array(new)
-        .simd_lt(u32x16::from_array(old))
-        .any()
+    let lower = u32x16::from_array(new).simd_lt(u32x16::from_array(old));
+    lower.any()
+}
+
+/// Whether some lane is lower, where none is higher.
+fn changed(new: Lanes, old: Lanes) -> bool
+    requires { (l : ℕ) → l < LANES → slice_index new l ≤ slice_index old l }
+    ensures { IsTrue result ↔ SomeFell new old }
+{
+    let other = u32x16::from_array(new).simd_ne(u32x16::from_array(old));
+    other.any()
 }
 
 /// The lower of both, in each lane.
 pub fn lower_of(old: Lanes, new: Lanes) -> Lanes
-    ensures { (l : ℕ) → l < 16 → slice_index result l ≡ min (slice_index old l) (slice_index new l) }
+    ensures { (l : ℕ) → l < LANES → slice_index result l ≡ min (slice_index old l) (slice_index new l) }
 {
     u32x16::from_array(old)
         .simd_min(u32x16::from_array(new))
@@ -49,12 +57,12 @@ pub fn lower_of(old: Lanes, new: Lanes) -> Lanes
 pub fn lower_marked(labels: &mut [Lanes], marked: &mut [bool], stop: usize, times: Lanes)
     requires stop { stop < length labels.old }
     requires same { length marked.old ≡ length labels.old }
-    ensures lanes { (l : ℕ) → l < 16 → Lowers (λ p x. (p ≡ stop) × (x ≡ slice_index times l)) (lane l labels.old) (lane l labels.new) }
+    ensures lanes { (l : ℕ) → l < LANES → Lowers (λ p x. (p ≡ stop) × (x ≡ slice_index times l)) (lane l labels.old) (lane l labels.new) }
     ensures marks { MarksFallen labels.old labels.new marked.old marked.new }
 {
     let old = labels[stop];
     let new = lower_of(old, times);
-    if fell(new, old) {
+    if changed(new, old) {
         labels[stop] = new;
         marked[stop] = true;
     }
@@ -70,9 +78,9 @@ pub(crate) fn lower_lanes(
 )
     requires stop { stop < length ride.old }
     requires same { length marked.old ≡ length ride.old }
-    requires fits { (l : ℕ) → l < 16 → slice_index (lane l ride.old) stop ≤ NEVER }
-    requires bar { (l : ℕ) → l < 16 → (slice_index bar l ≡ 0) ⊎ (slice_index bar l ≡ NEVER) }
-    ensures lanes { (l : ℕ) → l < 16 → Lowers (λ p x. (slice_index bar l ≡ 0) × (p ≡ stop) × (x ≡ arrive)) (lane l ride.old) (lane l ride.new) }
+    requires fits { (l : ℕ) → l < LANES → slice_index (lane l ride.old) stop ≤ NEVER }
+    requires bar { (l : ℕ) → l < LANES → (slice_index bar l ≡ 0) ⊎ (slice_index bar l ≡ NEVER) }
+    ensures lanes { (l : ℕ) → l < LANES → Lowers (λ p x. (slice_index bar l ≡ 0) × (p ≡ stop) × (x ≡ arrive)) (lane l ride.old) (lane l ride.new) }
     ensures marks { MarksFallen ride.old ride.new marked.old marked.new }
 {
     let old = ride[stop];
@@ -88,11 +96,11 @@ pub fn carry_trip(trip: &Trip, ready: &[Lanes], ride: &mut [Lanes], marked: &mut
     requires stops { (k : ℕ) (e : Event) → slice_get trip.now.events k ≡ Some e → e.stop.0 < length ride.old }
     requires ready { length ready.now ≡ length ride.old }
     requires marked { length marked.old ≡ length ride.old }
-    requires fits { (l p : ℕ) → l < 16 → slice_index (lane l ride.old) p ≤ NEVER }
-    ensures lanes { (l : ℕ) → l < 16 → Lowers (Carries (lane l ready.now) trip.now) (lane l ride.old) (lane l ride.new) }
+    requires fits { (l p : ℕ) → l < LANES → slice_index (lane l ride.old) p ≤ NEVER }
+    ensures lanes { (l : ℕ) → l < LANES → Lowers (Carries (lane l ready.now) trip.now) (lane l ride.old) (lane l ride.new) }
     ensures marks { MarksFallen ride.old ride.new marked.old marked.new }
 {
-    let mut bar = [NEVER; 16];
+    let mut bar = [NEVER; LANES];
     for event in trip.events.as_slice() {
         let stop = event.stop.0 as usize;
         if event.alight {

@@ -15,11 +15,13 @@
 mod columns;
 mod falls;
 mod kernels;
+mod lanes;
 mod line_scan;
 mod riders;
 mod walks;
 
 pub use falls::{Fall, UNFALLEN, falls_of};
-pub use kernels::{Lanes, carry_trip, fell, lower_marked, lower_of};
+pub use kernels::{carry_trip, fell, lower_marked, lower_of};
+pub use lanes::{LANES, Lanes, lanes_are_sixteen};
 pub use line_scan::{Labels, LineView, scan_line};
 pub use walks::{lower_all, transfer, transfer_marked, walk, walk_marked};

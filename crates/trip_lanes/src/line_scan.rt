@@ -9,11 +9,13 @@ ghost use Rattle.trip_lanes.specs.Falls.{HasFallen, AreFalls};
 ghost use Rattle.trip_lanes.specs.Riders.{Rides, AreRiders, RidesBy, Catches, Ascend};
 ghost use Rattle.trip_lanes.specs.Rows.{IsViewOf, NoneOvertakes, CarriesRow, IsCaught, IsPast};
 ghost use Rattle.timetable.specs.declared.trips.Event.{Event};
+ghost use Rattle.trip_lanes.specs.declared.lanes.TheConstants.{LANES};
 
 use crate::columns::{Column, departure};
 use crate::falls::Fall;
-use crate::kernels::{Lanes, fell, lower_marked, lower_of};
-use crate::riders::{Span, board_rank, catching, earliest, riding_before, trim, widen};
+use crate::kernels::{fell, lower_marked, lower_of};
+use crate::lanes::{LANES, Lanes};
+use crate::riders::{Span, catching, earliest, go_aboard, riding_before, riding_with};
 use timetable::{Call, NEVER, Times};
 
 /// The places of a line and the times of its trips, the earliest trip first: trip by trip, and of each trip place by place.
@@ -59,14 +61,14 @@ pub fn scan_line(
     requires ready { length labels.ready.now ≡ length ride.old }
     requires falls { length labels.falls.now ≡ length ride.old }
     requires marked { length marked.old ≡ length ride.old }
-    requires fallen { (l : ℕ) → l < 16 → AreFalls (lane l labels.before.now) (lane l labels.ready.now) labels.falls.now }
-    requires fits { (l p : ℕ) → l < 16 → slice_index (lane l ride.old) p ≤ NEVER }
+    requires fallen { (l : ℕ) → l < LANES → AreFalls (lane l labels.before.now) (lane l labels.ready.now) labels.falls.now }
+    requires fits { (l p : ℕ) → l < LANES → slice_index (lane l ride.old) p ≤ NEVER }
     ensures same { length aboard.new ≡ length aboard.old }
     ensures marks { MarksFallen ride.old ride.new marked.old marked.new }
     ensures lanes { (rows : List (List Event)) → IsViewOf rows line.entry.calls.now line.entry.times.now → length rows ≡ line.entry.trips → NoneOvertakes rows →
-        (l : ℕ) → l < 16 → FallsTo (CarriesRow (lane l labels.entry.ready.now) rows) (lane l ride.old) (lane l ride.new) }
+        (l : ℕ) → l < LANES → FallsTo (CarriesRow (lane l labels.entry.ready.now) rows) (lane l ride.old) (lane l ride.new) }
     ensures caught { (rows : List (List Event)) → IsViewOf rows line.entry.calls.now line.entry.times.now → length rows ≡ line.entry.trips → NoneOvertakes rows →
-        (l r j : ℕ) → l < 16 → from ≤ j → IsCaught (lane l labels.entry.before.now) (lane l labels.entry.ready.now) rows r j → IsPast rows (lane l ride.new) r j }
+        (l r j : ℕ) → l < LANES → from ≤ j → IsCaught (lane l labels.entry.before.now) (lane l labels.entry.ready.now) rows r j → IsPast rows (lane l ride.new) r j }
 {
     let places = line.calls.len();
     let mut span = Span { first: 0, end: 0 };
@@ -195,16 +197,15 @@ fn board_place(
     ensures same { length aboard.new ≡ length aboard.old }
     ensures riders { AreRiders aboard.new result }
     ensures end { result.end ≤ column.entry.trips }
-    ensures sound { (l r : ℕ) → l < 16 → Rides aboard.new result l r → Rides aboard.old span l r ⊎ Catches (slice_index at.before l) (slice_index at.ready l) (departs column.entry r) }
-    ensures kept { (l r : ℕ) → l < 16 → Rides aboard.old span l r → RidesBy aboard.new result l r }
-    ensures caught { (l r : ℕ) → l < 16 → Ascend (departs column.entry) column.entry.trips → HasFallen (slice_index at.before l) (slice_index at.ready l) fall → r < column.entry.trips → Catches (slice_index at.before l) (slice_index at.ready l) (departs column.entry r) → RidesBy aboard.new result l r }
+    ensures sound { (l r : ℕ) → l < LANES → Rides aboard.new result l r → Rides aboard.old span l r ⊎ Catches (slice_index at.before l) (slice_index at.ready l) (departs column.entry r) }
+    ensures kept { (l r : ℕ) → l < LANES → Rides aboard.old span l r → RidesBy aboard.new result l r }
+    ensures caught { (l r : ℕ) → l < LANES → Ascend (departs column.entry) column.entry.trips → HasFallen (slice_index at.before l) (slice_index at.ready l) fall → r < column.entry.trips → Catches (slice_index at.before l) (slice_index at.ready l) (departs column.entry r) → RidesBy aboard.new result l r }
 {
     let end = end_of(column, first, fall);
     if end == first {
         return span;
     }
-    let boarded = board_ranks(column, first, end, at, aboard, span);
-    trim(aboard, boarded)
+    board_ranks(column, first, end, at, aboard, span)
 }
 
 /// Takes the lanes aboard that newly catch a trip, from one rank to before another, unless they ride an earlier one.
@@ -225,21 +226,20 @@ fn board_ranks(
     ensures same { length aboard.new ≡ length aboard.old }
     ensures riders { AreRiders aboard.new result }
     ensures end { result.end ≤ column.entry.trips }
-    ensures sound { (l r : ℕ) → l < 16 → Rides aboard.new result l r → Rides aboard.old span l r ⊎ Catches (slice_index at.before l) (slice_index at.ready l) (departs column.entry r) }
-    ensures kept { (l r : ℕ) → l < 16 → Rides aboard.old span l r → RidesBy aboard.new result l r }
-    ensures caught { (l r : ℕ) → l < 16 → first ≤ r → r < end → Catches (slice_index at.before l) (slice_index at.ready l) (departs column.entry r) → RidesBy aboard.new result l r }
+    ensures sound { (l r : ℕ) → l < LANES → Rides aboard.new result l r → Rides aboard.old span l r ⊎ Catches (slice_index at.before l) (slice_index at.ready l) (departs column.entry r) }
+    ensures kept { (l r : ℕ) → l < LANES → Rides aboard.old span l r → RidesBy aboard.new result l r }
+    ensures caught { (l r : ℕ) → l < LANES → first ≤ r → r < end → Catches (slice_index at.before l) (slice_index at.ready l) (departs column.entry r) → RidesBy aboard.new result l r }
 {
     let mut now = span;
     let mut riding = riding_before(aboard, span, first);
     for rank in first..end {
-        let caught = catching(at.before, at.ready, riding, departure(column, rank));
-        if fell(caught, [NEVER; 16]) {
-            let wide = widen(aboard, now, rank);
-            board_rank(aboard, wide, rank, caught);
-            now = wide;
-        }
-        if now.first <= rank && rank < now.end {
-            let more = lower_of(riding, aboard[rank]);
+        let known = riding_with(aboard, now, rank, riding);
+        let caught = catching(at.before, at.ready, known, departure(column, rank));
+        riding = known;
+        if fell(caught, [NEVER; LANES]) {
+            let boarded = go_aboard(aboard, now, rank, caught);
+            let more = lower_of(known, caught);
+            now = boarded;
             riding = more;
         }
     }

@@ -5,8 +5,10 @@ ghost use Rattle.trip_lanes.specs.Scan.{NothingLower};
 ghost use Rattle.trip_lanes.specs.Walks.{OfferedFrom, TransferredFrom};
 ghost use Rattle.timetable.specs.Steps.{Lowers, WalkedOrStayed, ChangedOrWalked};
 ghost use Rattle.timetable.specs.declared.limits.TheConstants.{MOST_FOOT_SECONDS, MOST_CHANGE_SECONDS, END_OF_AXIS};
+ghost use Rattle.trip_lanes.specs.declared.lanes.TheConstants.{LANES};
 
-use crate::kernels::{Lanes, lower_marked, lower_of};
+use crate::kernels::{lower_marked, lower_of};
+use crate::lanes::Lanes;
 use std::simd::prelude::*;
 use std::simd::u32x16;
 use timetable::{Feet, NEVER, StopNo};
@@ -17,9 +19,9 @@ use timetable::{Feet, NEVER, StopNo};
 pub fn walk(feet: &Feet, ride: &[Lanes], ready: &mut [Lanes])
     requires ride { length ride.now ≡ length feet.now.walks }
     requires ready { length ready.old ≡ length feet.now.walks }
-    requires rides { (l p : ℕ) → l < 16 → slice_index (lane l ride.now) p ≢ NEVER → slice_index (lane l ride.now) p + MOST_FOOT_SECONDS < 2 ^ 32 }
-    requires fits { (l p : ℕ) → l < 16 → slice_index (lane l ready.old) p ≤ NEVER }
-    ensures { (l : ℕ) → l < 16 → Lowers (WalkedOrStayed feet.now.walks (lane l ride.now)) (lane l ready.old) (lane l ready.new) }
+    requires rides { (l p : ℕ) → l < LANES → slice_index (lane l ride.now) p ≢ NEVER → slice_index (lane l ride.now) p + MOST_FOOT_SECONDS < 2 ^ 32 }
+    requires fits { (l p : ℕ) → l < LANES → slice_index (lane l ready.old) p ≤ NEVER }
+    ensures { (l : ℕ) → l < LANES → Lowers (WalkedOrStayed feet.now.walks (lane l ride.now)) (lane l ready.old) (lane l ready.new) }
 {
     feet.known();
     for stop in 0..feet.stops() {
@@ -36,9 +38,9 @@ pub fn walk(feet: &Feet, ride: &[Lanes], ready: &mut [Lanes])
 pub fn transfer(feet: &Feet, ride: &[Lanes], ready: &mut [Lanes])
     requires ride { length ride.now ≡ length feet.now.walks }
     requires ready { length ready.old ≡ length feet.now.walks }
-    requires rides { (l p : ℕ) → l < 16 → slice_index (lane l ride.now) p ≢ NEVER → slice_index (lane l ride.now) p + MOST_CHANGE_SECONDS < 2 ^ 32 }
-    requires fits { (l p : ℕ) → l < 16 → slice_index (lane l ready.old) p ≤ NEVER }
-    ensures { (l : ℕ) → l < 16 → Lowers (ChangedOrWalked feet.now (lane l ride.now)) (lane l ready.old) (lane l ready.new) }
+    requires rides { (l p : ℕ) → l < LANES → slice_index (lane l ride.now) p ≢ NEVER → slice_index (lane l ride.now) p + MOST_CHANGE_SECONDS < 2 ^ 32 }
+    requires fits { (l p : ℕ) → l < LANES → slice_index (lane l ready.old) p ≤ NEVER }
+    ensures { (l : ℕ) → l < LANES → Lowers (ChangedOrWalked feet.now (lane l ride.now)) (lane l ready.old) (lane l ready.new) }
 {
     feet.known();
     for stop in 0..feet.stops() {
@@ -65,10 +67,10 @@ pub fn walk_marked(
     requires marked { length marked.now ≡ length feet.now.walks }
     requires ready { length ready.old ≡ length feet.now.walks }
     requires fallen { length fallen.old ≡ length feet.now.walks }
-    requires rides { (l p : ℕ) → l < 16 → slice_index (lane l ride.now) p ≢ NEVER → slice_index (lane l ride.now) p + MOST_FOOT_SECONDS < 2 ^ 32 }
-    requires fits { (l p : ℕ) → l < 16 → slice_index (lane l ready.old) p ≤ NEVER }
-    requires settled { (l x : ℕ) → l < 16 → x < length feet.now.walks → (slice_get marked.now x ≡ Some true → ⊥) → NothingLower (OfferedFrom feet.now.walks (lane l ride.now) x) (lane l ready.old) }
-    ensures lanes { (l : ℕ) → l < 16 → Lowers (WalkedOrStayed feet.now.walks (lane l ride.now)) (lane l ready.old) (lane l ready.new) }
+    requires rides { (l p : ℕ) → l < LANES → slice_index (lane l ride.now) p ≢ NEVER → slice_index (lane l ride.now) p + MOST_FOOT_SECONDS < 2 ^ 32 }
+    requires fits { (l p : ℕ) → l < LANES → slice_index (lane l ready.old) p ≤ NEVER }
+    requires settled { (l x : ℕ) → l < LANES → x < length feet.now.walks → (slice_get marked.now x ≡ Some true → ⊥) → NothingLower (OfferedFrom feet.now.walks (lane l ride.now) x) (lane l ready.old) }
+    ensures lanes { (l : ℕ) → l < LANES → Lowers (WalkedOrStayed feet.now.walks (lane l ride.now)) (lane l ready.old) (lane l ready.new) }
     ensures fallen { MarksFallen ready.old ready.new fallen.old fallen.new }
 {
     feet.known();
@@ -94,10 +96,10 @@ pub fn transfer_marked(
     requires marked { length marked.now ≡ length feet.now.walks }
     requires ready { length ready.old ≡ length feet.now.walks }
     requires fallen { length fallen.old ≡ length feet.now.walks }
-    requires rides { (l p : ℕ) → l < 16 → slice_index (lane l ride.now) p ≢ NEVER → slice_index (lane l ride.now) p < END_OF_AXIS }
-    requires fits { (l p : ℕ) → l < 16 → slice_index (lane l ready.old) p ≤ NEVER }
-    requires settled { (l x : ℕ) → l < 16 → x < length feet.now.walks → (slice_get marked.now x ≡ Some true → ⊥) → NothingLower (TransferredFrom feet.now (lane l ride.now) x) (lane l ready.old) }
-    ensures lanes { (l : ℕ) → l < 16 → Lowers (ChangedOrWalked feet.now (lane l ride.now)) (lane l ready.old) (lane l ready.new) }
+    requires rides { (l p : ℕ) → l < LANES → slice_index (lane l ride.now) p ≢ NEVER → slice_index (lane l ride.now) p < END_OF_AXIS }
+    requires fits { (l p : ℕ) → l < LANES → slice_index (lane l ready.old) p ≤ NEVER }
+    requires settled { (l x : ℕ) → l < LANES → x < length feet.now.walks → (slice_get marked.now x ≡ Some true → ⊥) → NothingLower (TransferredFrom feet.now (lane l ride.now) x) (lane l ready.old) }
+    ensures lanes { (l : ℕ) → l < LANES → Lowers (ChangedOrWalked feet.now (lane l ride.now)) (lane l ready.old) (lane l ready.new) }
     ensures fallen { MarksFallen ready.old ready.new fallen.old fallen.new }
 {
     feet.known();
@@ -118,7 +120,7 @@ pub fn transfer_marked(
 /// Walks along the footpaths that leave a stop, in each lane.
 fn walk_from(leaving: &[(StopNo, u32)], times: Lanes, ready: &mut [Lanes])
     requires { (k stop seconds : ℕ) → slice_get leaving.now k ≡ Some (record { 0 = stop }, seconds) → stop < length ready.old }
-    ensures { (l : ℕ) → l < 16 → Lowers (LeavesLater leaving.now (slice_index times l)) (lane l ready.old) (lane l ready.new) }
+    ensures { (l : ℕ) → l < LANES → Lowers (LeavesLater leaving.now (slice_index times l)) (lane l ready.old) (lane l ready.new) }
 {
     for (to, seconds) in leaving {
         lower_all(ready, to.0 as usize, later(times, *seconds));
@@ -129,7 +131,7 @@ fn walk_from(leaving: &[(StopNo, u32)], times: Lanes, ready: &mut [Lanes])
 fn walk_noting(leaving: &[(StopNo, u32)], times: Lanes, ready: &mut [Lanes], fallen: &mut [bool])
     requires targets { (k stop seconds : ℕ) → slice_get leaving.now k ≡ Some (record { 0 = stop }, seconds) → stop < length ready.old }
     requires fallen { length fallen.old ≡ length ready.old }
-    ensures lanes { (l : ℕ) → l < 16 → Lowers (LeavesLater leaving.now (slice_index times l)) (lane l ready.old) (lane l ready.new) }
+    ensures lanes { (l : ℕ) → l < LANES → Lowers (LeavesLater leaving.now (slice_index times l)) (lane l ready.old) (lane l ready.new) }
     ensures fallen { MarksFallen ready.old ready.new fallen.old fallen.new }
 {
     for (to, seconds) in leaving {
@@ -139,7 +141,7 @@ fn walk_noting(leaving: &[(StopNo, u32)], times: Lanes, ready: &mut [Lanes], fal
 
 /// Later by some seconds; NEVER stays.
 fn later(times: Lanes, seconds: u32) -> Lanes
-    ensures { (l : ℕ) → l < 16 → slice_index result l ≡ min (slice_index times l + seconds) NEVER }
+    ensures { (l : ℕ) → l < LANES → slice_index result l ≡ min (slice_index times l + seconds) NEVER }
 {
     let early = u32x16::from_array(times).simd_min(u32x16::splat(NEVER - seconds));
     (early + u32x16::splat(seconds)).to_array()
@@ -148,7 +150,7 @@ fn later(times: Lanes, seconds: u32) -> Lanes
 /// Lowers the lanes of a stop to these times.
 pub fn lower_all(labels: &mut [Lanes], stop: usize, times: Lanes)
     requires { stop < length labels.old }
-    ensures { (l : ℕ) → l < 16 → Lowers (λ p x. (p ≡ stop) × (x ≡ slice_index times l)) (lane l labels.old) (lane l labels.new) }
+    ensures { (l : ℕ) → l < LANES → Lowers (λ p x. (p ≡ stop) × (x ≡ slice_index times l)) (lane l labels.old) (lane l labels.new) }
 {
     let lowered = lower_of(labels[stop], times);
     labels[stop] = lowered;

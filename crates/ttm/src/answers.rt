@@ -38,7 +38,7 @@ pub(crate) fn answer_task<'a, T: Threads + Wait + Sync, C: Console + Sync, O: Wr
     ensures quiet { exit_status result ≡ DONE → err.new ≡ err.old }
 {
     if task.report {
-        answer_and_report(rt, alloc, console, inputs, &task.settings, out, err)
+        answer_and_report(rt, alloc, console, inputs, task, out, err)
     } else {
         answer(rt, alloc, inputs, &task.settings, out, err)
     }
@@ -71,25 +71,25 @@ fn answer_and_report<'a, T: Threads + Wait + Sync, C: Console + Sync, O: Write, 
     alloc: Global,
     console: &'a C,
     inputs: &Inputs<'a>,
-    settings: &Settings,
+    task: &Task,
     out: &mut O,
     err: &mut E,
 ) -> ExitCode
     requires files { AreWithinLimit (inputs_of inputs.now) }
-    requires settings { SettingsFit settings.now }
-    ensures answered { spec.IsAnswered (inputs_of inputs.now) settings.now (O.contents out.old) (O.contents out.new) (E.contents err.old) (E.contents err.new) (exit_status result) }
-    ensures success { exit_status result ≡ DONE → spec.IsPrinted (inputs_of inputs.now) settings.now (O.contents out.old) (O.contents out.new) }
+    requires settings { SettingsFit task.now.settings }
+    ensures answered { spec.IsAnswered (inputs_of inputs.now) task.now.settings (O.contents out.old) (O.contents out.new) (E.contents err.old) (E.contents err.new) (exit_status result) }
+    ensures success { exit_status result ≡ DONE → spec.IsPrinted (inputs_of inputs.now) task.now.settings (O.contents out.old) (O.contents out.new) }
     ensures quiet { exit_status result ≡ DONE → err.new ≡ err.old }
 {
     let report = Report::new(alloc, console, inputs);
-    match put_matrix(rt, alloc, inputs, settings, &report, &report, out) {
+    match put_matrix(rt, alloc, inputs, &task.settings, &report, &report, out) {
         Ok(()) => {
             report.ended();
             ExitCode::from(DONE)
         }
         Err(fault) => {
             let code = tell_why(alloc, &fault, inputs, err);
-            report.refused(&fault, inputs);
+            report.refused(&fault, inputs, task.feed.as_str());
             code
         }
     }

@@ -26,7 +26,7 @@ use command_line::{
     DONE, NOT_MOVED, REFUSED, Task, WordFault, bad_line, task_of, tell, tell_short, word_status,
 };
 use matrix_text::put_all;
-use reports::Console;
+use reports::{Console, explain_folder, explain_option};
 use std::alloc::Global;
 use std::io::{ErrorKind, Write};
 use std::process::ExitCode;
@@ -139,7 +139,11 @@ fn asked<T: Threads + Wait + Sync, D: Disk, C: Console + Sync, O: Write, E: Writ
             let code = word_status(&fault);
             match fault {
                 WordFault::Words(error) => tell_words(alloc, &error, code, out, err),
-                WordFault::Bad(option) => tell(bad_line(option), code, err),
+                WordFault::Bad(option) => {
+                    let code = tell(bad_line(option), code, err);
+                    explain_option(console, alloc, words, option);
+                    code
+                }
                 WordFault::Memory => tell_short(err),
             }
         }
@@ -230,6 +234,11 @@ fn read_and_answer<T: Threads + Wait + Sync, D: Disk, C: Console + Sync, O: Writ
 {
     match read_files(alloc, disk, task, files, err) {
         Ok(()) => answer_task(rt, alloc, console, task, &files.inputs(), out, err),
-        Err(code) => code,
+        Err(code) => {
+            if task.report {
+                explain_folder(console, alloc, task.feed.as_str());
+            }
+            code
+        }
     }
 }

@@ -107,6 +107,10 @@ impl Console for Counter {
             peak: None,
         }
     }
+
+    fn names_in(&self, alloc: Global, _folder: &str) -> io::Result<Vec<String>> {
+        Ok(Vec::new(alloc))
+    }
 }
 
 /// Writes a file of the folder, if there is one.

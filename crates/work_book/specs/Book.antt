@@ -3,6 +3,7 @@ use Rattle.std.specs.Prelude.{◌≡◌, ◌<◌, ◌≤◌, ◌*◌, ◌%◌, �
 use Rattle.std.specs.List.{All}
 use Rattle.std.specs.Option.{option_map_or}
 use Rattle.work_book.specs.Seat.{SeatState, new_seat, has_drawn}
+use Rattle.work_book.specs.declared.limits.TheConstants.{MOST_JOBS, MOST_TRIES}
 
 -- how many jobs there are and how often each is offered, the next number, whether each job is settled, and the seats
 pub record BookState : Type 0 where
@@ -47,8 +48,8 @@ AllDrawnBelow n seats = All (λ (s : SeatState). All (λ number. number < n) s.d
 -- what holds of a book at any time
 pub record IsBook (book : BookState) : Type 0 where
   pub marks : length book.marks ≡ book.jobs
-  pub few_jobs : book.jobs ≤ 1048560
-  pub few_tries : book.tries ≤ 8
+  pub few_jobs : book.jobs ≤ MOST_JOBS
+  pub few_tries : book.tries ≤ MOST_TRIES
   pub next : book.next ≤ book.jobs * book.tries
   pub drawn : AllDrawnBelow book.next book.seats
 

@@ -1,4 +1,4 @@
--- Steps that are taken back, the last one first, where a list of steps finds no memory half way.
+-- Steps that are taken back, the last one first, where a list of steps runs out of memory half way.
 use Rattle.std.specs.Prelude.{◌≡◌, ◌≤◌, false, List, slice_set, length, take}
 use Rattle.work_book.specs.Seat.{without_last_drawn, without_last_kept, as_present}
 use Rattle.work_book.specs.Book.{BookState, IsBook, job_of, on_seat}

@@ -6,6 +6,7 @@ ghost use Rattle.work_book.specs.Moves.{IsOnce};
 ghost use Rattle.work_book.specs.Board.{seen_by, IsOf, IsLease, HasDrawn, HasGiven, Drawn, SettledAs, Closes, book_of};
 
 use crate::lease::{Lease, Settled};
+use crate::limits::{MOST_JOBS, MOST_TRIES};
 use crate::moves::{Cut, Drawing, Looking, Merge, Settling, Showing};
 use crate::rule::Extent;
 use crate::shared::{Board, Closed, Draw, WorkSeat};
@@ -15,10 +16,10 @@ use std::alloc::{AllocError, Global};
 impl Board {
     /// A board of `jobs` jobs, each offered `tries` times, and its first seat, which has every share.
     ///
-    /// No jobs is allowed. 1,048,560 jobs are 16 scenarios of 65,535 origins. Want of memory is the only refusal.
+    /// No jobs is allowed. The only error is out of memory.
     pub fn new(alloc: Global, jobs: u32, tries: u32) -> Result<(Board, WorkSeat), AllocError>
-        requires jobs { jobs ≤ 1048560 }
-        requires tries { (1 ≤ tries) × (tries ≤ 8) }
+        requires jobs { jobs ≤ MOST_JOBS }
+        requires tries { (1 ≤ tries) × (tries ≤ MOST_TRIES) }
         ensures size { IfOk result (λ r. (r.0.jobs ≡ jobs) × (r.0.tries ≡ tries)) }
         ensures seat { IfOk result (λ r. IsOf r.0 r.1 × (seen_by r.1 ≡ first_view (jobs * tries))) }
     {

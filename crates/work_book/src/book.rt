@@ -8,6 +8,7 @@ ghost use Rattle.work_book.specs.Steps.{answer_of, after, answers_of, run_of};
 ghost use Rattle.work_book.specs.TakenBack.{taken_back, HasStepped, HasRun};
 
 use crate::lease::Lease;
+use crate::limits::{MOST_JOBS, MOST_TRIES};
 use crate::seat::Seat;
 use crate::steps::{Answer, Step};
 use std::alloc::{AllocError, Global};
@@ -15,7 +16,7 @@ use std::marker::Model;
 
 /// Who drew which number, and which jobs are settled.
 ///
-/// Job and seat numbers count from 0. A refused step changes nothing, nor does one that finds no memory.
+/// Job and seat numbers count from 0. A refused step changes nothing, nor does one that runs out of memory.
 #[derive(Drop)]
 pub struct Book {
     alloc: Global,
@@ -39,10 +40,10 @@ impl Model for Book {
 impl Book {
     /// A book of `jobs` jobs, each offered `tries` times, and of `seats` seats that drew nothing.
     ///
-    /// No jobs is allowed. 1,048,560 jobs are 16 scenarios of 65,535 origins.
+    /// No jobs is allowed.
     pub fn new(alloc: Global, jobs: u32, tries: u32, seats: u32) -> Result<Book, AllocError>
-        requires jobs { jobs ≤ 1048560 }
-        requires tries { tries ≤ 8 }
+        requires jobs { jobs ≤ MOST_JOBS }
+        requires tries { tries ≤ MOST_TRIES }
         ensures { IfOk result (λ book. book ≡ new_book jobs tries seats) }
     {
         let marks = open_marks(alloc, jobs)?;
@@ -154,7 +155,8 @@ impl Book {
         Answer::Lost
     }
 
-    /// Makes the steps in order. After want of memory the book is as it was before the first.
+    /// A door for other programs, and what the laws speak of: makes the steps in order. Out of memory, the book is as
+    /// it was before the first.
     pub fn run(&mut self, steps: &[Step]) -> Result<Vec<Answer>, AllocError>
         ensures answers { IfOk result (λ answers. answers.items ≡ answers_of self.old steps.now) }
         ensures ok { OnOk result (self.new ≡ run_of self.old steps.now) }
@@ -191,7 +193,7 @@ impl Book {
         ensures there { result ≡ true → seat < length self.now.seats }
         ensures job { result ≡ true → 0 < self.now.jobs }
         ensures marks { length self.now.marks ≡ self.now.jobs }
-        ensures few { self.now.jobs ≤ 1048560 }
+        ensures few { self.now.jobs ≤ MOST_JOBS }
     {
         // A look at a field brings the invariant into the proof.
         let _ = &self.jobs;

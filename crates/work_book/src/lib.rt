@@ -1,5 +1,6 @@
-//! The book of work: which seat draws which job, and who keeps it.
-//! Jobs are numbered once for all seats, and the first seat that settles a job keeps it, whatever the others do.
+//! The book of work: which seat draws which job, and who keeps it; `workers` draw from it, and a `collector` takes
+//! their rows. Jobs are numbered once for all seats, and the first seat that settles a job keeps it, whatever the
+//! others do.
 //!
 //! - `Book` is the whole state, and one call is one step: `draw`, `look`, `settle`, `lose`.
 //! - `Step` and `Answer` are the same steps as data, and `Book::run` makes a list of them.
@@ -7,6 +8,7 @@
 //! - `Board` is a book that threads share, each with a `WorkSeat` of its own; `Closed` is what is left of it at the end.
 //! - `closed_boards_are_runs` says that it then tells what some list of steps of a `Book` tells.
 //!
+//! - `limits`: how many jobs there may be, and how often each is offered.
 //! - `lease` is what a seat draws; `steps` and `seat` are the book's; `shared`, `rule` and `moves` are the board's: its types, what holds
 //!   of its words between any two steps, and the kinds of its steps.
 //!
@@ -18,6 +20,7 @@ mod board;
 mod book;
 mod laws;
 mod lease;
+mod limits;
 mod moves;
 mod rule;
 mod seat;
@@ -27,6 +30,7 @@ mod steps;
 pub use book::Book;
 pub use laws::{closed_boards_are_runs, runs_are_fair};
 pub use lease::{Lease, Settled};
+pub use limits::{MOST_JOBS, MOST_TRIES, limits_are_as_stated};
 pub use rule::{Extent, Numbers, View};
 pub use shared::{Board, Closed, Draw, WorkSeat};
 pub use steps::{Answer, Step};

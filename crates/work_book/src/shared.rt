@@ -2,6 +2,7 @@
 //! those contracts name these types.
 ghost use Rattle.std.specs.Prelude.{◌≡◌, ◌+◌, ◌*◌, ◌≤◌, []};
 ghost use Rattle.std.specs.Slots.{slots_len, IsFull};
+ghost use Rattle.work_book.specs.declared.limits.TheConstants.{MOST_JOBS, MOST_TRIES};
 
 use crate::lease::Lease;
 use crate::rule::{Extent, Numbers, View};
@@ -27,7 +28,7 @@ pub struct Board {
     pub(crate) tries: u32,
     ghost key: { (table.shared.key.jobs ≡ jobs) × (table.shared.key.tries ≡ tries) },
     ghost sized: { (table.shared.table_id.words ≡ jobs + 1) × (table.shared.table_id.slots ≡ 0) },
-    ghost few: { (jobs ≤ 1048560) × (tries ≤ 8) },
+    ghost few: { (jobs ≤ MOST_JOBS) × (tries ≤ MOST_TRIES) },
 }
 
 /// A token with which one thread draws, looks and settles. It has no place in memory that another thread sees.
@@ -49,7 +50,7 @@ pub struct Closed {
     ghost full: { IsFull words.words },
     ghost wide: { slots_len words.words ≡ jobs + 1 },
     ghost none: { slots_len words.slots ≡ 0 },
-    ghost few: { (jobs ≤ 1048560) × (tries ≤ 8) },
+    ghost few: { (jobs ≤ MOST_JOBS) × (tries ≤ MOST_TRIES) },
 }
 
 impl Drop for Closed {

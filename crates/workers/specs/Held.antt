@@ -68,14 +68,14 @@ abbrev pub IsDone : Decides → Lease → View → Type 0
 IsDone decides lease v = (knows v lease.job ≡ true) ⊎ decides lease Lose
 
 -- why a worker ended: all numbers are drawn, and nothing is left to do with those that it drew; or the gate decided that the
--- worker vanishes at a lease that it drew; or it found no memory, before it was told so
+-- worker vanishes at a lease that it drew; or it ran out of memory, before it was told so
 abbrev pub HasEnded : Decides → Board → View → Ending → Type 0
 HasEnded decides board v ending.Nothing = (v.told ≡ true) × All (λ number. IsDone decides (lease_among board.jobs number) v) v.drawn
 HasEnded decides board v ending.Vanished = (lease : Lease) × HasDrawn v lease × decides lease Vanish
 HasEnded decides board v ending.Short = v.told ≡ false
 
 -- what a worker does after a lease: it draws another where nothing is left to do; else the gate decided that it vanishes, or it
--- found no memory
+-- ran out of memory
 abbrev pub LeavesAs : Decides → Lease → View → Next → Type 0
 LeavesAs decides lease v next.Draw = IsDone decides lease v
 LeavesAs decides lease v (next.End ending.Nothing) = ⊥

@@ -36,7 +36,7 @@ abbrev pub joined : View → List Worked → View
 joined v [] = v
 joined v (w ∷ worked) = joined (stepped (merged v (seen_by w.seat))) worked
 
--- the worker found no memory
+-- the worker ran out of memory
 abbrev pub is_short : Ending → Bool
 is_short ending.Nothing = false
 is_short ending.Vanished = false
@@ -45,8 +45,8 @@ is_short ending.Short = true
 abbrev pub is_some_short : List Worked → Bool
 is_some_short worked = list_any (λ w. is_short w.ending) worked
 
--- why workers that were started left a place empty: one of them found no memory; or none was started; or else the named place is
--- the first one without a row
+-- why workers that were started left a place empty: one of them ran out of memory; or none was started; or else the
+-- named place is the first one without a row
 abbrev pub IsWhy : StudyData → View → List Worked → RunFault → Type 0
 IsWhy s v worked Memory = is_some_short worked ≡ true
 IsWhy s v worked Spawn = (0 < jobs_of s) × (worked ≡ [])
@@ -60,7 +60,7 @@ pub record IsLeft (s : StudyData) (decides : Decides) (was_told : WasTold) (boar
   pub view_is : v ≡ joined (without workers start) worked
   pub why : IsWhy s v worked fault
 
--- why a run of workers gave no matrix: memory was wanted before the start, and nothing was drawn; or what its workers left
+-- why a run of workers gave no matrix: memory ran out before the start, and nothing was drawn; or what its workers left
 abbrev pub IsFaultOf : StudyData → Decides → WasTold → Board → ℕ → View → View → RunFault → Type 0
 IsFaultOf s decides was_told board workers start v fault =
     ((fault ≡ Memory) × (v.drawn ≡ start.drawn) × (v.kept ≡ start.kept)) ⊎ IsLeft s decides was_told board workers start v fault
@@ -73,6 +73,6 @@ pub record IsFaultOnBoard (s : StudyData) (decides : Decides) (was_told : WasTol
   pub view : View
   pub why : IsFaultOf s decides was_told board workers (first_view (jobs_of s * tries)) view fault
 
--- ... or there was no memory for the board
+-- ... or memory ran out for the board
 abbrev pub IsFaultOfNew : StudyData → Decides → WasTold → ℕ → ℕ → RunFault → Type 0
 IsFaultOfNew s decides was_told workers tries fault = (fault ≡ Memory) ⊎ IsFaultOnBoard s decides was_told workers tries fault

@@ -6,7 +6,7 @@ use thiserror::Error;
 #[derive(Clone, Copy, Debug, PartialEq, Eq, Error)]
 #[error("{}", self.words())]
 pub enum RunFault {
-    /// A growth of memory was refused.
+    /// Out of memory.
     Memory,
     /// No worker could be started.
     Spawn,

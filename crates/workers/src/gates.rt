@@ -10,7 +10,7 @@ pub enum Verdict {
     Work,
     /// It is lost: nothing is done, and the worker goes on to the next draw.
     Lose,
-    /// The worker ends; the rows that it holds so far are handed over.
+    /// The worker ends; the rows that it holds so far are offered.
     Vanish,
     /// Its row is computed and settled twice.
     Repeat,

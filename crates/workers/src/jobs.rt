@@ -1,4 +1,4 @@
-//! Jobs, one per scenario and origin: drawn, computed, settled and handed over, one after another.
+//! Jobs, one per scenario and origin: drawn, computed, settled, and their rows offered, one after another.
 ghost use Rattle.std.specs.Prelude.{◌≡◌, ◌+◌, ◌<◌, ◌≤◌, ◌*◌, true, false, length, IfOk, IfErr, OnOk, OnErr};
 ghost use Rattle.workers.specs.Study.{study_of, StudyFits};
 ghost use Rattle.workers.specs.Matrices.{IsMatrix, HasShape};
@@ -12,9 +12,10 @@ use rounds::Search;
 use std::alloc::{AllocError, Global};
 use work_book::{Answer, Book};
 
-/// The matrix of a study that fits, computed by the calling thread alone.
+/// The matrix of a study that fits, by the calling thread alone: the plain form that
+/// [`run_workers`](crate::run_workers) is proved against.
 ///
-/// `Memory` is the only refusal that comes.
+/// `Memory` is the only error that comes.
 pub fn one_thread(alloc: Global, study: &Study) -> Result<Matrix, RunFault>
     requires { StudyFits (study_of study.now) }
     ensures matrix { IfOk result (λ matrix. IsMatrix (study_of study.now) matrix) }

@@ -1,9 +1,9 @@
-//! A study's rows, and the matrix that they make.
-//! A study asks for one row per scenario and origin; each row depends on its own scenario's network alone.
+//! A study's rows, and the matrix that they make: threads draw jobs from a `work_book`, and a `collector` takes their
+//! rows. A study asks for one row per scenario and origin; each row depends on its own scenario's network alone.
 //!
 //! - `study`: [`Study`], what is asked for, and [`Asked`], what of it is asked of every network.
 //! - `rows`: [`row_of`], the row of one scenario and origin.
-//! - `jobs`: [`one_thread`], the matrix, row after row.
+//! - `jobs`: [`one_thread`], the matrix, row after row: the plain form of `run`.
 //! - `run`: [`run_workers`], the same matrix, by workers in threads of their own that share a board of jobs.
 //! - `worker`, `promise`, `threads`: what one worker does, what it promises of its rows, and how workers start and end.
 //! - `gates`: [`Gate`], which decides what becomes of a worker's lease, and [`Open`], which lets each be worked at.

@@ -13,7 +13,7 @@ use std::alloc::{AllocError, Global};
 /// The row of a scenario and an origin, by their positions from 0: for each share the travel time to each destination that so
 /// many of the window's minutes attain, and for each limit the opportunities at the stops within reach, of all stops.
 ///
-/// Want of memory is the only refusal.
+/// The only error is out of memory.
 pub fn row_of(alloc: Global, study: &Study, scenario: u32, origin: u32) -> Result<Row, AllocError>
     requires fits { StudyFits (study_of study.now) }
     requires scenario { scenario < length study.now.networks.now }

@@ -32,8 +32,8 @@ use work_book::{Board, WorkSeat};
 /// has a share above the number of workers. The gate decides what becomes of each lease. The matrix is the study's,
 /// whatever the gate decides and whatever the threads' order is; then the seat has kept each job, once.
 ///
-/// `Spawn` is told where no worker could be started, and a place is empty; `Memory`, where memory is wanted before the
-/// start, or by a worker, and a place is empty; else `Unfinished` names the first empty place. A worker whose start is
+/// `Spawn` is told where no worker could be started, and a place is empty; `Memory`, where memory ran out before the
+/// start, or for a worker, and a place is empty; else `Unfinished` names the first empty place. A worker whose start is
 /// refused is left out, and the others go on.
 pub fn run_workers<G: Gate + Sync, R: Threads + Wait + Sync>(
     rt: &R,
@@ -93,7 +93,7 @@ fn split_all(
     Ok(seats)
 }
 
-/// Takes in the workers' seats, and offers each of their rows once. True where a worker found no memory.
+/// Takes in the workers' seats, and offers each of their rows once. True where a worker ran out of memory.
 fn gather(
     board: &Board,
     seat: &mut WorkSeat,
@@ -124,7 +124,7 @@ fn gather(
     short
 }
 
-/// Whether a worker found no memory, or one before it.
+/// Whether a worker ran out of memory, or one before it.
 fn is_short_too(short: bool, ending: Ending) -> bool
     ensures { result ≡ (short || is_short ending) }
 {

@@ -16,7 +16,7 @@ use std::thread::{PromisedHandle, Threads};
 use timetable::{Network, StopNo};
 use work_book::{Board, WorkSeat};
 
-/// Runs a worker with each seat, all of them at once. One whose start is refused is left out, and its seat let go.
+/// Runs a worker with each seat, all of them at once. One whose start is refused is left out, and its seat dropped.
 pub(crate) fn run_all<G: Gate + Sync, R: Threads + Wait + Sync>(
     rt: &R,
     alloc: Global,

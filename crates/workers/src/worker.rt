@@ -33,7 +33,7 @@ pub(crate) enum Ending {
     Nothing,
     /// The gate let it vanish.
     Vanished,
-    /// It found no memory, and left its lease unsettled.
+    /// It ran out of memory, and left its lease unsettled.
     Short,
 }
 

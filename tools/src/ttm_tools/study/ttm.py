@@ -22,6 +22,11 @@ from .stages import settle
 
 DIES = 1  # PR_SET_PDEATHSIG of Linux
 FACT = re.compile(r"ttm: (?P<name>[^:]+(?:: [^:]+)?): (?P<value>[0-9]+)")
+# what a report tells ahead of a fault: a fact by its number or its dates, or a warning
+AHEAD = re.compile(
+    r"ttm: (?:warning: .*|(?!scenario name: )[^:\"]+(?:: [^:\"]+)?: [0-9].*"
+    r"|[^:]+ calendars: none|nearest date [^:]+: none.*)"
+)
 OF_THE_MACHINE = ("bytes that the machine has free", "rows done", "time", "bytes taken at most")
 
 
@@ -73,11 +78,12 @@ def report_of(run: Run, program: str | None = None) -> Report:
 
 
 def fault_of(told: bytes, status: int) -> str:
-    """The line that tells why a run ended, behind those of its report."""
+    """The line that tells why a run ended, with those that explain it, behind those of its report."""
     lines = [line for line in told.decode("utf-8", "replace").splitlines() if line]
     if not lines:
         return f"ttm ended with status {status} and said nothing"
-    return one_line("; ".join(lines[-2:]) if lines[-1].startswith("ttm: column ") else lines[-1])
+    ahead = max((place for place, line in enumerate(lines, 1) if AHEAD.fullmatch(line)), default=0)
+    return one_line("; ".join(lines[ahead:] or lines[-1:]))
 
 
 def aside_of(path: Path) -> Path:

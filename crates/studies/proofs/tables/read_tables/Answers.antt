@@ -1,76 +1,93 @@
-use Rattle.std.proofs.Common.{◌++◌}
+use Rattle.std.proofs.Common.{◌++◌, subst, sym}
 use Rattle.footpaths.specs.Walks.{direct_faults}
 use Rattle.gtfs_tables.specs.Opportunities.{opportunities_faults}
 use Rattle.gtfs_tables.specs.Origins.{origins_faults}
+use Rattle.studies.specs.declared.fault.StudyFault.{StudyFault}
+use Rattle.studies.specs.declared.fault.StudyFault.TheVariants as fault
+use Rattle.studies.specs.declared.parts.Tables.{Tables}
 use Rattle.studies.specs.Inputs.{inputs_of}
+use Rattle.studies.specs.Stages.{AreTables, TellsTables}
 use Rattle.studies.proofs.FewOrigins.{few_origins}
 use Rattle.studies.proofs.Firsts.{none_of_both, tells_left, tells_right}
+use Rattle.studies.proofs.StudyFacts.{err_by}
 use Rattle.studies.proofs.tables.read_tables.Goals as goal
 
 pub direct-requires : goal.direct-requires
 direct-requires c = c.requires.footpaths
 
-pub returns-in-Err-clause-fault : goal.returns-in-Err-clause-fault
-returns-in-Err-clause-fault c =
+pub returns-in_err-direct-clause-fault : goal.returns-in_err-direct-clause-fault
+returns-in_err-direct-clause-fault c =
     let i = inputs_of c.args.inputs.now in
     let feed = c.args.feed.now in
-    tells_left c.in-Err.fault (direct_faults feed i.footpaths) (origins_faults i.origins feed ++ opportunities_faults i.opportunities feed) c.in-Err.ensures.fault
+    let e = c.in_err-direct.field-0.0 in
+    err_by (λ (e : StudyFault). TellsTables e i feed) c.from_residual.result (fault.Feed e) c.from_residual.ensures.1
+    (tells_left e (direct_faults feed i.footpaths) (origins_faults i.origins feed ++ opportunities_faults i.opportunities feed) c.in_err-direct.ensures.fault)
 
 pub read_origins-requires : goal.read_origins-requires
 read_origins-requires c = c.requires.origins
 
-pub returns-in-Err-read_origins-clause-fault : goal.returns-in-Err-read_origins-clause-fault
-returns-in-Err-read_origins-clause-fault c =
+pub returns-in_err-origins-clause-fault : goal.returns-in_err-origins-clause-fault
+returns-in_err-origins-clause-fault c =
     let i = inputs_of c.args.inputs.now in
     let feed = c.args.feed.now in
-    tells_right c.in-Err-read_origins.fault (direct_faults feed i.footpaths) (origins_faults i.origins feed ++ opportunities_faults i.opportunities feed) c.in-Ok.ensures.good.0
-    (tells_left c.in-Err-read_origins.fault (origins_faults i.origins feed) (opportunities_faults i.opportunities feed) c.in-Err-read_origins.ensures.fault)
+    let e = c.in_err-origins.field-0.0 in
+    err_by (λ (e : StudyFault). TellsTables e i feed) c.from_residual-in_err-origins.result (fault.Feed e) c.from_residual-in_err-origins.ensures.1
+    (tells_right e (direct_faults feed i.footpaths) (origins_faults i.origins feed ++ opportunities_faults i.opportunities feed) c.in_ok-direct.ensures.good.0
+    (tells_left e (origins_faults i.origins feed) (opportunities_faults i.opportunities feed) c.in_err-origins.ensures.fault))
 
 pub read_opportunities-requires : goal.read_opportunities-requires
 read_opportunities-requires c = c.requires.opportunities
 
-pub returns-in-Err-read_opportunities-clause-fault : goal.returns-in-Err-read_opportunities-clause-fault
-returns-in-Err-read_opportunities-clause-fault c =
+pub returns-in_err-opportunities-clause-fault : goal.returns-in_err-opportunities-clause-fault
+returns-in_err-opportunities-clause-fault c =
     let i = inputs_of c.args.inputs.now in
     let feed = c.args.feed.now in
-    tells_right c.in-Err-read_opportunities.fault (direct_faults feed i.footpaths) (origins_faults i.origins feed ++ opportunities_faults i.opportunities feed) c.in-Ok.ensures.good.0
-    (tells_right c.in-Err-read_opportunities.fault (origins_faults i.origins feed) (opportunities_faults i.opportunities feed) c.in-Ok-read_origins.ensures.good.0
-    c.in-Err-read_opportunities.ensures.fault)
+    let e = c.in_err-opportunities.field-0.0 in
+    err_by (λ (e : StudyFault). TellsTables e i feed) c.from_residual-in_err-opportunities.result (fault.Feed e) c.from_residual-in_err-opportunities.ensures.1
+    (tells_right e (direct_faults feed i.footpaths) (origins_faults i.origins feed ++ opportunities_faults i.opportunities feed) c.in_ok-direct.ensures.good.0
+    (tells_right e (origins_faults i.origins feed) (opportunities_faults i.opportunities feed) c.in_ok-origins.ensures.good.0 c.in_err-opportunities.ensures.fault))
+
+pub read_origins-requires-2 : goal.read_origins-requires-2
+read_origins-requires-2 c = c.requires.destinations
+
+pub returns-in-Err-clause-fault : goal.returns-in-Err-clause-fault
+returns-in-Err-clause-fault c =
+    let i = inputs_of c.args.inputs.now in
+    let feed = c.args.feed.now in (
+      none_of_both (direct_faults feed i.footpaths) (origins_faults i.origins feed ++ opportunities_faults i.opportunities feed) c.in_ok-direct.ensures.good.0
+          (none_of_both (origins_faults i.origins feed) (opportunities_faults i.opportunities feed) c.in_ok-origins.ensures.good.0 c.in_ok-opportunities.ensures.good.0),
+      c.in-Err.ensures.fault,
+    )
 
 pub returns-clause-good : goal.returns-clause-good
 returns-clause-good c =
     let i = inputs_of c.args.inputs.now in
     let feed = c.args.feed.now in
-    none_of_both (direct_faults feed i.footpaths) (origins_faults i.origins feed ++ opportunities_faults i.opportunities feed) c.in-Ok.ensures.good.0
-    (none_of_both (origins_faults i.origins feed) (opportunities_faults i.opportunities feed) c.in-Ok-read_origins.ensures.good.0 c.in-Ok-read_opportunities.ensures.good.0)
+    none_of_both (direct_faults feed i.footpaths) (origins_faults i.origins feed ++ opportunities_faults i.opportunities feed) c.in_ok-direct.ensures.good.0
+    (none_of_both (origins_faults i.origins feed) (opportunities_faults i.opportunities feed) c.in_ok-origins.ensures.good.0 c.in_ok-opportunities.ensures.good.0)
+
+pub returns-clause-named : goal.returns-clause-named
+returns-clause-named c = c.in-Ok.ensures.good.0
 
 pub returns-clause-tables : goal.returns-clause-tables
 returns-clause-tables c =
     let i = inputs_of c.args.inputs.now in
     let feed = c.args.feed.now in
-    record {
-      direct_is = c.in-Ok.ensures.good.1;
-      origins_are = c.in-Ok-read_origins.ensures.good.1;
-      opportunities_are = c.in-Ok-read_opportunities.ensures.good.1;
-      in_range = c.in-Ok-read_origins.ensures.stops;
-      few_origins = few_origins i.origins feed c.in-Ok-read_origins.origins.items c.in-Ok-read_origins.ensures.good.0 c.in-Ok-read_origins.ensures.good.1;
-      count = c.in-Ok-read_opportunities.ensures.stops;
-      destinations_are = c.in-Ok-read_origins-2.ensures.good.1;
-      destinations_in_range = c.in-Ok-read_origins-2.ensures.stops;
-      few_destinations = few_origins i.destinations feed c.in-Ok-read_origins-2.destinations.items c.in-Ok-read_origins-2.ensures.good.0 c.in-Ok-read_origins-2.ensures.good.1;
-    }
-
-pub read_origins-requires-2 : goal.read_origins-requires-2
-read_origins-requires-2 c = c.requires.destinations
-
-pub returns-in-Err-read_origins-2-clause-fault : goal.returns-in-Err-read_origins-2-clause-fault
-returns-in-Err-read_origins-2-clause-fault c =
-    let i = inputs_of c.args.inputs.now in
-    let feed = c.args.feed.now in (
-      none_of_both (direct_faults feed i.footpaths) (origins_faults i.origins feed ++ opportunities_faults i.opportunities feed) c.in-Ok.ensures.good.0
-          (none_of_both (origins_faults i.origins feed) (opportunities_faults i.opportunities feed) c.in-Ok-read_origins.ensures.good.0 c.in-Ok-read_opportunities.ensures.good.0),
-      c.in-Err-read_origins-2.ensures.fault,
-    )
-
-pub returns-clause-named : goal.returns-clause-named
-returns-clause-named c = c.in-Ok-read_origins-2.ensures.good.0
+    let made : Tables = record {
+      direct = c.in_ok-direct.direct;
+      origins = c.in_ok-origins.origins;
+      opportunities = c.in_ok-opportunities.opportunities;
+      destinations = c.in-Ok.destinations;
+    } in
+    let are : AreTables i feed made = record {
+      direct_is = c.in_ok-direct.ensures.good.1;
+      origins_are = c.in_ok-origins.ensures.good.1;
+      opportunities_are = c.in_ok-opportunities.ensures.good.1;
+      in_range = c.in_ok-origins.ensures.stops;
+      few_origins = few_origins i.origins feed c.in_ok-origins.origins.items c.in_ok-origins.ensures.good.0 c.in_ok-origins.ensures.good.1;
+      count = c.in_ok-opportunities.ensures.stops;
+      destinations_are = c.in-Ok.ensures.good.1;
+      destinations_in_range = c.in-Ok.ensures.stops;
+      few_destinations = few_origins i.destinations feed c.in-Ok.destinations.items c.in-Ok.ensures.good.0 c.in-Ok.ensures.good.1;
+    } in
+    subst (λ (t : Tables). AreTables i feed t) (sym c.in_ok-boxed.ensures) are

@@ -4,20 +4,12 @@ use Rattle.trip_lanes.specs.Columns.{departs}
 use Rattle.trip_lanes.specs.Riders.{RidesBy, Catches}
 use Rattle.trip_lanes.proofs.line_scan.board_place.Goals as goal
 
-pub returns-clause-sound : goal.returns-clause-sound
-returns-clause-sound c l r h on = c.board_ranks-boarded.ensures.sound l r h (c.trim.ensures.sound l r h on)
-
-pub returns-clause-kept : goal.returns-clause-kept
-returns-clause-kept c l r h on =
-    let o = c.board_ranks-boarded.ensures.kept l r h on in
-    (o.0, o.1, c.trim.ensures.kept l o.0 h o.2)
-
 pub returns-clause-caught : goal.returns-clause-caught
 returns-clause-caught c l r h up fall below catches =
     let lower : slice_index c.args.at.ready l < slice_index c.args.at.before l = omega (arith, catches.in_time, catches.fresh) in
-    let aboard : (q : ℕ) → c.args.first ≤ q → q < c.end_of-end.result → q ≤ r → Catches (slice_index c.args.at.before l) (slice_index c.args.at.ready l) (departs c.args.column q) → RidesBy c.board_ranks-boarded.new.aboard c.trim.result l r = λ q low lt le k.
-    let o = c.board_ranks-boarded.ensures.caught l q h low lt k in
-    (o.0, omega (arith, o.1), c.trim.ensures.kept l o.0 h o.2) in
+    let aboard : (q : ℕ) → c.args.first ≤ q → q < c.end_of-end.result → q ≤ r → Catches (slice_index c.args.at.before l) (slice_index c.args.at.ready l) (departs c.args.column q) → RidesBy c.board_ranks.new.aboard c.board_ranks.result l r = λ q low lt le k.
+    let o = c.board_ranks.ensures.caught l q h low lt k in
+    (o.0, omega (arith, o.1), o.2) in
     elim (cases_lt r c.args.first) [
       | inl early ↦ absurd (let e = c.requires.early up r early in let low = fall.low lower in omega (arith, catches.in_time))
       | inr from ↦ elim (cases_lt r c.end_of-end.result) [

@@ -1,0 +1,24 @@
+//! What takes long to drop, in boxes: a box is dropped in one step, whatever is in it.
+ghost use Rattle.std.specs.Prelude.{◌≡◌, [], IfErr, IfOk};
+ghost use Rattle.table_records.specs.Faults.{Tells};
+ghost use Rattle.gtfs_tables.specs.Files as files;
+
+use gtfs_tables::{Feed, FeedBytes, FeedFault, read_feed};
+use std::alloc::{AllocError, Global};
+
+/// The value in a box.
+pub(crate) fn boxed<T: Drop>(alloc: Global, value: T) -> Result<Box<T>, AllocError>
+    ensures { IfOk result (λ b. b.value ≡ value) }
+{
+    Ok(Box::new(alloc, value)?)
+}
+
+/// What the files of a feed state, or the first fault among them.
+pub(crate) fn feed_from(alloc: Global, bytes: &FeedBytes<'_>) -> Result<Box<Feed>, FeedFault>
+    requires { files.AreWithinLimit (files.files_of bytes.now) }
+    ensures good { IfOk result (λ _. files.feed_faults (files.files_of bytes.now) ≡ []) }
+    ensures feed { IfOk result (λ feed. feed.value ≡ files.feed_of (files.files_of bytes.now)) }
+    ensures fault { IfErr result (λ e. Tells e (files.feed_faults (files.files_of bytes.now))) }
+{
+    Ok(boxed(alloc, read_feed(alloc, bytes)?)?)
+}
