@@ -152,6 +152,7 @@ fn each_lane_takes_the_first_trip_of_a_line(rt: HostRuntime) -> Result<(), Fail>
         calls: &calls,
         times: &times,
         trips: 3,
+        base: 0,
     };
     let before = [UNREACHED, UNREACHED, UNREACHED];
     let ready = [two(100, 201), UNREACHED, two(NEVER, 215)];
@@ -162,10 +163,9 @@ fn each_lane_takes_the_first_trip_of_a_line(rt: HostRuntime) -> Result<(), Fail>
         before: &before,
         ready: &ready,
     };
-    let mut aboard = [UNREACHED; 3];
     let mut ride = [UNREACHED; 3];
     let mut marked = [false; 3];
-    scan_line(line, 0, labels, &mut aboard, &mut ride, &mut marked);
+    scan_line(line, 0, labels, &mut ride, &mut marked);
     assert!(rt; ride[0] == UNREACHED && ride[1] == two(110, 310) && ride[2] == two(120, 320));
     assert!(rt; !marked[0] && marked[1] && marked[2]);
     Ok(())

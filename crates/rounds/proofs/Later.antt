@@ -1,41 +1,10 @@
 -- Who leaves later arrives no earlier.
-use Rattle.std.proofs.Common.{◌≡◌, ◌≢◌, ℕ, ◌+◌, ◌<◌, ◌≤◌, ◌⊎◌, inl, inr, List, [], ◌∷◌, length, slice_index, slice_get, Some, refl, sym, ◌∙◌, ap, arith, subst}
-use Rattle.timetable.specs.declared.trips.Event.{Event}
-use Rattle.timetable.specs.declared.trips.Trip.{Trip}
+use Rattle.std.proofs.Common.{◌≡◌, ◌≢◌, ℕ, ◌+◌, ◌<◌, ◌≤◌, List, [], ◌∷◌, length, slice_index, refl, sym, ◌∙◌, ap, arith}
 use Rattle.timetable.specs.declared.least.TheConstants.{NEVER}
-use Rattle.timetable.specs.Networks.{Net, IsNet}
-use Rattle.timetable.specs.Footpaths.{IsFoot}
-use Rattle.timetable.specs.Steps.{Lowers}
-use Rattle.timetable.specs.Journeys.{Whereabouts, Leg, Ride, Walk, Rides, Walks, Journey, EndsInNoWalk, ready_at, rides}
+use Rattle.timetable.specs.Networks.{Net}
+use Rattle.timetable.specs.Journeys.{Whereabouts, Leg, Ride, Walk, Journey, ready_at}
 use Rattle.rounds.specs.Minutes.{IsRidden, IsReady, IsTable}
-use Rattle.rounds.specs.State.{AreMet, NoneEarlier}
-
--- labels that are met, and that nobody beats, are a table
-pub table_of : {R : ℕ → ℕ → Type 0} (labels : List ℕ) → AreMet R labels → NoneEarlier R labels → IsTable R labels
-table_of {R} labels met none =
-    record {
-      found = λ p l reached.
-          let m = met.met p l reached in
-          let low = none p m.0 l m.1 in
-          let e : m.0 ≡ slice_index labels p = omega (arith, m.2) in
-          subst (R p) e m.1;
-      least = none;
-    }
-
-pub table_met : {R : ℕ → ℕ → Type 0} (labels : List ℕ) → IsTable R labels → AreMet R labels
-table_met labels h = record { met = λ p l reached. (slice_index labels p, h.found p l reached, omega arith) }
-
--- the lower of two labels that are met
-pub met_both : {R : ℕ → ℕ → Type 0} (a b low : List ℕ) → length b ≡ length a → AreMet R a → AreMet R b → Lowers (λ p x. x ≡ slice_index b p) a low → AreMet R low
-met_both {R} a b low same by_a by_b h =
-    record {
-      met = λ p l reached.
-          let m : p < length a = omega (arith, h.same_length) in
-          elim (h.label p m).holds [
-            | inl e ↦ let f = by_a.met p m (λ z. reached (e ∙ z)) in (f.0, f.1, omega (arith, f.2))
-            | inr e ↦ let f = by_b.met p (omega (arith, same)) (λ z. reached (e ∙ z)) in (f.0, f.1, omega (arith, f.2))
-          ];
-    }
+use Rattle.rounds.specs.State.{AreMet}
 
 module _ (n : Net) (o later : Whereabouts) (here : o.stop ≡ later.stop) (sooner : o.time ≤ later.time) where
   -- who was led somewhere earlier by the same legs is ready there no later

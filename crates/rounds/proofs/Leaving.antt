@@ -1,8 +1,7 @@
 -- Trips that a round may leave out.
-use Rattle.std.proofs.Common.{◌≡◌, ℕ, ◌<◌, ◌≤◌, ◌∙◌, inl, inr, List, length, slice_index, slice_get, get_or, Some, IsTrue, refl, sym, ap, subst, arith}
+use Rattle.std.proofs.Common.{◌≡◌, ◌∙◌, inl, inr, slice_index, slice_get, get_or, Some, IsTrue, refl, sym, subst, arith}
 use Rattle.std.proofs.lemmas.Bool.{cases_lt}
 use Rattle.std.proofs.lemmas.Option.{slice_get_within, slice_get-get_or}
-use Rattle.timetable.specs.declared.trips.Event.{Event}
 use Rattle.timetable.specs.Networks.{IsEvent}
 use Rattle.timetable.specs.Journeys.{IsRide}
 use Rattle.timetable.proofs.Known.{event_axis}

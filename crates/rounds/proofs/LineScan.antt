@@ -1,10 +1,9 @@
--- The lines of a network, one after another, in one lane of sixteen.
-use Rattle.std.proofs.Common.{◌≡◌, ℕ, ◌+◌, ◌<◌, ◌≤◌, ◌⊎◌, inl, inr, List, length, get_or, slice_index, slice_get, Some, sym, ◌∙◌, ap, arith, subst}
+-- The lines of a network, one after another, in one lane.
+use Rattle.std.proofs.Common.{◌≡◌, ℕ, ◌+◌, ◌<◌, ◌≤◌, inl, inr, List, length, slice_index, slice_get, Some, sym, ◌∙◌, arith, subst}
 use Rattle.std.proofs.lemmas.Bool.{cases_lt}
-use Rattle.std.proofs.lemmas.Option.{same_Some, slice_get_within}
+use Rattle.std.proofs.lemmas.Option.{same_Some}
 use Rattle.timetable.specs.declared.trips.Trip.{Trip}
 use Rattle.timetable.specs.Steps.{Lowers, CarriesAny}
-use Rattle.timetable.specs.Lines.{AreLinesOf, LineTable}
 use Rattle.timetable.proofs.Lowering.{lowers_alike, lowers_both, lowers_none}
 use Rattle.trip_lanes.specs.Scan.{NothingLower}
 use Rattle.rounds.specs.Scan.{CarriesLine}
@@ -39,22 +38,6 @@ one_line ready trips lines x line at_x h k =
 -- the trips of a line are trips
 pub any_of_line : {ready : List ℕ} {trips : List Trip} {line : List ℕ} {p end : ℕ} → CarriesLine ready trips line p end → CarriesAny ready trips p end
 any_of_line c = record { trip = c.rank.trip; t = c.t; runs = c.rank.runs; carries = c.carries }
-
--- each trip stands in a line
-pub all_lines : (ready : List ℕ) (trips : List Trip) (stops : ℕ) (lists : LineTable) (x : ℕ) {old new : List ℕ} → AreLinesOf stops trips lists → length lists.lines ≤ x → Lowers (CarriesBelow ready trips lists.lines x) old new → Lowers (CarriesAny ready trips) old new
-all_lines ready trips stops lists x are all h =
-    lowers_alike
-    (λ p y. λ c. any_of_line c.carries)
-    (λ p y. λ c.
-    let w = are.lines.all c.trip (slice_get_within trips c.trip c.t c.runs) in
-    record {
-      i = w.0;
-      line = w.1.0;
-      at = w.1.2;
-      below = let k = slice_get_within lists.lines w.0 w.1.0 w.1.2 in omega arith;
-      carries = record { r = w.1.1; t = c.t; rank = record { trip = c.trip; here = w.1.3; runs = c.runs }; carries = c.carries };
-    })
-    h
 
 -- what all trips had nothing lower to offer to, a line has not
 pub line_settled : (before : List ℕ) (trips : List Trip) (line old now : List ℕ) → length now ≡ length old → ((p : ℕ) → slice_index now p ≤ slice_index old p) → NothingLower (CarriesAny before trips) old → NothingLower (CarriesLine before trips line) now

@@ -8,33 +8,21 @@ use Rattle.timetable.specs.declared.views.Call.{Call}
 use Rattle.timetable.specs.declared.views.Times.{Times}
 use Rattle.timetable.specs.Journeys.{IsRide}
 use Rattle.timetable.specs.Lines.{Line, IsLine}
-use Rattle.timetable.specs.LineViews.{events_of, rows_of_line, IsAt as IsLineAt, IsViewOf as IsLineView}
+use Rattle.timetable.specs.LineViews.{events_of, rows_of_line, IsAt as IsLineAt}
 use Rattle.timetable.specs.Steps.{Lowers}
 use Rattle.timetable.proofs.Known.{all_at}
 use Rattle.timetable.proofs.Lowering.{lowers_alike}
 use Rattle.timetable.proofs.Viewing.{events_at, row_of}
 use Rattle.trip_lanes.specs.Scan.{NothingLower, FallsTo}
-use Rattle.trip_lanes.specs.Rows.{IsAt, IsViewOf, NoneOvertakes, CarriesRow, IsCaught, IsPast, NoneCaughtBefore}
+use Rattle.trip_lanes.specs.Rows.{IsAt, IsCutViewOf, NoneOvertakes, CarriesRow, IsCaught, IsPast, NoneCaughtBefore}
 use Rattle.trip_lanes.proofs.Lining.{at_place, carries_row, line_lowers}
 use Rattle.rounds.specs.Rank.{IsOfRank}
 use Rattle.rounds.specs.Scan.{CarriesLine}
 use Rattle.rounds.proofs.Ranked.{ahead}
 
-at_line : {rows : List (List Event)} {r j : ℕ} {e : Event} → IsAt rows r j e → IsLineAt rows r j e
+-- an event of the rows, as the timetable says it
+pub at_line : {rows : List (List Event)} {r j : ℕ} {e : Event} → IsAt rows r j e → IsLineAt rows r j e
 at_line a = record { row = a.row; trip = a.trip; event = a.event }
-
--- the view that the timetable keeps is the one that is scanned
-pub as_view : {rows : List (List Event)} {calls : List Call} {times : List Times} → IsLineView rows calls times → IsViewOf rows calls times
-as_view v =
-    record {
-      places = v.places;
-      size = v.size;
-      stop = λ r j e c a b. v.stop r j e c (at_line a) b;
-      board = λ r j e c a b. v.board r j e c (at_line a) b;
-      alight = λ r j e c a b. v.alight r j e c (at_line a) b;
-      arrival = λ r j e a. v.arrival r j e (at_line a);
-      departure = λ r j e a. v.departure r j e (at_line a);
-    }
 
 module _ (trips : List Trip) (line : Line) (is : IsLine trips line) where
   pub rows_long : length (rows_of_line trips line) ≡ length line
@@ -90,10 +78,10 @@ module _ (trips : List Trip) (line : Line) (is : IsLine trips line) where
       (line_lowers before ready (rows_of_line trips line) from (λ p x l c. settled p x l (line_of_row before p x c)) none falls past)
 
   -- the places of a line are at stops that there are
-  pub call_stops : (stops : ℕ) → All (λ (t : Trip). All (λ (e : Event). e.stop.0 < stops) t.events) trips → (calls : List Call) (times : List Times) → IsViewOf (rows_of_line trips line) calls times → All (λ (c : Call). c.stop.0 < stops) calls
-  call_stops stops within calls times view k d l =
+  pub call_stops : (base cap stops : ℕ) → All (λ (t : Trip). All (λ (e : Event). e.stop.0 < stops) t.events) trips → (calls : List Call) (times : List Times) → IsCutViewOf base cap (rows_of_line trips line) calls times → All (λ (c : Call). c.stop.0 < stops) calls
+  call_stops base cap stops within calls times view k d l =
       let long : 0 < length (rows_of_line trips line) = omega (arith, rows_long, is.some) in
-      let w = at_place (rows_of_line trips line) calls times view 0 k long l in
+      let w = at_place base cap (rows_of_line trips line) calls times view 0 k long l in
       let t = row_trip 0 w.1.row w.1.trip in
       let at_e : slice_get t.0.events k ≡ Some w.0 = ap (λ (v : List Event). slice_get v k) t.2 ∙ w.1.event in
       let inside = all_at (λ (t : Trip). All (λ (e : Event). e.stop.0 < stops) t.events) trips t.1.trip t.0 within t.1.runs in

@@ -7,3 +7,6 @@ pub mod Scan
 pub mod State
 pub mod Batches
 pub mod Query
+pub mod Cut
+pub mod Labels
+pub mod Last

@@ -1,5 +1,5 @@
 -- What is asked of a search, and the tables that it takes.
-use Rattle.std.specs.Prelude.{◌≡◌, ℕ, ◌<◌, ◌≤◌, length, All}
+use Rattle.std.specs.Prelude.{◌≡◌, ℕ, ◌<◌, ◌≤◌, length}
 use Rattle.timetable.specs.Lines.{LineTable, AreLinesOf}
 use Rattle.rounds.specs.declared.query.Query.{Query}
 use Rattle.rounds.specs.declared.tables.Tables.{Tables}
@@ -12,8 +12,8 @@ pub record IsAsked (q : Query) : Type 0 where
   pub rides : q.rides ≤ 8
   pub lines : AreLinesOf q.network.now.stops q.network.now.trips q.lines.now
 
--- the tables have a place for each stop and line, and for each trip of any line
-pub record AreTablesFor (stops : ℕ) (lines : LineTable) (t : Tables) : Type 0 where
+-- the tables have a place for each stop and line
+pub record AreTablesFor {R : Type 0} (stops : ℕ) (lines : LineTable) (t : Tables R) : Type 0 where
   pub ride : length t.ride.items ≡ stops
   pub ready : length t.ready.items ≡ stops
   pub before : length t.before.items ≡ stops
@@ -23,4 +23,3 @@ pub record AreTablesFor (stops : ℕ) (lines : LineTable) (t : Tables) : Type 0 
   pub bound_ride : length t.bound_ride.items ≡ stops
   pub bound_ready : length t.bound_ready.items ≡ stops
   pub due : length t.due.items ≡ length lines.lines
-  pub aboard : All (λ row. length row ≤ length t.aboard.items) lines.lines

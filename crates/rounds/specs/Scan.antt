@@ -13,7 +13,7 @@ pub record CarriesLine (ready : List ℕ) (trips : List Trip) (line : List ℕ) 
   pub carries : Carries ready t p end
 
 -- there are labels for each stop
-pub record AreSized (stops : ℕ) (labels : Labels) : Type 0 where
+pub record AreSized {R : Type 0} (stops : ℕ) (labels : Labels R) : Type 0 where
   pub falls : length labels.falls.now ≡ stops
   pub before : length labels.before.now ≡ stops
   pub ready : length labels.ready.now ≡ stops

@@ -1,13 +1,13 @@
-//! The minutes of a window, sixteen at a time and from the last to the first.
-ghost use Rattle.std.specs.Prelude.{◌≡◌, ◌≢◌, ℕ, ◌+◌, ◌*◌, ◌<◌, ◌≤◌, [], length, slice_index, slice_index_or, replicate};
-ghost use Rattle.timetable.specs.Least.{IsLeastOrNever};
-ghost use Rattle.timetable.specs.Journeys.{IsDuration};
+//! The minutes of a window, batch by batch and from the last to the first.
+ghost use Rattle.std.specs.Prelude.{◌≡◌, ◌≢◌, ℕ, ◌+◌, ◌-◌, ◌*◌, ◌/◌, ◌<◌, ◌≤◌, ◌⊎◌, ◌↔◌, IsTrue, [], length, slice_index, slice_index_or, replicate, All};
+ghost use Rattle.timetable.specs.declared.limits.TheConstants.{END_OF_AXIS, MOST_FOOT_SECONDS};
 ghost use Rattle.timetable.specs.declared.least.TheConstants.{NEVER as NEVER_VALUE};
-ghost use Rattle.trip_lanes.specs.Lane.{lane};
-ghost use Rattle.rounds.specs.Minutes.{IsSince};
-ghost use Rattle.rounds.specs.Window.{Fits, departure};
+ghost use Rattle.trip_lanes.specs.Lane.{lane, labels_in};
+ghost use Rattle.trip_lanes.specs.Since.{IsSinceTo};
+ghost use Rattle.rounds.specs.Batches.{AreLabels};
+ghost use Rattle.rounds.specs.declared.window.TheConstants.{MOST_MINUTES};
 ghost use Rattle.rounds.specs.State.{arrival};
-ghost use Rattle.rounds.specs.Batches.{IsDeparture};
+ghost use Rattle.rounds.specs.Last.{AreLast};
 ghost use Rattle.rounds.specs.Query.{IsAsked, AreTablesFor};
 ghost use Rattle.rounds.specs.Table.{batches_of, label_of};
 ghost use Rattle.trip_lanes.specs.declared.lanes.TheConstants.{LANES};
@@ -15,26 +15,25 @@ ghost use Rattle.trip_lanes.specs.declared.lanes.TheConstants.{LANES};
 use crate::bounded::{Batch, Kept, run_bounded};
 use crate::query::Query;
 use crate::tables::Tables;
-use crate::window::Window;
-use std::simd::prelude::*;
-use std::simd::u32x16;
-use timetable::NEVER;
-use trip_lanes::{LANES, Lanes, lower_of};
+use timetable::{END_OF_AXIS, NEVER};
+use trip_lanes::{LANES, Lanes, Row};
 
-/// The departures of a batch of a window.
-fn departs_of(window: Window, batch: u32) -> Lanes
-    requires fits { Fits window }
-    requires batch { batch < 90 }
-    ensures { (l : ℕ) → l < LANES → IsDeparture window batch l (slice_index result l) }
+/// From when on the labels of a batch count: a second before its first departure, so that no label is 0, and who is
+/// reached at all boards nothing that departed before. Labels that reach as far as times go count from 0.
+fn base_of<R: Row>(first: u32) -> u32
+    requires { first < END_OF_AXIS }
+    ensures within { result ≤ first }
+    ensures before { (result ≡ 0) ⊎ (result < first) }
+    ensures fits { result + R.NEVER ≤ NEVER_VALUE }
+    ensures near { first - result + 60 * R.LANES + MOST_FOOT_SECONDS < R.NEVER }
+    ensures short { R.NEVER + END_OF_AXIS < NEVER_VALUE → first ≤ result + 1 }
+    ensures long { NEVER_VALUE ≤ R.NEVER + END_OF_AXIS → result ≡ 0 }
 {
-    let mut departs = [NEVER; LANES];
-    for l in 0..LANES {
-        let minute = batch * LANES as u32 + l as u32;
-        if minute < window.minutes {
-            departs[l] = window.first + 60 * minute;
-        }
+    if R::NEVER < NEVER - END_OF_AXIS && 0 < first {
+        first - 1
+    } else {
+        0
     }
-    departs
 }
 
 /// Makes all bounds NEVER.
@@ -46,73 +45,134 @@ fn clear_kept(labels: &mut [Kept])
     }
 }
 
-/// Some labels, each counted from its departure.
-fn since(labels: Lanes, departs: Lanes) -> Lanes
-    ensures { (l : ℕ) → l < LANES → slice_index labels l ≤ NEVER_VALUE → (slice_index labels l ≢ NEVER_VALUE → slice_index departs l ≤ slice_index labels l) → IsSince (slice_index departs l) (slice_index labels l) (slice_index result l) }
+/// Whether a label can tell a time.
+fn is_near<R: Row>(time: u32, base: u32) -> bool
+    ensures { IsTrue result ↔ (time < base + R.NEVER) }
 {
-    let times = u32x16::from_array(labels);
-    times
-        .simd_eq(u32x16::splat(NEVER))
-        .select(times, times - u32x16::from_array(departs))
-        .to_array()
+    time < base || time - base < R::NEVER
 }
 
-/// Writes by when stops are reached in a batch, by a ride or by a walk, among the lanes of all batches, where those of a
-/// stop stand side by side.
-fn write_batch(
-    labels: &mut [Lanes],
-    ride: &[Lanes],
-    ready: &[Lanes],
-    departs: Lanes,
-    batch: usize,
-    batches: usize,
-)
-    requires batch { batch < batches }
+/// Whether each stop that somebody may alight at, or walk to, so late that labels can't tell it is reached from each
+/// departure.
+fn are_told<R: Row>(ride: &[R], ready: &[R], departs: R, base: u32, last: &[u32]) -> bool
     requires same { length ride.now ≡ length ready.now }
-    requires room { length labels.old ≡ length ready.now * batches }
-    requires fits { (l p : ℕ) → l < LANES → slice_index (lane l ready.now) p ≤ NEVER_VALUE }
-    requires since { (l p : ℕ) → l < LANES → p < length ready.now → arrival (lane l ride.now) (lane l ready.now) p ≢ NEVER_VALUE → slice_index departs l ≤ arrival (lane l ride.now) (lane l ready.now) p }
-    ensures same { length labels.new ≡ length labels.old }
-    ensures written { (l p : ℕ) → l < LANES → p < length ready.now → IsSince (slice_index departs l) (arrival (lane l ride.now) (lane l ready.now) p) (slice_index (slice_index_or labels.new (p * batches + batch) []) l) }
-    ensures kept { (p b : ℕ) → b < batches → b ≢ batch → slice_index_or labels.new (p * batches + b) [] ≡ slice_index_or labels.old (p * batches + b) [] }
+    requires last { length last.now ≡ length ready.now }
+    ensures told { IsTrue result → (l p : ℕ) → l < R.LANES → p < length ready.now → slice_index (R.labels departs) l ≢ R.NEVER → arrival (lane l (labels_in R.labels ride.now)) (lane l (labels_in R.labels ready.now)) p ≡ R.NEVER → slice_index last.now p < base + R.NEVER }
+    ensures early { ((p : ℕ) → p < length ready.now → slice_index last.now p < base + R.NEVER) → IsTrue result }
 {
     for stop in 0..ready.len() {
-        let arrived = lower_of(ride[stop], ready[stop]);
-        let times = since(arrived, departs);
-        labels[stop * batches + batch] = times;
+        if !is_near::<R>(last[stop], base)
+            && !ride[stop].lower_of(ready[stop]).is_reached(departs)
+        {
+            return false;
+        }
+    }
+    true
+}
+
+/// Writes by when stops are reached in a part of a batch, by a ride or by a walk, among the lanes of all departures, where
+/// those of a stop stand side by side.
+fn write_part<R: Row>(
+    labels: &mut [Lanes],
+    tables: &Tables<R>,
+    departs: R,
+    part: usize,
+    at: usize,
+    batches: usize,
+)
+    requires at { at < batches }
+    requires part { LANES * part + LANES ≤ R.LANES }
+    requires same { length tables.now.ride.items ≡ length tables.now.ready.items }
+    requires room { length labels.old ≡ length tables.now.ready.items * batches }
+    requires fits { (l p : ℕ) → l < R.LANES → slice_index (lane l (labels_in R.labels tables.now.ready.items)) p ≤ R.NEVER }
+    requires since { (l p : ℕ) → l < R.LANES → p < length tables.now.ready.items → arrival (lane l (labels_in R.labels tables.now.ride.items)) (lane l (labels_in R.labels tables.now.ready.items)) p ≢ R.NEVER → slice_index (R.labels departs) l ≤ arrival (lane l (labels_in R.labels tables.now.ride.items)) (lane l (labels_in R.labels tables.now.ready.items)) p }
+    ensures same { length labels.new ≡ length labels.old }
+    ensures written { (l p : ℕ) → l < LANES → p < length tables.now.ready.items → IsSinceTo R.NEVER (slice_index (R.labels departs) (LANES * part + l)) (arrival (lane (LANES * part + l) (labels_in R.labels tables.now.ride.items)) (lane (LANES * part + l) (labels_in R.labels tables.now.ready.items)) p) (slice_index (slice_index_or labels.new (p * batches + at) []) l) }
+    ensures kept { (p b : ℕ) → b < batches → b ≢ at → slice_index_or labels.new (p * batches + b) [] ≡ slice_index_or labels.old (p * batches + b) [] }
+{
+    let ride = tables.ride.as_slice();
+    let ready = tables.ready.as_slice();
+    for stop in 0..ready.len() {
+        let arrived = ride[stop].lower_of(ready[stop]);
+        labels[stop * batches + at] = arrived.since(departs, part);
     }
 }
 
-/// Writes the least durations for each minute of a window, batch by batch from the last, each bounded by the one
-/// after it.
-pub(crate) fn run_window(query: Query<'_>, tables: &mut Tables, labels: &mut [Lanes])
+/// Writes by when stops are reached in a batch, by a ride or by a walk, among the lanes of all departures.
+fn write_batch<R: Row>(
+    labels: &mut [Lanes],
+    tables: &Tables<R>,
+    departs: R,
+    batch: usize,
+    minutes: usize,
+)
+    requires few { minutes ≤ MOST_MINUTES }
+    requires batch { R.LANES * batch < minutes }
+    requires same { length tables.now.ride.items ≡ length tables.now.ready.items }
+    requires room { length labels.old ≡ length tables.now.ready.items * batches_of minutes }
+    requires fits { (l p : ℕ) → l < R.LANES → slice_index (lane l (labels_in R.labels tables.now.ready.items)) p ≤ R.NEVER }
+    requires since { (l p : ℕ) → l < R.LANES → p < length tables.now.ready.items → arrival (lane l (labels_in R.labels tables.now.ride.items)) (lane l (labels_in R.labels tables.now.ready.items)) p ≢ R.NEVER → slice_index (R.labels departs) l ≤ arrival (lane l (labels_in R.labels tables.now.ride.items)) (lane l (labels_in R.labels tables.now.ready.items)) p }
+    ensures same { length labels.new ≡ length labels.old }
+    ensures written { (l p : ℕ) → l < R.LANES → p < length tables.now.ready.items → R.LANES * batch + l < LANES * batches_of minutes → IsSinceTo R.NEVER (slice_index (R.labels departs) l) (arrival (lane l (labels_in R.labels tables.now.ride.items)) (lane l (labels_in R.labels tables.now.ready.items)) p) (label_of minutes labels.new p (R.LANES * batch + l)) }
+    ensures kept { (p m : ℕ) → m < LANES * batches_of minutes → (m < R.LANES * batch) ⊎ (R.LANES * batch + R.LANES ≤ m) → label_of minutes labels.new p m ≡ label_of minutes labels.old p m }
+{
+    let batches = (minutes + (LANES - 1)) / LANES;
+    let parts = R::LANES / LANES;
+    for part in 0..parts {
+        let at = parts * batch + part;
+        if at < batches {
+            write_part(labels, tables, departs, part, at, batches);
+        }
+    }
+}
+
+/// Writes the least durations for each minute of a window, batch by batch from the last, each bounded by the one after
+/// it. Where labels can't tell all of them it gives up, and says so: what is written is then of no use.
+///
+/// `last` says how late somebody may be at each stop.
+pub(crate) fn run_window<R: Row>(
+    query: Query<'_>,
+    tables: &mut Tables<R>,
+    last: &[u32],
+    labels: &mut [Lanes],
+) -> bool
     requires asked { IsAsked query }
+    requires short { All (λ row. length row ≤ R.NEVER) query.lines.now.lines }
     requires tables { AreTablesFor query.network.now.stops query.lines.now tables.old }
+    requires last { AreLast query.network.now last.now }
     requires labels { length labels.old ≡ query.network.now.stops * batches_of query.window.minutes }
     ensures same { length labels.new ≡ length labels.old }
-    ensures each { (p m : ℕ) → p < query.entry.network.now.stops → m < query.entry.window.minutes →
-        IsLeastOrNever (IsDuration query.entry.network.now query.entry.origin.0 (departure query.entry.window m) query.entry.rides p) (label_of query.entry.window.minutes labels.new p m) }
-    ensures dead { (p m : ℕ) → p < query.entry.network.now.stops → query.entry.window.minutes ≤ m → m < LANES * batches_of query.entry.window.minutes → label_of query.entry.window.minutes labels.new p m ≡ NEVER_VALUE }
+    ensures told { IsTrue result → AreLabels query.entry.network.now query.entry.origin.0 query.entry.window query.entry.rides labels.new }
+    ensures early { ((p : ℕ) → p < query.entry.network.now.stops → slice_index last.now p < R.NEVER) → IsTrue result }
 {
     query.network.known();
-    let batches = (query.window.minutes + (LANES as u32 - 1)) / LANES as u32;
+    let lanes = R::LANES as u32;
+    let minutes = query.window.minutes;
+    let batches = (minutes + (lanes - 1)) / lanes;
     clear_kept(tables.bound_ride.as_mut_slice());
     clear_kept(tables.bound_ready.as_mut_slice());
     let mut later = NEVER;
     for i in 0..batches {
         let batch = batches - 1 - i;
-        let departs = departs_of(query.window, batch);
-        run_bounded(query, Batch { departs, later }, tables);
-        later = departs[0];
+        let first = query.window.first + 60 * (lanes * batch);
+        let base = base_of::<R>(first);
+        let departs = R::minutely(first - base, minutes - lanes * batch);
+        run_bounded(
+            query,
+            Batch {
+                base,
+                departs,
+                later,
+            },
+            tables,
+        );
+        later = first;
         let ride = tables.ride.as_slice();
         let ready = tables.ready.as_slice();
-        write_batch(
-            labels,
-            ride,
-            ready,
-            departs,
-            batch as usize,
-            batches as usize,
-        );
+        if !are_told(ride, ready, departs, base, last) {
+            return false;
+        }
+        write_batch(labels, tables, departs, batch as usize, minutes as usize);
     }
+    true
 }

@@ -1,84 +1,105 @@
-//! Sixteen departures at a time, each round bounded by the labels of a later departure.
-ghost use Rattle.std.specs.Prelude.{◌≡◌, ◌≢◌, ℕ, ◌<◌, ◌≤◌, length, slice_index};
+//! Departures side by side, each round bounded by the labels of a later departure.
+ghost use Rattle.std.specs.Prelude.{◌≡◌, ◌≢◌, ℕ, ◌+◌, ◌<◌, ◌≤◌, length, map, slice_index, All};
 ghost use Rattle.timetable.specs.Steps.{Lowers};
-ghost use Rattle.trip_lanes.specs.Lane.{lane};
-ghost use Rattle.rounds.specs.State.{LaneState, Bounds};
+ghost use Rattle.timetable.specs.declared.least.TheConstants.{NEVER as NEVER_VALUE};
+ghost use Rattle.trip_lanes.specs.Cut.{cut};
+ghost use Rattle.trip_lanes.specs.Lane.{lane, labels_in};
+ghost use Rattle.rounds.specs.Cut.{cut_net};
+ghost use Rattle.rounds.specs.Labels.{LaneStateTo};
+ghost use Rattle.rounds.specs.State.{Bounds};
 ghost use Rattle.rounds.specs.Query.{IsAsked, AreTablesFor};
-ghost use Rattle.rounds.specs.Batches.{IsBatch, start_at};
-ghost use Rattle.trip_lanes.specs.declared.lanes.TheConstants.{LANES};
+ghost use Rattle.rounds.specs.Batches.{IsBatch, start_at, bounds_in};
 
 use crate::query::Query;
 use crate::scan::{Round, clear, scan_lines};
 use crate::tables::Tables;
-use trip_lanes::{
-    LANES, Labels, Lanes, falls_of, lower_all, lower_of, transfer_marked, walk_marked,
-};
+use timetable::NEVER;
+use trip_lanes::{Labels, Row, falls_of, lower_row, transfer_marked, walk_marked};
 
 /// The most rides for which labels are kept.
 pub(crate) const MOST_KEPT: u32 = 8;
 
-/// One label for each number of rides.
+/// One time for each number of rides, in seconds on the axis, or `NEVER`.
 pub(crate) type Kept = [u32; 9];
 
+/// The label of a bound in each lane.
+fn bound_of<R: Row>(bound: u32, base: u32) -> R
+    ensures { (l : ℕ) → l < R.LANES → slice_index (R.labels result) l ≡ cut base R.NEVER bound }
+{
+    let since = if bound < base { 0 } else { bound - base };
+    R::all(if since < R::NEVER { since } else { R::NEVER })
+}
+
 /// Lowers each label to the bound of its stop.
-fn lower_to(labels: &mut [Lanes], bound: &[Kept], k: usize)
+fn lower_to<R: Row>(labels: &mut [R], bound: &[Kept], k: usize, base: u32)
     requires rides { k < 9 }
     requires same { length bound.now ≡ length labels.old }
-    ensures { (l : ℕ) → l < LANES → Lowers (Bounds (lane k bound.now)) (lane l labels.old) (lane l labels.new) }
+    ensures { (l : ℕ) → l < R.LANES → Lowers (Bounds (bounds_in base R.NEVER k bound.now)) (lane l (labels_in R.labels labels.old)) (lane l (labels_in R.labels labels.new)) }
 {
     for stop in 0..labels.len() {
-        lower_all(labels, stop, [bound[stop][k]; LANES]);
+        labels[stop] = labels[stop].lower_of(bound_of(bound[stop][k], base));
     }
 }
 
 /// Lowers each label to the bound of its stop, and notes it as the label before.
-fn begin(labels: &mut [Lanes], before: &mut [Lanes], bound: &[Kept], k: usize)
+fn begin<R: Row>(labels: &mut [R], before: &mut [R], bound: &[Kept], k: usize, base: u32)
     requires rides { k < 9 }
     requires bound { length bound.now ≡ length labels.old }
     requires before { length before.old ≡ length labels.old }
-    ensures lanes { (l : ℕ) → l < LANES → Lowers (Bounds (lane k bound.now)) (lane l labels.old) (lane l labels.new) }
+    ensures lanes { (l : ℕ) → l < R.LANES → Lowers (Bounds (bounds_in base R.NEVER k bound.now)) (lane l (labels_in R.labels labels.old)) (lane l (labels_in R.labels labels.new)) }
     ensures before { before.new ≡ labels.new }
 {
     for stop in 0..labels.len() {
-        let low = lower_of(labels[stop], [bound[stop][k]; LANES]);
+        let low = labels[stop].lower_of(bound_of(bound[stop][k], base));
         labels[stop] = low;
         before[stop] = low;
     }
 }
 
-/// Keeps the first lane, as the labels for a number of rides.
-fn keep(kept: &mut [Kept], k: usize, labels: &[Lanes])
+/// Keeps the first lane, as the times for a number of rides.
+fn keep<R: Row>(kept: &mut [Kept], k: usize, labels: &[R], base: u32)
     requires rides { k < 9 }
     requires same { length labels.now ≡ length kept.old }
-    ensures here { lane k kept.new ≡ lane 0 labels.now }
+    requires base { base + R.NEVER ≤ NEVER_VALUE }
+    requires fits { (p : ℕ) → slice_index (lane 0 (labels_in R.labels labels.now)) p ≤ R.NEVER }
+    ensures here { bounds_in base R.NEVER k kept.new ≡ lane 0 (labels_in R.labels labels.now) }
     ensures others { (j : ℕ) → j ≢ k → lane j kept.new ≡ lane j kept.old }
 {
     for stop in 0..labels.len() {
-        kept[stop][k] = labels[stop][0];
+        let first = labels[stop].first();
+        kept[stop][k] = if first < R::NEVER {
+            base + first
+        } else {
+            NEVER
+        };
     }
 }
 
-/// Sixteen departures, and one that none of them is later than, whose labels bound theirs.
+/// Departures side by side, and one that none of them is later than, whose labels bound theirs.
 #[derive(Clone, Copy)]
-pub(crate) struct Batch {
+pub(crate) struct Batch<R> {
+    /// From when on labels count, in seconds on the axis.
+    pub base: u32,
     /// `NEVER` in a dead lane.
-    pub departs: Lanes,
-    /// `NEVER` where nothing bounds them.
+    pub departs: R,
+    /// In seconds on the axis; `NEVER` where nothing bounds them.
     pub later: u32,
 }
 
-/// Fills in by when each stop is reached by a ride, and from when one may board there, for sixteen departures at once. What
-/// was kept bounds them, and what is kept then are the labels of the first of them.
-pub(crate) fn run_bounded(query: Query<'_>, batch: Batch, tables: &mut Tables)
+/// Fills in by when each stop is reached by a ride, and from when one may board there, for the departures of a batch at
+/// once. What was kept bounds them, and what is kept then are the times of the first of them.
+pub(crate) fn run_bounded<R: Row>(query: Query<'_>, batch: Batch<R>, tables: &mut Tables<R>)
     requires asked { IsAsked query }
-    requires batch { IsBatch batch }
+    requires short { All (λ row. length row ≤ R.NEVER) query.lines.now.lines }
+    requires batch { IsBatch R.LANES R.NEVER R.labels batch }
     requires tables { AreTablesFor query.network.now.stops query.lines.now tables.old }
-    requires bounds { (k : ℕ) → k ≤ query.rides → LaneState query.network.now (start_at query batch.later) k (lane k tables.old.bound_ride.items) (lane k tables.old.bound_ready.items) }
+    requires bounds { (k : ℕ) → k ≤ query.rides → LaneStateTo R.NEVER (cut_net batch.base R.NEVER query.network.now) (start_at query (cut batch.base R.NEVER batch.later)) k (bounds_in batch.base R.NEVER k tables.old.bound_ride.items) (bounds_in batch.base R.NEVER k tables.old.bound_ready.items) }
     ensures tables { AreTablesFor query.entry.network.now.stops query.entry.lines.now tables.new }
-    ensures states { (l : ℕ) → l < LANES → LaneState query.entry.network.now (start_at query.entry (slice_index batch.departs l)) query.entry.rides (lane l tables.new.ride.items) (lane l tables.new.ready.items) }
-    ensures kept { (k : ℕ) → k ≤ query.entry.rides → LaneState query.entry.network.now (start_at query.entry (slice_index batch.departs 0)) k (lane k tables.new.bound_ride.items) (lane k tables.new.bound_ready.items) }
+    ensures states { (l : ℕ) → l < R.LANES → LaneStateTo R.NEVER (cut_net batch.base R.NEVER query.entry.network.now) (start_at query.entry (slice_index (R.labels batch.departs) l)) query.entry.rides (lane l (labels_in R.labels tables.new.ride.items)) (lane l (labels_in R.labels tables.new.ready.items)) }
+    ensures kept { (k : ℕ) → k ≤ query.entry.rides → LaneStateTo R.NEVER (cut_net batch.base R.NEVER query.entry.network.now) (start_at query.entry (slice_index (R.labels batch.departs) 0)) k (bounds_in batch.base R.NEVER k tables.new.bound_ride.items) (bounds_in batch.base R.NEVER k tables.new.bound_ready.items) }
 {
     query.network.known();
+    let base = batch.base;
     let ride = tables.ride.as_mut_slice();
     let ready = tables.ready.as_mut_slice();
     let before = tables.before.as_mut_slice();
@@ -88,21 +109,20 @@ pub(crate) fn run_bounded(query: Query<'_>, batch: Batch, tables: &mut Tables)
     let bound_ready = tables.bound_ready.as_mut_slice();
     let falls = tables.falls.as_mut_slice();
     let due = tables.due.as_mut_slice();
-    let aboard = tables.aboard.as_mut_slice();
     let feet = query.network.feet();
     let trips = query.network.trips();
     clear(ride);
     clear(ready);
-    lower_all(ride, query.origin.0 as usize, batch.departs);
-    begin(ready, before, bound_ready, 0);
     marked.fill(false);
+    lower_row(ride, marked, query.origin.0 as usize, batch.departs);
     marked[query.origin.0 as usize] = true;
+    begin(ready, before, bound_ready, 0, base);
     fallen.fill(false);
     walk_marked(feet, ride, marked, ready, fallen);
-    keep(bound_ride, 0, ride);
-    keep(bound_ready, 0, ready);
+    keep(bound_ride, 0, ride, base);
+    keep(bound_ready, 0, ready, base);
     for k in 0..query.rides as usize {
-        lower_to(ride, bound_ride, k + 1);
+        lower_to(ride, bound_ride, k + 1, base);
         marked.fill(false);
         falls_of(before, ready, fallen, falls);
         let labels = Labels {
@@ -114,12 +134,13 @@ pub(crate) fn run_bounded(query: Query<'_>, batch: Batch, tables: &mut Tables)
             trips,
             lines: query.lines,
             labels,
+            base,
         };
-        scan_lines(round, due, aboard, ride, marked);
-        begin(ready, before, bound_ready, k + 1);
+        scan_lines(round, due, ride, marked);
+        begin(ready, before, bound_ready, k + 1, base);
         fallen.fill(false);
         transfer_marked(feet, ride, marked, ready, fallen);
-        keep(bound_ride, k + 1, ride);
-        keep(bound_ready, k + 1, ready);
+        keep(bound_ride, k + 1, ride, base);
+        keep(bound_ready, k + 1, ready, base);
     }
 }

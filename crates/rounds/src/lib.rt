@@ -5,8 +5,9 @@
 //! - `minutes`: [`one_minute`], which alternates rides with changes and walks.
 //! - `window`: [`Window`], and [`durations`] for each of its minutes.
 //! - `search`: [`Search`], which serves one origin after another. `query`: what is asked of it. `tables`: its tables.
-//! - `batches`: the minutes of a window, sixteen at a time, from the last to the first.
-//! - `bounded`: the rounds of sixteen departures, within the labels of a later one.
+//! - `batches`: the minutes of a window, so many at a time, from the last to the first.
+//! - `bounded`: the rounds of departures side by side, within the labels of a later one.
+//! - `last`: how late somebody may be at a stop, by which one sees that narrow labels tell all.
 //! - `scan`, `due`: a round of rides, line by line: the lines that serve a stop where a label fell, from there on.
 //! - `table`: [`Durations`], as a window gives them.
 //! - `steps`: what trips, changes and walks do to the labels of stops.
@@ -19,6 +20,7 @@
 mod batches;
 mod bounded;
 mod due;
+mod last;
 mod laws;
 mod minutes;
 mod query;

@@ -1,17 +1,26 @@
 //! A search: the tables that a window's durations are found with, made once and used for one origin after another.
-ghost use Rattle.std.specs.Prelude.{◌<◌, ◌≤◌, IfOk};
+ghost use Rattle.std.specs.Prelude.{◌≡◌, ℕ, ◌+◌, ◌*◌, ◌<◌, ◌≤◌, ◌↔◌, IsTrue, length, slice_index, All, IfOk, OnOk};
+ghost use Rattle.timetable.specs.declared.limits.TheConstants.{END_OF_AXIS, MOST_FOOT_SECONDS};
+ghost use Rattle.timetable.specs.declared.least.TheConstants.{NEVER as NEVER_VALUE};
 ghost use Rattle.rounds.specs.Batches.{AreLabels};
+ghost use Rattle.rounds.specs.Last.{AreLast};
+ghost use Rattle.rounds.specs.Query.{IsAsked};
+ghost use Rattle.rounds.specs.Table.{batches_of};
 ghost use Rattle.rounds.specs.Window.{Fits, AreDurations};
 
 use crate::batches::run_window;
 use crate::bounded::MOST_KEPT;
+use crate::last::fill_last_arrivals;
 use crate::query::Query;
 use crate::table::Durations;
-use crate::tables::Tables;
-use crate::window::{Window, labels_by_minute};
+use crate::tables::{Tables, make_times};
+use crate::window::{Window, labels_by_minute, longest};
 use std::alloc::{AllocError, Global};
 use timetable::{NEVER, Network, StopNo};
-use trip_lanes::{LANES, Lanes};
+use trip_lanes::{LANES, Lanes, Narrow, Row};
+
+/// After a search that narrow labels couldn't tell, how many go by wide ones at once.
+const WIDE_AT_ONCE: u32 = 15;
 
 /// The tables of a search: labels, bounds and marks, of each stop, line or place.
 ///
@@ -19,14 +28,26 @@ use trip_lanes::{LANES, Lanes};
 /// from before doesn't matter. One search serves any network, and the tables are made anew where its size is another.
 #[derive(Drop)]
 pub struct Search {
-    tables: Tables,
+    /// Of labels that reach some eighteen hours.
+    narrow: Tables<Narrow>,
+    /// Of labels that reach as far as times go; they grow when the others don't do.
+    wide: Tables<Lanes>,
+    /// How late rides end at each stop, and how late somebody may be there by a walk.
+    ridden: Vec<u32>,
+    last: Vec<u32>,
+    /// How many searches go by wide labels at once, since the narrow ones didn't do.
+    wide_left: u32,
 }
 
 impl Search {
     /// A search with empty tables.
     pub fn new(alloc: Global) -> Self {
         Search {
-            tables: Tables::new(alloc),
+            narrow: Tables::new(alloc),
+            wide: Tables::new(alloc),
+            ridden: Vec::new(alloc),
+            last: Vec::new(alloc),
+            wide_left: 0,
         }
     }
 
@@ -51,7 +72,7 @@ impl Search {
         Ok(Durations::new(network.stops(), window.minutes, labels))
     }
 
-    /// The labels of a window: by batches as far as their bounds go, and past that minute by minute.
+    /// The labels of a window: by batches as far as their bounds and their ranks go, and past that minute by minute.
     fn labels_of(
         &mut self,
         alloc: Global,
@@ -64,39 +85,111 @@ impl Search {
         requires fits { Fits window }
         ensures { IfOk result (λ labels. AreLabels network.now origin.0 window rides labels.items) }
     {
-        if rides > MOST_KEPT {
+        network.known();
+        let lines = network.lines();
+        let most = longest(lines);
+        if rides > MOST_KEPT || !are_ranked::<Lanes>(most) {
             return labels_by_minute(alloc, network, origin, window, rides);
         }
-        self.labels_by_batch(alloc, network, origin, window, rides)
-    }
-
-    /// The labels of a window, sixteen minutes at a time.
-    fn labels_by_batch(
-        &mut self,
-        alloc: Global,
-        network: &Network,
-        origin: StopNo,
-        window: Window,
-        rides: u32,
-    ) -> Result<Vec<Lanes>, AllocError>
-        requires origin { origin.0 < network.now.stops }
-        requires fits { Fits window }
-        requires rides { rides ≤ 8 }
-        ensures { IfOk result (λ labels. AreLabels network.now origin.0 window rides labels.items) }
-    {
-        network.known();
         let query = Query {
             network,
-            lines: network.lines(),
+            lines,
             origin,
             window,
             rides,
         };
-        let stops = network.stops() as usize;
-        let batches = (window.minutes as usize + (LANES - 1)) / LANES;
+        self.labels_by_batch(alloc, query, most)
+    }
+
+    /// The labels of a window, batch by batch: by narrow labels where these tell all, and else by wide ones.
+    fn labels_by_batch(
+        &mut self,
+        alloc: Global,
+        query: Query<'_>,
+        most: usize,
+    ) -> Result<Vec<Lanes>, AllocError>
+        requires asked { IsAsked query }
+        requires most { All (λ row. length row ≤ most) query.lines.now.lines }
+        requires short { All (λ row. length row ≤ NEVER_VALUE) query.lines.now.lines }
+        ensures { IfOk result (λ labels. AreLabels query.entry.network.now query.entry.origin.0 query.entry.window query.entry.rides labels.items) }
+    {
+        query.network.known();
+        let stops = query.network.stops() as usize;
+        let batches = (query.window.minutes as usize + (LANES - 1)) / LANES;
         let mut labels = vec![in alloc; [NEVER; LANES]; stops * batches]?;
-        self.tables.fit(alloc, stops, query.lines)?;
-        run_window(query, &mut self.tables, &mut labels);
+        make_times(alloc, &mut self.ridden, stops)?;
+        make_times(alloc, &mut self.last, stops)?;
+        fill_last_arrivals(query, &mut self.ridden, &mut self.last);
+        let last = self.last.as_slice();
+        if are_ranked::<Narrow>(most)
+            && by_narrow(
+                alloc,
+                query,
+                &mut self.narrow,
+                &mut self.wide_left,
+                last,
+                &mut labels,
+            )?
+        {
+            return Ok(labels);
+        }
+        by_wide(alloc, query, &mut self.wide, last, &mut labels)?;
         Ok(labels)
     }
+}
+
+/// Whether labels have a number for each rank of so many trips, beside that of who rides none.
+fn are_ranked<R: Row>(trips: usize) -> bool
+    ensures { IsTrue result ↔ (trips ≤ R.NEVER) }
+{
+    trips <= R::NEVER as usize
+}
+
+/// Writes the least durations of a window by narrow labels, unless these can't tell all of them, or couldn't lately.
+fn by_narrow(
+    alloc: Global,
+    query: Query<'_>,
+    tables: &mut Tables<Narrow>,
+    wide_left: &mut u32,
+    last: &[u32],
+    labels: &mut [Lanes],
+) -> Result<bool, AllocError>
+    requires asked { IsAsked query }
+    requires short { All (λ row. length row ≤ 65535) query.lines.now.lines }
+    requires last { AreLast query.network.now last.now }
+    requires labels { length labels.old ≡ query.network.now.stops * batches_of query.window.minutes }
+    ensures { IfOk result (λ told. IsTrue told → AreLabels query.entry.network.now query.entry.origin.0 query.entry.window query.entry.rides labels.new) }
+{
+    if *wide_left > 0 {
+        *wide_left -= 1;
+        return Ok(false);
+    }
+    query.network.known();
+    tables.fit(alloc, query.network.stops() as usize, query.lines)?;
+    let told = run_window(query, tables, last, labels);
+    if !told {
+        *wide_left = WIDE_AT_ONCE;
+    }
+    Ok(told)
+}
+
+/// Writes the least durations of a window by wide labels, which tell all of them.
+fn by_wide(
+    alloc: Global,
+    query: Query<'_>,
+    tables: &mut Tables<Lanes>,
+    last: &[u32],
+    labels: &mut [Lanes],
+) -> Result<(), AllocError>
+    requires asked { IsAsked query }
+    requires short { All (λ row. length row ≤ NEVER_VALUE) query.lines.now.lines }
+    requires last { AreLast query.network.now last.now }
+    requires few { (p : ℕ) → slice_index last.now p ≤ END_OF_AXIS + MOST_FOOT_SECONDS }
+    requires labels { length labels.old ≡ query.network.now.stops * batches_of query.window.minutes }
+    ensures { OnOk result (AreLabels query.entry.network.now query.entry.origin.0 query.entry.window query.entry.rides labels.new) }
+{
+    query.network.known();
+    tables.fit(alloc, query.network.stops() as usize, query.lines)?;
+    run_window(query, tables, last, labels);
+    Ok(())
 }

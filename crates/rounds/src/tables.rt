@@ -1,23 +1,21 @@
 //! The tables of a search.
-ghost use Rattle.std.specs.Prelude.{◌≡◌, ◌≤◌, length, OnOk};
-ghost use Rattle.timetable.specs.declared.limits.TheConstants.{MOST_TRIPS};
+ghost use Rattle.std.specs.Prelude.{◌≡◌, length, OnOk};
 ghost use Rattle.rounds.specs.Query.{AreTablesFor};
 
 use crate::bounded::Kept;
-use crate::window::longest;
 use std::alloc::{AllocError, Global};
 use timetable::{Lines, NEVER};
-use trip_lanes::{Fall, LANES, Lanes, UNFALLEN};
+use trip_lanes::{Fall, Row, UNFALLEN};
 
-/// Labels, bounds and marks, of each stop, line or trip of a line. What they hold from before a search doesn't matter.
+/// Labels, bounds and marks, of each stop or line. What they hold from before a search doesn't matter.
 #[derive(Drop)]
-pub(crate) struct Tables {
-    /// By when each stop is reached by a ride, for sixteen departures.
-    pub ride: Vec<Lanes>,
+pub(crate) struct Tables<R> {
+    /// By when each stop is reached by a ride, for departures side by side.
+    pub ride: Vec<R>,
     /// From when one may board at each stop.
-    pub ready: Vec<Lanes>,
+    pub ready: Vec<R>,
     /// The same, when lines were scanned last.
-    pub before: Vec<Lanes>,
+    pub before: Vec<R>,
     /// How far the labels of each stop fell since then.
     pub falls: Vec<Fall>,
     /// Whether a ride reached the stop earlier in this round.
@@ -30,11 +28,9 @@ pub(crate) struct Tables {
     pub bound_ready: Vec<Kept>,
     /// From which place on a line is scanned in this round, or `NEVER`.
     pub due: Vec<u32>,
-    /// Who rides which trip of the line that is scanned.
-    pub aboard: Vec<Lanes>,
 }
 
-impl Tables {
+impl<R: Row> Tables<R> {
     /// Empty tables.
     pub(crate) fn new(alloc: Global) -> Self {
         Tables {
@@ -47,7 +43,6 @@ impl Tables {
             bound_ride: Vec::new(alloc),
             bound_ready: Vec::new(alloc),
             due: Vec::new(alloc),
-            aboard: Vec::new(alloc),
         }
     }
 
@@ -58,28 +53,26 @@ impl Tables {
         stops: usize,
         lines: &Lines,
     ) -> Result<(), AllocError>
-        requires few { length lines.now.lines ≤ MOST_TRIPS }
         ensures { OnOk result (AreTablesFor stops lines.now self.new) }
     {
-        make_lanes(alloc, &mut self.ride, stops)?;
-        make_lanes(alloc, &mut self.ready, stops)?;
-        make_lanes(alloc, &mut self.before, stops)?;
+        make_rows(alloc, &mut self.ride, stops)?;
+        make_rows(alloc, &mut self.ready, stops)?;
+        make_rows(alloc, &mut self.before, stops)?;
         make_falls(alloc, &mut self.falls, stops)?;
         make_marks(alloc, &mut self.marked, stops)?;
         make_marks(alloc, &mut self.fallen, stops)?;
         make_kept(alloc, &mut self.bound_ride, stops)?;
         make_kept(alloc, &mut self.bound_ready, stops)?;
-        make_places(alloc, &mut self.due, lines.count())?;
-        make_lanes(alloc, &mut self.aboard, longest(lines))
+        make_times(alloc, &mut self.due, lines.count())
     }
 }
 
 /// Makes a table of labels that has so many places, unless it has.
-fn make_lanes(alloc: Global, table: &mut Vec<Lanes>, places: usize) -> Result<(), AllocError>
+fn make_rows<R: Row>(alloc: Global, table: &mut Vec<R>, places: usize) -> Result<(), AllocError>
     ensures { OnOk result (length table.new.items ≡ places) }
 {
     if table.len() != places {
-        *table = vec![in alloc; [NEVER; LANES]; places]?;
+        *table = vec![in alloc; R::all(R::NEVER); places]?;
     }
     Ok(())
 }
@@ -114,12 +107,16 @@ fn make_marks(alloc: Global, table: &mut Vec<bool>, places: usize) -> Result<(),
     Ok(())
 }
 
-/// Makes a table of places that has so many lines, unless it has.
-fn make_places(alloc: Global, table: &mut Vec<u32>, lines: usize) -> Result<(), AllocError>
-    ensures { OnOk result (length table.new.items ≡ lines) }
+/// Makes a table of places of lines, or of times, that is so long, unless it is.
+pub(crate) fn make_times(
+    alloc: Global,
+    table: &mut Vec<u32>,
+    places: usize,
+) -> Result<(), AllocError>
+    ensures { OnOk result (length table.new.items ≡ places) }
 {
-    if table.len() != lines {
-        *table = vec![in alloc; NEVER; lines]?;
+    if table.len() != places {
+        *table = vec![in alloc; NEVER; places]?;
     }
     Ok(())
 }

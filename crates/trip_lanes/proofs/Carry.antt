@@ -9,7 +9,7 @@ use Rattle.timetable.specs.declared.least.TheConstants.{NEVER}
 use Rattle.timetable.specs.Steps.{Lowers}
 use Rattle.timetable.proofs.Lowering.{lowers_alike, lowers_both, lowers_none}
 use Rattle.trip_lanes.proofs.Carrying.{BoardsBelow, CarriesBelow, carry_alight, carry_pass, boards_still, boards_here, boards_not}
-use Rattle.trip_lanes.specs.Lane.{lane, MarksFallen}
+use Rattle.trip_lanes.specs.Lane.{lane, MarksFallenOf}
 
 -- a lane after the first x events
 pub record LaneAt (ready : List ℕ) (t : Trip) (x : ℕ) (old now : List ℕ) (bar : ℕ) : Type 0 where
@@ -84,7 +84,7 @@ lane_falls old new h p = elim (cases_lt p (length old)) [
 ]
 
 -- one change after another
-pub marks_then : (a b c : List (List ℕ)) (was mid is : List Bool) → ((l p : ℕ) → l < 16 → slice_index (lane l b) p ≤ slice_index (lane l a) p) → ((l p : ℕ) → l < 16 → slice_index (lane l c) p ≤ slice_index (lane l b) p) → MarksFallen a b was mid → MarksFallen b c mid is → MarksFallen a c was is
+pub marks_then : {lanes : ℕ} (a b c : List (List ℕ)) (was mid is : List Bool) → ((l p : ℕ) → l < lanes → slice_index (lane l b) p ≤ slice_index (lane l a) p) → ((l p : ℕ) → l < lanes → slice_index (lane l c) p ≤ slice_index (lane l b) p) → MarksFallenOf lanes a b was mid → MarksFallenOf lanes b c mid is → MarksFallenOf lanes a c was is
 marks_then a b c was mid is ab bc h k =
     record {
       same_length = k.same_length ∙ h.same_length;
@@ -105,5 +105,5 @@ marks_then a b c was mid is ab bc h k =
           );
     }
 
-pub marks_none : (a : List (List ℕ)) (was : List Bool) → MarksFallen a a was was
+pub marks_none : {lanes : ℕ} (a : List (List ℕ)) (was : List Bool) → MarksFallenOf lanes a a was was
 marks_none a was = record { same_length = refl; marks = λ p l. (λ s. inl s, λ o. elim o [ inl s ↦ s | inr f ↦ absurd (omega (arith, f.2)) ]) }

@@ -8,5 +8,5 @@ pub mod LaneWalk
 pub mod Marked
 pub mod Falling
 pub mod Choosing
-pub mod Riding
 pub mod Lining
+pub mod RowLanes

@@ -1,15 +1,14 @@
--- The trips of a line, place by place, in one lane of sixteen.
+-- The trips of a line, place by place, in one lane.
 use Rattle.std.proofs.Common.{◌≡◌, ℕ, ◌+◌, ◌<◌, ◌≤◌, ◌⊎◌, inl, inr, false, List, [], length, get_or, slice_index, slice_get, Some, IsTrue, refl, sym, ◌∙◌, arith}
 use Rattle.std.proofs.lemmas.Bool.{cases_lt}
 use Rattle.std.proofs.lemmas.Option.{same_Some, slice_get_within, slice_get-get_or}
 use Rattle.timetable.specs.declared.trips.Event.{Event}
 use Rattle.timetable.specs.declared.trips.Trip.{Trip}
-use Rattle.timetable.specs.declared.least.TheConstants.{NEVER}
 use Rattle.timetable.specs.Steps.{Lowers, Carries}
 use Rattle.timetable.specs.declared.views.Call.{Call}
 use Rattle.timetable.specs.declared.views.Times.{Times}
 use Rattle.trip_lanes.specs.Scan.{NothingLower, FallsTo}
-use Rattle.trip_lanes.specs.Rows.{IsAt, NoneOvertakes, IsViewOf, CarriesRow, IsCaught, IsPast, NoneCaughtBefore}
+use Rattle.trip_lanes.specs.Rows.{IsAt, NoneOvertakes, IsCutViewOf, CarriesRow, IsCaught, IsPast, NoneCaughtBefore}
 use Rattle.trip_lanes.proofs.Again.{nothing_changes}
 use Rattle.trip_lanes.proofs.Carry.{lane_falls}
 use Rattle.trip_lanes.proofs.Falling.{falls_none, falls_then, lowers_of}
@@ -26,8 +25,8 @@ pub slice_get_row : (rows : List (List Event)) (r j : ℕ) (e : Event) → IsAt 
 slice_get_row rows r j e at = slice_get_within rows r at.row at.trip
 
 -- each trip of the line makes an event at each place
-pub at_place : (rows : List (List Event)) (calls : List Call) (times : List Times) → IsViewOf rows calls times → (r j : ℕ) → r < length rows → j < length calls → (e : Event) × IsAt rows r j e
-at_place rows calls times view r j below inside =
+pub at_place : (base cap : ℕ) (rows : List (List Event)) (calls : List Call) (times : List Times) → IsCutViewOf base cap rows calls times → (r j : ℕ) → r < length rows → j < length calls → (e : Event) × IsAt rows r j e
+at_place base cap rows calls times view r j below inside =
     let row = get_or rows r [] in
     let trip : slice_get rows r ≡ Some row = slice_get-get_or rows r [] below in
     let long = view.places r row trip in
@@ -65,13 +64,13 @@ module _ (before ready : List ℕ) (rows : List (List Event)) (from : ℕ) where
       }
 
   -- who is aboard gets off
-  pub line_alight : {On : ℕ → Type 0} (x stop best : ℕ) {old mid new : List ℕ} → NoneOvertakes rows → ((r : ℕ) (e : Event) → IsAt rows r x e → e.stop.0 ≡ stop) → ((r : ℕ) (e : Event) → IsAt rows r x e → IsTrue e.alight) → stop < length mid → ((r : ℕ) → On r → (e : Event) × IsAt rows r x e × (best ≤ e.arrive)) → (best ≡ NEVER) ⊎ ((r : ℕ) × On r × ((e : Event) → IsAt rows r x e → best ≡ e.arrive)) → ((p : ℕ) → slice_index mid p ≤ NEVER) → LineAt before ready rows from x x old mid On → Lowers (λ p t. (p ≡ stop) × (t ≡ best)) mid new → LineAt before ready rows from x (x + 1) old new On
-  line_alight {On} x stop best {old} {mid} {new} order stops alights within there some fits s k =
+  pub line_alight : {On : ℕ → Type 0} (never x stop best : ℕ) {old mid new : List ℕ} → NoneOvertakes rows → ((r : ℕ) (e : Event) → IsAt rows r x e → e.stop.0 ≡ stop) → ((r : ℕ) (e : Event) → IsAt rows r x e → IsTrue e.alight) → stop < length mid → ((r : ℕ) → On r → (e : Event) × IsAt rows r x e × (best ≤ e.arrive)) → (best ≡ never) ⊎ ((r : ℕ) × On r × ((e : Event) → IsAt rows r x e → best ≡ e.arrive)) → ((p : ℕ) → slice_index mid p ≤ never) → LineAt before ready rows from x x old mid On → Lowers (λ p t. (p ≡ stop) × (t ≡ best)) mid new → LineAt before ready rows from x (x + 1) old new On
+  line_alight {On} never x stop best {old} {mid} {new} order stops alights within there some fits s k =
       let fall : (p : ℕ) → slice_index new p ≤ slice_index mid p = lane_falls mid new k in
       record {
         falls = elim some [
-          | inl never ↦
-              let none : NothingLower (λ p t. (p ≡ stop) × (t ≡ best)) mid = λ p t l o. let f = fits p in omega (arith, o.1, never) in
+          | inl out ↦
+              let none : NothingLower (λ p t. (p ≡ stop) × (t ≡ best)) mid = λ p t l o. let f = fits p in omega (arith, o.1, out) in
               rw (nothing_changes mid new none k) s.falls
           | inr who ↦ falls_then s.falls k (λ p t o.
               let b = s.aboard who.0 who.1 in

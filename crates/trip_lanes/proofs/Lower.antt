@@ -6,7 +6,7 @@ use Rattle.timetable.specs.Least.{IsLeast}
 use Rattle.timetable.specs.Steps.{Lowers}
 use Rattle.timetable.specs.declared.least.TheConstants.{NEVER}
 use Rattle.timetable.proofs.Lowering.{lowers_alike, lowers_none}
-use Rattle.trip_lanes.specs.Lane.{lane, SomeFell, Fell, MarksFallen}
+use Rattle.trip_lanes.specs.Lane.{lane, labels_in, SomeFellOf, FellOf, MarksFallenOf}
 
 min_cases : (a b : ℕ) → (min a b ≡ a) ⊎ (min a b ≡ b)
 min_cases a b = elim (cases_lt a b) [ inl l ↦ inl (omega arith) | inr g ↦ inr (omega arith) ]
@@ -54,13 +54,13 @@ lane_old xs i l within = get_or-map (λ w. slice_index w l) xs i [] 0 within
 pub lane_other : (xs : List (List ℕ)) (v : List ℕ) (i p l : ℕ) → p ≢ i → slice_index (lane l (set xs i v)) p ≡ slice_index (lane l xs) p
 lane_other xs v i p l ne = rw (map-set (λ w. slice_index w l) xs i v) (get_or-set_other (lane l xs) i p (slice_index v l) 0 ne)
 
-fell_here : (xs : List (List ℕ)) (v : List ℕ) (i : ℕ) → i < length xs → Fell xs (set xs i v) i → SomeFell v (get_or xs i [])
+fell_here : {lanes : ℕ} (xs : List (List ℕ)) (v : List ℕ) (i : ℕ) → i < length xs → FellOf lanes xs (set xs i v) i → SomeFellOf lanes v (get_or xs i [])
 fell_here xs v i within f = (f.0, f.1, rw (← lane_new xs v i f.0 within, ← lane_old xs i f.0 within) f.2)
 
-here_fell : (xs : List (List ℕ)) (v : List ℕ) (i : ℕ) → i < length xs → SomeFell v (get_or xs i []) → Fell xs (set xs i v) i
+here_fell : {lanes : ℕ} (xs : List (List ℕ)) (v : List ℕ) (i : ℕ) → i < length xs → SomeFellOf lanes v (get_or xs i []) → FellOf lanes xs (set xs i v) i
 here_fell xs v i within f = (f.0, f.1, rw (lane_new xs v i f.0 within, lane_old xs i f.0 within) f.2)
 
-not_other : (xs : List (List ℕ)) (v : List ℕ) (i p : ℕ) → p ≢ i → Fell xs (set xs i v) p → ⊥
+not_other : {lanes : ℕ} (xs : List (List ℕ)) (v : List ℕ) (i p : ℕ) → p ≢ i → FellOf lanes xs (set xs i v) p → ⊥
 not_other xs v i p ne f = let e = lane_other xs v i p f.0 ne in omega (arith, f.2)
 
 set_get_other : (was : List Bool) (i p : ℕ) → p ≢ i → slice_get (set was i true) p ≡ slice_get was p
@@ -75,7 +75,7 @@ set_get_same [] i l = absurd (omega arith)
 set_get_same (b ∷ was) zero l = refl
 set_get_same (b ∷ was) (suc i) l = set_get_same was i (omega arith)
 
-pub marks_fell : (xs : List (List ℕ)) (v : List ℕ) (i : ℕ) (was : List Bool) → i < length xs → length was ≡ length xs → SomeFell v (get_or xs i []) → MarksFallen xs (set xs i v) was (set was i true)
+pub marks_fell : {lanes : ℕ} (xs : List (List ℕ)) (v : List ℕ) (i : ℕ) (was : List Bool) → i < length xs → length was ≡ length xs → SomeFellOf lanes v (get_or xs i []) → MarksFallenOf lanes xs (set xs i v) was (set was i true)
 marks_fell xs v i was within same f =
     record {
       same_length = length-set was i true;
@@ -85,7 +85,7 @@ marks_fell xs v i was within same f =
       ];
     }
 
-pub marks_same : (xs : List (List ℕ)) (v : List ℕ) (i : ℕ) (was : List Bool) → i < length xs → (SomeFell v (get_or xs i []) → ⊥) → MarksFallen xs (set xs i v) was was
+pub marks_same : {lanes : ℕ} (xs : List (List ℕ)) (v : List ℕ) (i : ℕ) (was : List Bool) → i < length xs → (SomeFellOf lanes v (get_or xs i []) → ⊥) → MarksFallenOf lanes xs (set xs i v) was was
 marks_same xs v i was within none =
     record {
       same_length = refl;
@@ -97,6 +97,14 @@ marks_same xs v i was within none =
         ],
       );
     }
+
+-- the labels of the row at a stop, in each lane
+pub row_labels : {A : Type 0} (labels : A → List ℕ) (rows : List A) (i : ℕ) (row none : A) → row ≡ get_or rows i none → i < length rows → get_or (labels_in labels rows) i [] ≡ labels row
+row_labels labels rows i row none is within = get_or-map labels rows i none [] within ∙ ap labels (sym is)
+
+pub row_lane : {A : Type 0} (labels : A → List ℕ) (rows : List A) (i l : ℕ) (row none : A) → row ≡ get_or rows i none → i < length rows → slice_index (lane l (labels_in labels rows)) i ≡ slice_index (labels row) l
+row_lane labels rows i l row none is within =
+    lane_old (labels_in labels rows) i l (omega (arith, length-map rows labels)) ∙ ap (λ v. slice_index v l) (row_labels labels rows i row none is within)
 
 -- a flag that was written, and another
 pub set_get_apart : (was : List Bool) (i p : ℕ) (b : Bool) → (p ≡ i → ⊥) → slice_get (set was i b) p ≡ slice_get was p

@@ -7,7 +7,7 @@ use Rattle.timetable.proofs.Lowering.{lowers_alike, lowers_both}
 use Rattle.trip_lanes.proofs.Walking.{OfferedBelow, TransferredBelow}
 use Rattle.trip_lanes.specs.Scan.{NothingLower}
 use Rattle.trip_lanes.specs.Walks.{OfferedFrom, TransferredFrom}
-use Rattle.trip_lanes.specs.Lane.{lane, MarksFallen}
+use Rattle.trip_lanes.specs.Lane.{lane, MarksFallenOf}
 use Rattle.trip_lanes.proofs.Again.{nothing_lowers}
 
 -- one more stop, which has nothing lower to offer
@@ -46,7 +46,7 @@ offer_as feet ridden ride x p y same o =
     ]
 
 -- where a stop is not marked, no lane fell
-pub unmarked_still : (old new : List (List ℕ)) (was is : List Bool) (x l : ℕ) → MarksFallen old new was is → x < length was → (slice_get is x ≡ Some true → ⊥) → l < 16 → slice_index (lane l new) x ≤ slice_index (lane l old) x → slice_index (lane l new) x ≡ slice_index (lane l old) x
+pub unmarked_still : {lanes : ℕ} (old new : List (List ℕ)) (was is : List Bool) (x l : ℕ) → MarksFallenOf lanes old new was is → x < length was → (slice_get is x ≡ Some true → ⊥) → l < lanes → slice_index (lane l new) x ≤ slice_index (lane l old) x → slice_index (lane l new) x ≡ slice_index (lane l old) x
 unmarked_still old new was is x l marks within none h falls =
     elim (cases_lt (slice_index (lane l new) x) (slice_index (lane l old) x)) [
       | inl lt ↦ absurd (none ((marks.marks x within).1 (inr (l, h, lt))))

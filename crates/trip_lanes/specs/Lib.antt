@@ -1,7 +1,9 @@
 pub mod Lane
 pub mod Scan
 pub mod Rows
-pub mod Riders
+pub mod Ranks
 pub mod Columns
 pub mod Walks
 pub mod Falls
+pub mod Cut
+pub mod Since

@@ -1,6 +1,7 @@
 //! When the trips of a line arrive at one of its places, and depart there.
 ghost use Rattle.std.specs.Prelude.{◌≡◌, ◌<◌};
 ghost use Rattle.trip_lanes.specs.Columns.{IsColumn, arrives, departs};
+ghost use Rattle.trip_lanes.specs.Cut.{cut};
 
 use timetable::Times;
 
@@ -15,22 +16,36 @@ pub(crate) struct Column<'a> {
     pub place: usize,
     /// How many trips the line has.
     pub trips: usize,
+    /// From when on times are counted, in seconds.
+    pub base: u32,
+    /// How far they are counted: a time that is later by this much, or more, is told as this much.
+    pub cap: u32,
 }
 
-/// When the trip of a rank arrives, in seconds.
+/// A time as labels tell it: counted from the base, and no further than the cap.
+fn told(time: u32, base: u32, cap: u32) -> u32
+    ensures { result ≡ cut base cap time }
+{
+    let since = if time < base { 0 } else { time - base };
+    if since < cap { since } else { cap }
+}
+
+/// When the trip of a rank arrives, as labels tell it.
 pub(crate) fn arrival(column: Column<'_>, rank: usize) -> u32
     requires column { IsColumn column }
     requires rank { rank < column.trips }
     ensures { result ≡ arrives column.entry rank }
 {
-    column.times[rank * column.places + column.place].arrive
+    let time = column.times[rank * column.places + column.place].arrive;
+    told(time, column.base, column.cap)
 }
 
-/// When the trip of a rank departs, in seconds.
+/// When the trip of a rank departs, as labels tell it.
 pub(crate) fn departure(column: Column<'_>, rank: usize) -> u32
     requires column { IsColumn column }
     requires rank { rank < column.trips }
     ensures { result ≡ departs column.entry rank }
 {
-    column.times[rank * column.places + column.place].depart
+    let time = column.times[rank * column.places + column.place].depart;
+    told(time, column.base, column.cap)
 }

@@ -1,16 +1,17 @@
 ghost use Rattle.std.specs.Prelude.{◌≡◌, ℕ, ◌<◌, ◌≤◌, length, min, max, cond, nat_le, slice_index, slice_get, Some, IsTrue, ◌↔◌, ◌⊎◌};
-ghost use Rattle.trip_lanes.specs.Lane.{SomeFell, lane, MarksFallen};
+ghost use Rattle.trip_lanes.specs.Lane.{SomeFell, lane, labels_in, MarksFallen, MarksFallenOf};
 ghost use Rattle.timetable.specs.Steps.{Lowers, Carries};
 ghost use Rattle.timetable.specs.declared.trips.Event.{Event};
 ghost use Rattle.trip_lanes.specs.declared.lanes.TheConstants.{LANES};
 
 use crate::lanes::{LANES, Lanes};
+use crate::rows::Row;
 use std::simd::prelude::*;
 use std::simd::u32x16;
 use timetable::{NEVER, Trip};
 
 /// Lowers each lane that is aboard, whose bar is 0, to the arrival.
-pub(crate) fn alight(old: Lanes, bar: Lanes, arrive: u32) -> Lanes
+fn alight(old: Lanes, bar: Lanes, arrive: u32) -> Lanes
     ensures { (l : ℕ) → l < LANES → slice_index result l ≡ min (slice_index old l) (max (slice_index bar l) arrive) }
 {
     let best = u32x16::from_array(bar).simd_max(u32x16::splat(arrive));
@@ -28,20 +29,11 @@ fn board(ready: Lanes, bar: Lanes, depart: u32) -> Lanes
 }
 
 /// Whether some lane is lower.
-pub fn fell(new: Lanes, old: Lanes) -> bool
+fn fell(new: Lanes, old: Lanes) -> bool
     ensures { IsTrue result ↔ SomeFell new old }
 {
     let lower = u32x16::from_array(new).simd_lt(u32x16::from_array(old));
     lower.any()
-}
-
-/// Whether some lane is lower, where none is higher.
-fn changed(new: Lanes, old: Lanes) -> bool
-    requires { (l : ℕ) → l < LANES → slice_index new l ≤ slice_index old l }
-    ensures { IsTrue result ↔ SomeFell new old }
-{
-    let other = u32x16::from_array(new).simd_ne(u32x16::from_array(old));
-    other.any()
 }
 
 /// The lower of both, in each lane.
@@ -54,15 +46,15 @@ pub fn lower_of(old: Lanes, new: Lanes) -> Lanes
 }
 
 /// Lowers the lanes of a stop to these times, and marks the stop where one fell.
-pub fn lower_marked(labels: &mut [Lanes], marked: &mut [bool], stop: usize, times: Lanes)
+pub fn lower_row<R: Row>(labels: &mut [R], marked: &mut [bool], stop: usize, times: R)
     requires stop { stop < length labels.old }
     requires same { length marked.old ≡ length labels.old }
-    ensures lanes { (l : ℕ) → l < LANES → Lowers (λ p x. (p ≡ stop) × (x ≡ slice_index times l)) (lane l labels.old) (lane l labels.new) }
-    ensures marks { MarksFallen labels.old labels.new marked.old marked.new }
+    ensures lanes { (l : ℕ) → l < R.LANES → Lowers (λ p x. (p ≡ stop) × (x ≡ slice_index (R.labels times) l)) (lane l (labels_in R.labels labels.old)) (lane l (labels_in R.labels labels.new)) }
+    ensures marks { MarksFallenOf R.LANES (labels_in R.labels labels.old) (labels_in R.labels labels.new) marked.old marked.new }
 {
     let old = labels[stop];
-    let new = lower_of(old, times);
-    if changed(new, old) {
+    let new = old.lower_of(times);
+    if new.changed(old) {
         labels[stop] = new;
         marked[stop] = true;
     }

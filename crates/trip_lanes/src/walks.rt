@@ -1,13 +1,11 @@
 //! Walks, and changes between two vehicles, in each lane.
-ghost use Rattle.std.specs.Prelude.{◌≡◌, ◌≢◌, ℕ, ◌+◌, ◌^◌, ◌<◌, ◌≤◌, length, min, slice_index, slice_get, Some, true, All};
-ghost use Rattle.trip_lanes.specs.Lane.{lane, LeavesLater, MarksFallen};
-ghost use Rattle.trip_lanes.specs.Scan.{NothingLower};
-ghost use Rattle.trip_lanes.specs.Walks.{OfferedFrom, TransferredFrom};
+ghost use Rattle.std.specs.Prelude.{◌≡◌, ◌≢◌, ℕ, ◌+◌, ◌^◌, ◌<◌, ◌≤◌, length, min, slice_index, slice_get, Some};
+ghost use Rattle.trip_lanes.specs.Lane.{lane, LeavesLater};
 ghost use Rattle.timetable.specs.Steps.{Lowers, WalkedOrStayed, ChangedOrWalked};
-ghost use Rattle.timetable.specs.declared.limits.TheConstants.{MOST_FOOT_SECONDS, MOST_CHANGE_SECONDS, END_OF_AXIS};
+ghost use Rattle.timetable.specs.declared.limits.TheConstants.{MOST_FOOT_SECONDS, MOST_CHANGE_SECONDS};
 ghost use Rattle.trip_lanes.specs.declared.lanes.TheConstants.{LANES};
 
-use crate::kernels::{lower_marked, lower_of};
+use crate::kernels::lower_of;
 use crate::lanes::Lanes;
 use std::simd::prelude::*;
 use std::simd::u32x16;
@@ -54,69 +52,6 @@ pub fn transfer(feet: &Feet, ride: &[Lanes], ready: &mut [Lanes])
     }
 }
 
-/// Walks from each marked stop, or stays there, in each lane, and notes the stops where a label fell. From the other stops
-/// nobody reaches a stop earlier.
-pub fn walk_marked(
-    feet: &Feet,
-    ride: &[Lanes],
-    marked: &[bool],
-    ready: &mut [Lanes],
-    fallen: &mut [bool],
-)
-    requires ride { length ride.now ≡ length feet.now.walks }
-    requires marked { length marked.now ≡ length feet.now.walks }
-    requires ready { length ready.old ≡ length feet.now.walks }
-    requires fallen { length fallen.old ≡ length feet.now.walks }
-    requires rides { (l p : ℕ) → l < LANES → slice_index (lane l ride.now) p ≢ NEVER → slice_index (lane l ride.now) p + MOST_FOOT_SECONDS < 2 ^ 32 }
-    requires fits { (l p : ℕ) → l < LANES → slice_index (lane l ready.old) p ≤ NEVER }
-    requires settled { (l x : ℕ) → l < LANES → x < length feet.now.walks → (slice_get marked.now x ≡ Some true → ⊥) → NothingLower (OfferedFrom feet.now.walks (lane l ride.now) x) (lane l ready.old) }
-    ensures lanes { (l : ℕ) → l < LANES → Lowers (WalkedOrStayed feet.now.walks (lane l ride.now)) (lane l ready.old) (lane l ready.new) }
-    ensures fallen { MarksFallen ready.old ready.new fallen.old fallen.new }
-{
-    feet.known();
-    for stop in 0..feet.stops() {
-        if marked[stop as usize] {
-            let times = ride[stop as usize];
-            lower_marked(ready, fallen, stop as usize, times);
-            walk_noting(feet.leaving(StopNo(stop)), times, ready, fallen);
-        }
-    }
-}
-
-/// Changes to another vehicle at each marked stop, or walks from there, in each lane, and notes the stops where a label
-/// fell. From the other stops nobody is ready earlier.
-pub fn transfer_marked(
-    feet: &Feet,
-    ride: &[Lanes],
-    marked: &[bool],
-    ready: &mut [Lanes],
-    fallen: &mut [bool],
-)
-    requires ride { length ride.now ≡ length feet.now.walks }
-    requires marked { length marked.now ≡ length feet.now.walks }
-    requires ready { length ready.old ≡ length feet.now.walks }
-    requires fallen { length fallen.old ≡ length feet.now.walks }
-    requires rides { (l p : ℕ) → l < LANES → slice_index (lane l ride.now) p ≢ NEVER → slice_index (lane l ride.now) p < END_OF_AXIS }
-    requires fits { (l p : ℕ) → l < LANES → slice_index (lane l ready.old) p ≤ NEVER }
-    requires settled { (l x : ℕ) → l < LANES → x < length feet.now.walks → (slice_get marked.now x ≡ Some true → ⊥) → NothingLower (TransferredFrom feet.now (lane l ride.now) x) (lane l ready.old) }
-    ensures lanes { (l : ℕ) → l < LANES → Lowers (ChangedOrWalked feet.now (lane l ride.now)) (lane l ready.old) (lane l ready.new) }
-    ensures fallen { MarksFallen ready.old ready.new fallen.old fallen.new }
-{
-    feet.known();
-    for stop in 0..feet.stops() {
-        if marked[stop as usize] {
-            let times = ride[stop as usize];
-            lower_marked(
-                ready,
-                fallen,
-                stop as usize,
-                later(times, feet.change(StopNo(stop))),
-            );
-            walk_noting(feet.leaving(StopNo(stop)), times, ready, fallen);
-        }
-    }
-}
-
 /// Walks along the footpaths that leave a stop, in each lane.
 fn walk_from(leaving: &[(StopNo, u32)], times: Lanes, ready: &mut [Lanes])
     requires { (k stop seconds : ℕ) → slice_get leaving.now k ≡ Some (record { 0 = stop }, seconds) → stop < length ready.old }
@@ -127,20 +62,8 @@ fn walk_from(leaving: &[(StopNo, u32)], times: Lanes, ready: &mut [Lanes])
     }
 }
 
-/// Walks along the footpaths that leave a stop, in each lane, and notes the stops where a label fell.
-fn walk_noting(leaving: &[(StopNo, u32)], times: Lanes, ready: &mut [Lanes], fallen: &mut [bool])
-    requires targets { (k stop seconds : ℕ) → slice_get leaving.now k ≡ Some (record { 0 = stop }, seconds) → stop < length ready.old }
-    requires fallen { length fallen.old ≡ length ready.old }
-    ensures lanes { (l : ℕ) → l < LANES → Lowers (LeavesLater leaving.now (slice_index times l)) (lane l ready.old) (lane l ready.new) }
-    ensures fallen { MarksFallen ready.old ready.new fallen.old fallen.new }
-{
-    for (to, seconds) in leaving {
-        lower_marked(ready, fallen, to.0 as usize, later(times, *seconds));
-    }
-}
-
 /// Later by some seconds; NEVER stays.
-fn later(times: Lanes, seconds: u32) -> Lanes
+pub(crate) fn later(times: Lanes, seconds: u32) -> Lanes
     ensures { (l : ℕ) → l < LANES → slice_index result l ≡ min (slice_index times l + seconds) NEVER }
 {
     let early = u32x16::from_array(times).simd_min(u32x16::splat(NEVER - seconds));

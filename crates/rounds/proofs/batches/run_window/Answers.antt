@@ -1,4 +1,4 @@
-use Rattle.std.proofs.Common.{rules, ◌≢◌, ◌≡◌, ◌<◌, ◌≤◌, ◌+◌, ◌-◌, ◌*◌, ◌/◌, ◌%◌, ◌⊎◌, inl, inr, ℕ, List, [], length, replicate, slice_index, slice_index_or, ap, refl, sym, ◌∙◌, arith, subst}
+use Rattle.std.proofs.Common.{◌≢◌, ◌≡◌, ◌<◌, ◌≤◌, ◌+◌, ◌-◌, ◌*◌, ◌/◌, ◌⊎◌, inl, inr, ℕ, List, length, replicate, slice_index, ap, refl, sym, ◌∙◌, arith, subst}
 use Rattle.std.proofs.lemmas.Bool.{cases_lt, cases_eq}
 use Rattle.std.proofs.lemmas.List.{with_items_is}
 use Rattle.std.specs.Vec.{with_items}
@@ -6,26 +6,31 @@ use Rattle.timetable.specs.declared.limits.TheConstants.{END_OF_AXIS}
 use Rattle.timetable.specs.declared.least.TheConstants.{NEVER}
 use Rattle.timetable.specs.Least.{IsLeastOrNever}
 use Rattle.timetable.specs.Journeys.{IsDuration}
-use Rattle.trip_lanes.specs.Lane.{lane}
-use Rattle.rounds.specs.Batches.{start_at}
+use Rattle.trip_lanes.specs.Lane.{lane, labels_in}
 use Rattle.rounds.specs.State.{arrival}
 use Rattle.rounds.specs.Window.{departure}
-use Rattle.rounds.specs.Table.{label_of}
-use Rattle.rounds.proofs.Clearing.{lane_never}
-use Rattle.rounds.proofs.Never.{never_state}
-use Rattle.rounds.proofs.Batch.{lane_since, lane_minute, lane_dead}
+use Rattle.rounds.specs.Table.{batches_of, label_of}
+use Rattle.rounds.proofs.Batching.{batches_reach, sixteens_reach, batch_at, turn_same, turn_begins, turn_after, turn_lives}
+use Rattle.rounds.proofs.Batch.{lane_since, lane_minute, lane_dead, bounds_never, bounds_rebased}
 use Rattle.rounds.proofs.batches.run_window.Goals as goal
 
 pub loop-i-init : goal.loop-i-init
-loop-i-init c =
+loop-i-init g c =
     let n = c.args.query.network.now in
+    let w = c.args.query.window in
     let tbl = c.args.tables.now in
+    let lanes : ℕ = c.LANES-lanes.result in
+    let same : lanes ≡ g.R.Row.LANES = c.LANES-lanes.ensures in
+    let some : 0 < lanes = omega (arith, same, g.met.R.Row.some) in
+    let whole : 16 * (lanes / 16) ≡ lanes = rw same g.met.R.Row.sixteens in
     let rides : length c.as_mut_slice.result.now ≡ n.stops = ap length c.as_mut_slice.ensures.value ∙ c.requires.tables.bound_ride in
     let readies : length c.as_mut_slice-2.result.now ≡ n.stops = ap length c.as_mut_slice-2.ensures.value ∙ c.requires.tables.bound_ready in
     let a : c.clear_kept.new.labels ≡ replicate n.stops (replicate 9 NEVER) = c.clear_kept.ensures ∙ ap (λ (m : ℕ). replicate m (replicate 9 NEVER)) rides in
     let b : c.clear_kept-2.new.labels ≡ replicate n.stops (replicate 9 NEVER) = c.clear_kept-2.ensures ∙ ap (λ (m : ℕ). replicate m (replicate 9 NEVER)) readies in
     let ride : (with_items tbl.bound_ride c.clear_kept.new.labels).items ≡ c.clear_kept.new.labels = with_items_is tbl.bound_ride c.clear_kept.new.labels (c.clear_kept.auto.labels ∙ c.as_mut_slice.ensures.len) in
     let ready : (with_items tbl.bound_ready c.clear_kept-2.new.labels).items ≡ c.clear_kept-2.new.labels = with_items_is tbl.bound_ready c.clear_kept-2.new.labels (c.clear_kept-2.auto.labels ∙ c.as_mut_slice-2.ensures.len) in
+    let reach = batches_reach lanes w.minutes some in
+    let far = sixteens_reach lanes w.minutes some whole in
     record {
       tables = record {
         ride = c.requires.tables.ride;
@@ -37,127 +42,189 @@ loop-i-init c =
         bound_ride = ap length ride ∙ (c.clear_kept.auto.labels ∙ rides);
         bound_ready = ap length ready ∙ (c.clear_kept-2.auto.labels ∙ readies);
         due = c.requires.tables.due;
-        aboard = c.requires.tables.aboard;
       };
       labels = c.requires.labels;
       last = λ _. refl;
       next = λ batch e pos. absurd (omega arith);
-      bounds = λ k few.
+      bounds = λ base k at few.
           let nine : k < 9 = omega (arith, c.requires.asked.rides) in
-          rw (ride, ready) (never_state n (start_at c.args.query NEVER) k (lane k c.clear_kept.new.labels) (lane k c.clear_kept-2.new.labels) refl
-          (ap (lane k) a ∙ lane_never n.stops 9 k nine) (ap (lane k) b ∙ lane_never n.stops 9 k nine));
-      each = λ batch p m e there l le. absurd (omega arith);
-      dead = λ batch p m e there past l le. absurd (omega arith);
+          bounds_never n c.known.ensures base g.R.Row.NEVER c.args.query.origin.0 NEVER k _ _ (ride ∙ a) (ready ∙ b) nine at.fits refl;
+      each = λ batch p m e there l le.
+          let at : g.R.Row.LANES * batch ≡ lanes * ((w.minutes + (lanes - 1)) / lanes) = ap (λ (x : ℕ). g.R.Row.LANES * x) (omega (arith, e)) ∙ ap (λ (x : ℕ). x * ((w.minutes + (lanes - 1)) / lanes)) (sym same) in
+          absurd (omega (arith, at, reach, le, l));
+      dead = λ batch p m e there past l le.
+          let at : g.R.Row.LANES * batch ≡ lanes * ((w.minutes + (lanes - 1)) / lanes) = ap (λ (x : ℕ). g.R.Row.LANES * x) (omega (arith, e)) ∙ ap (λ (x : ℕ). x * ((w.minutes + (lanes - 1)) / lanes)) (sym same) in
+          absurd (omega (arith, at, far, le, l));
     }
 
-pub run_bounded-requires-clause-batch : goal.run_bounded-requires-clause-batch
-run_bounded-requires-clause-batch c =
+pub overflow_add-first : goal.overflow_add-first
+overflow_add-first g c =
     let w = c.args.query.window in
-    let fits = c.requires.asked.fits in
-    let batches = (w.minutes + 15) / 16 in
-    let batch = batches - 1 - c.loop-i.i in
-    let later : (c.loop-i.later < END_OF_AXIS) ⊎ (c.loop-i.later ≡ NEVER) = elim (cases_eq c.loop-i.i 0) [
-      | inl first ↦ inr (c.loop-i.invariant.last first)
-      | inr more ↦
-          let e = c.loop-i.invariant.next (batches - c.loop-i.i) (omega arith) (omega arith) in
-          let t = fits.on_axis (16 * (batches - c.loop-i.i)) (omega arith) in
-          inl (omega (arith, e, t))
-    ] in
+    let some : 0 < g.R.Row.LANES = omega (arith, g.met.R.Row.some) in
+    let same = turn_same g.R.Row.LANES c.LANES-lanes.result w.minutes c.loop-i.i c.LANES-lanes.ensures some c.loop-i-test.true in
+    let begins = turn_begins g.R.Row.LANES c.LANES-lanes.result w.minutes c.loop-i.i c.LANES-lanes.ensures some c.loop-i-test.true in
+    let axis = c.requires.asked.fits.on_axis _ begins in
+    omega (arith, axis, same)
+
+pub base_of-base-requires : goal.base_of-base-requires
+base_of-base-requires g c =
+    let w = c.args.query.window in
+    let some : 0 < g.R.Row.LANES = omega (arith, g.met.R.Row.some) in
+    let same = turn_same g.R.Row.LANES c.LANES-lanes.result w.minutes c.loop-i.i c.LANES-lanes.ensures some c.loop-i-test.true in
+    let begins = turn_begins g.R.Row.LANES c.LANES-lanes.result w.minutes c.loop-i.i c.LANES-lanes.ensures some c.loop-i-test.true in
+    let axis = c.requires.asked.fits.on_axis _ begins in
+    omega (arith, axis, same)
+
+pub run_bounded-requires-clause-batch : goal.run_bounded-requires-clause-batch
+run_bounded-requires-clause-batch g c =
+    let w = c.args.query.window in
+    let lanes = g.R.Row.LANES in
+    let some : 0 < lanes = omega (arith, g.met.R.Row.some) in
+    let batch = batch_at c.LANES-lanes.result w.minutes c.loop-i.i in
+    let same = turn_same lanes c.LANES-lanes.result w.minutes c.loop-i.i c.LANES-lanes.ensures some c.loop-i-test.true in
+    let base = c.base_of-base.ensures in
     record {
+      base = base.fits;
       departs = λ l h.
-          let d = c.departs_of-departs.ensures l h in
-          elim (cases_lt (16 * batch + l) w.minutes) [
-            | inl lt ↦ let t = d.live lt in let e = fits.on_axis (16 * batch + l) lt in inl (omega (arith, t, e))
-            | inr ge ↦ inr (d.dead ge)
+          let d = c.minutely-departs.ensures l h in
+          elim (cases_lt l (w.minutes - c.LANES-lanes.result * batch)) [
+            | inl lt ↦ let t = d.live lt in omega (arith, t, base.near, h)
+            | inr ge ↦ let t = d.dead ge in omega (arith, t)
           ];
-      later = later;
       none_later = λ l h.
-          let d = c.departs_of-departs.ensures l h in
+          let d = c.minutely-departs.ensures l h in
           elim (cases_eq c.loop-i.i 0) [
             | inl first ↦
                 let e = c.loop-i.invariant.last first in
-                elim (cases_lt (16 * batch + l) w.minutes) [
-                  | inl lt ↦ let t = d.live lt in let a = fits.on_axis (16 * batch + l) lt in omega (arith, e, t, a)
-                  | inr ge ↦ let t = d.dead ge in omega (arith, e, t)
+                elim (cases_lt l (w.minutes - c.LANES-lanes.result * batch)) [
+                  | inl lt ↦ let t = d.live lt in omega (arith, t, e, base.near, base.fits, h)
+                  | inr ge ↦ let t = d.dead ge in omega (arith, t, e, base.fits)
                 ]
             | inr more ↦
-                let e = c.loop-i.invariant.next (batches - c.loop-i.i) (omega arith) (omega arith) in
-                let lt : 16 * batch + l < w.minutes = omega arith in
-                let t = d.live lt in
-                omega (arith, e, t)
+                let e = c.loop-i.invariant.next (batch + 1) (omega (arith, c.loop-i-test.true, more)) (omega (arith, more)) in
+                let after = turn_after lanes c.LANES-lanes.result w.minutes c.loop-i.i c.LANES-lanes.ensures some c.loop-i-test.true in
+                let lives = turn_lives lanes c.LANES-lanes.result w.minutes c.loop-i.i c.LANES-lanes.ensures some c.loop-i-test.true (omega (arith, more)) in
+                let t = d.live (omega (arith, lives, same, h)) in
+                omega (arith, e, after, same, t, base.near, base.within, h)
           ];
     }
 
-pub write_batch-requires-clause-fits : goal.write_batch-requires-clause-fits
-write_batch-requires-clause-fits c l p h = rw (c.as_slice-ready.ensures.value) ((c.run_bounded.ensures.states l h).ready_fits p)
+pub run_bounded-requires-clause-bounds : goal.run_bounded-requires-clause-bounds
+run_bounded-requires-clause-bounds g c k few =
+    let w = c.args.query.window in
+    let lanes = g.R.Row.LANES in
+    let some : 0 < lanes = omega (arith, g.met.R.Row.some) in
+    let batch = batch_at c.LANES-lanes.result w.minutes c.loop-i.i in
+    let same = turn_same lanes c.LANES-lanes.result w.minutes c.loop-i.i c.LANES-lanes.ensures some c.loop-i-test.true in
+    let begins = turn_begins lanes c.LANES-lanes.result w.minutes c.loop-i.i c.LANES-lanes.ensures some c.loop-i-test.true in
+    let axis = c.requires.asked.fits.on_axis _ begins in
+    let base = c.base_of-base.ensures in
+    let later : (c.loop-i.later ≡ NEVER) ⊎ (c.loop-i.later ≡ w.first + 60 * (lanes * batch) + 60 * lanes) = elim (cases_eq c.loop-i.i 0) [
+      | inl first ↦ inl (c.loop-i.invariant.last first)
+      | inr more ↦
+          let e = c.loop-i.invariant.next (batch + 1) (omega (arith, c.loop-i-test.true, more)) (omega (arith, more)) in
+          let after = turn_after lanes c.LANES-lanes.result w.minutes c.loop-i.i c.LANES-lanes.ensures some c.loop-i-test.true in
+          inr (omega (arith, e, after))
+    ] in
+    c.loop-i.invariant.bounds c.base_of-base.result k (record {
+      fits = base.fits;
+      live = elim base.before [
+        | inl none ↦ inl none
+        | inr l ↦ elim (cases_lt (g.R.Row.NEVER + END_OF_AXIS) NEVER) [
+          | inl short ↦ inr (elim later [ inl e ↦ omega (arith, l, same, axis, e) | inr e ↦ omega (arith, l, same, e) ], short)
+          | inr long ↦ inl (base.long long)
+        ]
+      ];
+      near = elim later [ inl e ↦ inl e | inr e ↦ inr (omega (arith, e, same, base.near, base.within)) ];
+    }) few
 
 pub write_batch-requires-clause-since : goal.write_batch-requires-clause-since
-write_batch-requires-clause-since c l p h within reached =
+write_batch-requires-clause-since g c l p h within reached =
     let n = c.args.query.network.now in
     let w = c.args.query.window in
-    let batch = (w.minutes + 15) / 16 - 1 - c.loop-i.i in
-    let state = c.run_bounded.ensures.states l h in
-    let there : p < n.stops = omega (arith, within, ap length c.as_slice-ready.ensures.value, c.run_bounded.ensures.tables.ready) in
-    let now : arrival (lane l c.run_bounded.new.tables.ride.items) (lane l c.run_bounded.new.tables.ready.items) p ≢ NEVER = rw (c.as_slice-ride.ensures.value, c.as_slice-ready.ensures.value) at reached in
-    rw (c.as_slice-ride.ensures.value, c.as_slice-ready.ensures.value) (
-    elim (cases_lt (16 * batch + l) w.minutes) [
-      | inl below ↦
-          lane_since n c.known.ensures c.args.query.origin.0 c.requires.asked.origin w c.requires.asked.fits c.args.query.rides (lane l c.run_bounded.new.tables.ride.items) (lane l c.run_bounded.new.tables.ready.items) (slice_index c.departs_of-departs.result l) (16 * batch + l) p
-          ((c.departs_of-departs.ensures l h).live below) below state there now
-      | inr past ↦ absurd (now (lane_dead n c.args.query.origin.0 c.args.query.rides (lane l c.run_bounded.new.tables.ride.items) (lane l c.run_bounded.new.tables.ready.items) (slice_index c.departs_of-departs.result l) p state there ((c.departs_of-departs.ensures l h).dead past)))
-    ])
+    let lanes = g.R.Row.LANES in
+    let some : 0 < lanes = omega (arith, g.met.R.Row.some) in
+    let batch = batch_at c.LANES-lanes.result w.minutes c.loop-i.i in
+    let same = turn_same lanes c.LANES-lanes.result w.minutes c.loop-i.i c.LANES-lanes.ensures some c.loop-i-test.true in
+    let base = c.base_of-base.ensures in
+    let ride = lane l (labels_in g.R.Row.labels c.run_bounded.new.tables.ride.items) in
+    let ready = lane l (labels_in g.R.Row.labels c.run_bounded.new.tables.ready.items) in
+    let time : ℕ = slice_index (g.R.Row.labels c.minutely-departs.result) l in
+    let there : p < n.stops = omega (arith, within, c.run_bounded.ensures.tables.ready) in
+    let d = c.minutely-departs.ensures l h in
+    elim (cases_lt l (w.minutes - c.LANES-lanes.result * batch)) [
+      | inl lt ↦
+          let t = d.live lt in
+          lane_since n c.known.ensures c.base_of-base.result g.R.Row.NEVER c.args.query.origin.0 time (time + c.base_of-base.result) refl (elim base.before [ inl none ↦ inr none | inr after ↦ inl (omega (arith, after, t)) ]) c.args.query.rides ride ready (c.run_bounded.ensures.states l h) p there reached
+      | inr ge ↦ absurd (reached (lane_dead n c.known.ensures c.base_of-base.result g.R.Row.NEVER c.args.query.origin.0 time c.args.query.rides ride ready (omega (arith, base.near)) (d.dead ge) (c.run_bounded.ensures.states l h) p there))
+    ]
 
 pub loop-i-preserved : goal.loop-i-preserved
-loop-i-preserved c =
+loop-i-preserved g c =
     let n = c.args.query.network.now in
     let w = c.args.query.window in
+    let lanes = g.R.Row.LANES in
+    let never = g.R.Row.NEVER in
     let old = c.loop-i.invariant in
-    let batches = (w.minutes + 15) / 16 in
-    let batch = batches - 1 - c.loop-i.i in
-    let ready_len : length c.run_bounded.new.tables.ready.items ≡ n.stops = c.run_bounded.ensures.tables.ready in
-    let kept : (p m : ℕ) → m < 16 * batches → 16 * batch + 16 ≤ m → label_of w.minutes c.write_batch.new.labels p m ≡ label_of w.minutes c.loop-i.labels p m =
-    λ p m l past. ap (λ (row : List ℕ). slice_index row (m % 16)) (c.write_batch.ensures.kept p (m / 16) (omega (arith, l)) (λ e. omega (arith, e, past))) in
+    let some : 0 < lanes = omega (arith, g.met.R.Row.some) in
+    let batch : ℕ = batch_at c.LANES-lanes.result w.minutes c.loop-i.i in
+    let same : c.LANES-lanes.result * batch ≡ lanes * batch = turn_same lanes c.LANES-lanes.result w.minutes c.loop-i.i c.LANES-lanes.ensures some c.loop-i-test.true in
+    let begins : lanes * batch < w.minutes = turn_begins lanes c.LANES-lanes.result w.minutes c.loop-i.i c.LANES-lanes.ensures some c.loop-i-test.true in
+    let after : lanes * (batch + 1) ≡ lanes * batch + lanes = turn_after lanes c.LANES-lanes.result w.minutes c.loop-i.i c.LANES-lanes.ensures some c.loop-i-test.true in
+    let base = c.base_of-base.ensures in
+    let first : ℕ = w.first + 60 * (c.LANES-lanes.result * batch) in
+    let axis = c.requires.asked.fits.on_axis _ begins in
+    let head = (c.minutely-departs.ensures 0 some).live (omega (arith, begins, same)) in
+    let of_batch : (b : ℕ) → b + (c.loop-i.i + 1) ≡ (w.minutes + (c.LANES-lanes.result - 1)) / c.LANES-lanes.result → lanes * b ≡ lanes * batch = λ b e. ap (λ (x : ℕ). lanes * x) (omega (arith, e)) in
+    let ride : ℕ → List ℕ = λ l. lane l (labels_in g.R.Row.labels c.run_bounded.new.tables.ride.items) in
+    let ready : ℕ → List ℕ = λ l. lane l (labels_in g.R.Row.labels c.run_bounded.new.tables.ready.items) in
+    let time : ℕ → ℕ = λ l. slice_index (g.R.Row.labels c.minutely-departs.result) l in
+    let kept : (p m : ℕ) → m < 16 * batches_of w.minutes → lanes * batch + lanes ≤ m → label_of w.minutes c.write_batch.new.labels p m ≡ label_of w.minutes c.loop-i.labels p m = λ p m l past. c.write_batch.ensures.kept p m l (inr (omega (arith, past, same))) in
+    let within : (p : ℕ) → p < n.stops → p < length c.run_bounded.new.tables.ready.items = λ p there. omega (arith, there, c.run_bounded.ensures.tables.ready) in
     record {
       tables = c.run_bounded.ensures.tables;
       labels = c.write_batch.ensures.same ∙ old.labels;
       last = λ e. absurd (omega arith);
-      next = λ b e pos.
-          let same : b ≡ batch = omega arith in
-          let lt : 16 * batch + 0 < w.minutes = omega arith in
-          let t = (c.departs_of-departs.ensures 0 (omega arith)).live lt in
-          omega (arith, t, same);
-      bounds = λ k few. c.run_bounded.ensures.kept k few;
+      next = λ b e pos. let f = of_batch b e in omega (arith, f, same);
+      bounds = λ sooner k at few.
+          bounds_rebased n c.known.ensures c.base_of-base.result never c.args.query.origin.0 (time 0) first k c.run_bounded.new.tables.bound_ride.items c.run_bounded.new.tables.bound_ready.items (omega (arith, axis, same)) base.within base.before base.short (omega (arith, head)) (c.run_bounded.ensures.kept k few) sooner at;
       each = λ b p m e there l le.
-          elim (cases_lt m (16 * batch + 16)) [
+          let f = of_batch b e in
+          elim (cases_lt m (lanes * batch + lanes)) [
             | inl lt ↦
-                let k : ℕ = m % 16 in
-                let h : k < 16 = omega arith in
-                let at : 16 * batch + k ≡ m = omega arith in
-                let place : batch ≡ m / 16 = omega arith in
-                let since = rw (c.as_slice-ride.ensures.value, c.as_slice-ready.ensures.value) at (c.write_batch.ensures.written k p h (omega (arith, ap length c.as_slice-ready.ensures.value, ready_len))) in
-                let live = (c.departs_of-departs.ensures k h).live (omega arith) in
-                let departs : slice_index c.departs_of-departs.result k ≡ departure w m = live ∙ ap (λ (i : ℕ). departure w i) at in
-                subst (λ (i : ℕ). IsLeastOrNever (IsDuration n c.args.query.origin.0 (departure w m) c.args.query.rides p) (slice_index (slice_index_or c.write_batch.new.labels (p * batches + i) []) k)) place
-                (lane_minute n c.known.ensures c.args.query.origin.0 c.requires.asked.origin w c.requires.asked.fits c.args.query.rides (lane k c.run_bounded.new.tables.ride.items) (lane k c.run_bounded.new.tables.ready.items) (slice_index c.departs_of-departs.result k) m p
-                departs l (c.run_bounded.ensures.states k h) there _ since)
+                let k : ℕ = m - lanes * batch in
+                let h : k < lanes = omega (arith, lt, some) in
+                let at : lanes * batch + k ≡ m = omega (arith, f, le) in
+                let t = (c.minutely-departs.ensures k h).live (omega (arith, l, f, le, same)) in
+                let in_ready : p < length c.as_slice-ready.result.now = omega (arith, within p there, ap length c.as_slice-ready.ensures.value) in
+                let departs : time k ≢ never = λ late. omega (arith, late, t, h, base.near) in
+                let told : arrival (ride k) (ready k) p ≡ never → slice_index c.args.last.now p < c.base_of-base.result + never = λ late. c.are_told.ensures.told c.if-not-are_told.false k p h in_ready departs (rw (c.as_slice-ride.ensures.value, c.as_slice-ready.ensures.value) late) in
+                subst (λ (i : ℕ). IsLeastOrNever (IsDuration n c.args.query.origin.0 (departure w m) c.args.query.rides p) (label_of w.minutes c.write_batch.new.labels p i)) at
+                (lane_minute n c.known.ensures c.base_of-base.result never c.args.query.origin.0 (time k) (departure w m) (omega (arith, t, at, same, base.within)) (elim base.before [ inl none ↦ inr none | inr before ↦ inl (omega (arith, before, t)) ]) c.args.query.rides (ride k) (ready k) (c.run_bounded.ensures.states k h) p there c.args.last.now c.requires.last (omega (arith, g.met.R.Row.never_fits)) (omega (arith, at, h, same, base.near, base.within)) told _
+                (c.write_batch.ensures.written k p h (within p there) (omega (arith, at, l))))
             | inr ge ↦
-                subst (λ (y : ℕ). IsLeastOrNever (IsDuration n c.args.query.origin.0 (departure w m) c.args.query.rides p) y) (sym (kept p m (omega arith) (omega arith))) (old.each (batch + 1) p m (omega arith) there l (omega arith))
+                subst (λ (y : ℕ). IsLeastOrNever (IsDuration n c.args.query.origin.0 (departure w m) c.args.query.rides p) y) (sym (kept p m (omega (arith, l)) ge)) (old.each (batch + 1) p m (omega (arith, c.loop-i-test.true)) there l (omega (arith, after, ge)))
           ];
       dead = λ b p m e there past l le.
-          elim (cases_lt m (16 * batch + 16)) [
+          let f = of_batch b e in
+          elim (cases_lt m (lanes * batch + lanes)) [
             | inl lt ↦
-                let k : ℕ = m % 16 in
-                let h : k < 16 = omega arith in
-                let place : batch ≡ m / 16 = omega arith in
-                let since = rw (c.as_slice-ride.ensures.value, c.as_slice-ready.ensures.value) at (c.write_batch.ensures.written k p h (omega (arith, ap length c.as_slice-ready.ensures.value, ready_len))) in
-                let never = lane_dead n c.args.query.origin.0 c.args.query.rides (lane k c.run_bounded.new.tables.ride.items) (lane k c.run_bounded.new.tables.ready.items) (slice_index c.departs_of-departs.result k) p (c.run_bounded.ensures.states k h) there ((c.departs_of-departs.ensures k h).dead (omega arith)) in
-                subst (λ (i : ℕ). slice_index (slice_index_or c.write_batch.new.labels (p * batches + i) []) k ≡ NEVER) place (since.never never)
-            | inr ge ↦ kept p m l (omega arith) ∙ old.dead (batch + 1) p m (omega arith) there past l (omega arith)
+                let k : ℕ = m - lanes * batch in
+                let h : k < lanes = omega (arith, lt, some) in
+                let at : lanes * batch + k ≡ m = omega (arith, f, le) in
+                let late = (c.minutely-departs.ensures k h).dead (omega (arith, past, same)) in
+                let since = c.write_batch.ensures.written k p h (within p there) (omega (arith, at, l)) in
+                subst (λ (i : ℕ). label_of w.minutes c.write_batch.new.labels p i ≡ NEVER) at
+                (since.never_so (lane_dead n c.known.ensures c.base_of-base.result never c.args.query.origin.0 (time k) c.args.query.rides (ride k) (ready k) (omega (arith, base.near)) late (c.run_bounded.ensures.states k h) p there))
+            | inr ge ↦ kept p m l ge ∙ old.dead (batch + 1) p m (omega (arith, c.loop-i-test.true)) there past l (omega (arith, after, ge))
           ];
     }
 
-pub returns-clause-each : goal.returns-clause-each
-returns-clause-each c p m there l = c.loop-i.invariant.each 0 p m (omega arith) there l (omega arith)
-
-pub returns-clause-dead : goal.returns-clause-dead
-returns-clause-dead c p m there past l = c.loop-i.invariant.dead 0 p m (omega arith) there past l (omega arith)
+pub returns-clause-told : goal.returns-clause-told
+returns-clause-told g c _ =
+    let inv = c.loop-i.invariant in
+    record {
+      size = inv.labels;
+      each = λ p m there l. inv.each 0 p m (omega (arith, c.loop-i-test.false, c.loop-i.auto.i-end)) there l (omega arith);
+      dead = λ p m there past l. inv.dead 0 p m (omega (arith, c.loop-i-test.false, c.loop-i.auto.i-end)) there past l (omega arith);
+    }

@@ -2,24 +2,27 @@ use Rattle.std.proofs.Common.{◌≡◌, ℕ, ◌+◌, ◌*◌, ◌<◌, ◌≤�
 use Rattle.timetable.specs.declared.least.TheConstants.{NEVER}
 use Rattle.timetable.specs.Least.{IsLeastOrNever}
 use Rattle.timetable.specs.Journeys.{IsDuration}
-use Rattle.trip_lanes.specs.Lane.{lane}
+use Rattle.trip_lanes.specs.Cut.{cut}
 use Rattle.rounds.specs.Window.{departure}
 use Rattle.rounds.specs.Table.{batches_of, label_of}
-use Rattle.rounds.specs.State.{LaneState}
-use Rattle.rounds.specs.Batches.{start_at}
+use Rattle.rounds.specs.Cut.{cut_net}
+use Rattle.rounds.specs.Labels.{LaneStateTo}
+use Rattle.rounds.specs.Batches.{start_at, bounds_in}
 use Rattle.rounds.specs.Query.{AreTablesFor}
+use Rattle.rounds.proofs.Batch.{IsBaseTo}
 use Rattle.rounds.proofs.batches.run_window.Given as goal
 
 abbrev pub invariant-loop-i : goal.invariant-loop-i
-invariant-loop-i v =
+invariant-loop-i g v =
     record {
       tables : AreTablesFor v.query.network.now.stops v.query.lines.now v.tables;
       labels : length v.labels ≡ v.query.network.now.stops * batches_of v.query.window.minutes;
       last : v.i ≡ 0 → v.later ≡ NEVER;
-      next : (batch : ℕ) → batch + v.i ≡ v.batches → 0 < v.i → v.later ≡ departure v.query.window (16 * batch);
-      bounds : (k : ℕ) → k ≤ v.query.rides → LaneState v.query.network.now (start_at v.query v.later) k (lane k v.tables.bound_ride.items) (lane k v.tables.bound_ready.items);
-      each : (batch p m : ℕ) → batch + v.i ≡ v.batches → p < v.query.network.now.stops → m < v.query.window.minutes → 16 * batch ≤ m →
+      next : (batch : ℕ) → batch + v.i ≡ v.batches → 0 < v.i → v.later ≡ departure v.query.window (g.R.Row.LANES * batch);
+      bounds : (base k : ℕ) → IsBaseTo g.R.Row.NEVER v.later base → k ≤ v.query.rides →
+          LaneStateTo g.R.Row.NEVER (cut_net base g.R.Row.NEVER v.query.network.now) (start_at v.query (cut base g.R.Row.NEVER v.later)) k (bounds_in base g.R.Row.NEVER k v.tables.bound_ride.items) (bounds_in base g.R.Row.NEVER k v.tables.bound_ready.items);
+      each : (batch p m : ℕ) → batch + v.i ≡ v.batches → p < v.query.network.now.stops → m < v.query.window.minutes → g.R.Row.LANES * batch ≤ m →
           IsLeastOrNever (IsDuration v.query.network.now v.query.origin.0 (departure v.query.window m) v.query.rides p) (label_of v.query.window.minutes v.labels p m);
-      dead : (batch p m : ℕ) → batch + v.i ≡ v.batches → p < v.query.network.now.stops → v.query.window.minutes ≤ m → m < 16 * batches_of v.query.window.minutes → 16 * batch ≤ m →
+      dead : (batch p m : ℕ) → batch + v.i ≡ v.batches → p < v.query.network.now.stops → v.query.window.minutes ≤ m → m < 16 * batches_of v.query.window.minutes → g.R.Row.LANES * batch ≤ m →
           label_of v.query.window.minutes v.labels p m ≡ NEVER;
     }

@@ -1,42 +1,38 @@
-use Rattle.std.proofs.Common.{◌≡◌, ◌≢◌, ℕ, ◌+◌, ◌*◌, ◌<◌, ◌≤◌, inl, inr, [], List, length, min, get_or, slice_index, arith, sym, ◌∙◌, subst}
-use Rattle.std.proofs.lemmas.Bool.{cases_lt}
-use Rattle.std.proofs.lemmas.List.{length-set}
-use Rattle.timetable.specs.declared.least.TheConstants.{NEVER}
-use Rattle.trip_lanes.specs.Lane.{lane}
-use Rattle.trip_lanes.proofs.Lower.{lane_old}
-use Rattle.rounds.specs.Minutes.{IsSince}
+use Rattle.std.proofs.Common.{◌≡◌, ℕ, ◌+◌, ◌*◌, ◌/◌, ◌%◌, ◌<◌, ◌≤◌, ◌⊎◌, inl, inr, [], List, slice_index, slice_index_or, ap, subst, arith}
+use Rattle.trip_lanes.specs.Lane.{lane, labels_in}
+use Rattle.trip_lanes.specs.Since.{IsSinceTo}
 use Rattle.rounds.specs.State.{arrival}
-use Rattle.rounds.proofs.Filling.{place_before, placed, apart}
+use Rattle.rounds.proofs.Batching.{part_of, lane_of}
 use Rattle.rounds.proofs.batches.write_batch.Goals as goal
 
--- the lower label of a stop, in a lane
-lower_read : (ride ready : List (List ℕ)) (low : List ℕ) (s l : ℕ) → s < length ride → s < length ready → slice_index low l ≡ min (slice_index (get_or ride s []) l) (slice_index (get_or ready s []) l) → slice_index low l ≡ arrival (lane l ride) (lane l ready) s
-lower_read ride ready low s l in_ride in_ready e = e ∙ (λ i. min (sym (lane_old ride s l in_ride) i) (sym (lane_old ready s l in_ready) i))
-
-pub loop-stop-preserved : goal.loop-stop-preserved
-loop-stop-preserved c =
-    let s = c.loop-stop.stop in
-    let w = c.args.batches in
+pub returns-clause-written : goal.returns-clause-written
+returns-clause-written g c l p h there within =
+    let lanes = g.R.Row.LANES in
+    let labels = g.R.Row.labels in
     let b = c.args.batch in
-    let old = c.loop-stop.invariant in
-    let labels = c.loop-stop.labels in
-    let times = c.since-times.result in
-    let place = place_before w s (length c.args.ready.now) b c.loop-stop-test.true c.requires.batch in
-    let room : s * w + b < length labels = omega (arith, place, old.same, c.requires.room) in
-    record {
-      same = length-set labels (s * w + b) times ∙ old.same;
-      written = λ l p h below. elim (cases_lt p s) [
-        | inl less ↦
-            let kept = apart labels times w s b p b c.requires.batch c.requires.batch (λ e. let same = e.0 in omega arith) in
-            subst (λ (row : List ℕ). IsSince (slice_index c.args.departs l) (arrival (lane l c.args.ride.now) (lane l c.args.ready.now) p) (slice_index row l)) (sym kept) (old.written l p h less)
-        | inr ge ↦
-            let e : p ≡ s = omega arith in
-            let here = placed labels times w s b room in
-            let read = lower_read c.args.ride.now c.args.ready.now c.lower_of-arrived.result s l (omega (arith, c.requires.same)) c.loop-stop-test.true (c.lower_of-arrived.ensures l h) in
-            let late = subst (λ (x : ℕ). x ≢ NEVER → slice_index c.args.departs l ≤ x) (sym read) (c.requires.since l s h c.loop-stop-test.true) in
-            rw e (subst (λ (row : List ℕ). IsSince (slice_index c.args.departs l) (arrival (lane l c.args.ride.now) (lane l c.args.ready.now) s) (slice_index row l)) (sym here)
-            (subst (λ (x : ℕ). IsSince (slice_index c.args.departs l) x (slice_index times l)) read
-            (c.since-times.ensures l h (let f = c.requires.fits l s h in omega (arith, read)) late)))
-      ];
-      kept = λ p k l ne. apart labels times w s b p k c.requires.batch l (λ e. ne e.1) ∙ old.kept p k l ne;
-    }
+    let batches = (c.args.minutes + 15) / 16 in
+    let whole : 16 * (lanes / 16) ≡ lanes = g.met.R.Row.sixteens in
+    let parts : c.LANES-parts.result / 16 ≡ lanes / 16 = ap (λ (x : ℕ). x / 16) c.LANES-parts.ensures in
+    let begun : c.LANES-parts.result / 16 * b ≡ lanes / 16 * b = ap (λ (x : ℕ). x * b) parts in
+    let place : (lanes * b + l) / 16 ≡ lanes / 16 * b + l / 16 = part_of lanes b l whole in
+    let which : (lanes * b + l) % 16 ≡ l % 16 = lane_of lanes b l whole in
+    let same : 16 * (l / 16) + l % 16 ≡ l = omega arith in
+    let at : c.LANES-parts.result / 16 * b + l / 16 ≡ (lanes * b + l) / 16 = omega (arith, begun, place) in
+    let w = c.loop-part.invariant.written (l / 16) (l % 16) p (omega (arith, h, whole, parts, c.loop-part-test.false)) (omega arith) there (omega (arith, at, within)) in
+    rw which (subst (λ (i : ℕ). IsSinceTo g.R.Row.NEVER (slice_index (labels c.args.departs) l) (arrival (lane l (labels_in labels c.args.tables.now.ride.items)) (lane l (labels_in labels c.args.tables.now.ready.items)) p) (slice_index (slice_index_or c.loop-part.labels (p * batches + i) []) (l % 16))) at
+    (subst (λ (i : ℕ). IsSinceTo g.R.Row.NEVER (slice_index (labels c.args.departs) i) (arrival (lane i (labels_in labels c.args.tables.now.ride.items)) (lane i (labels_in labels c.args.tables.now.ready.items)) p) (slice_index (slice_index_or c.loop-part.labels (p * batches + (c.LANES-parts.result / 16 * b + l / 16)) []) (l % 16))) same w))
+
+pub returns-clause-kept : goal.returns-clause-kept
+returns-clause-kept g c p m within apart =
+    let lanes = g.R.Row.LANES in
+    let b = c.args.batch in
+    let whole : 16 * (lanes / 16) ≡ lanes = g.met.R.Row.sixteens in
+    let parts : c.LANES-parts.result / 16 ≡ lanes / 16 = ap (λ (x : ℕ). x / 16) c.LANES-parts.ensures in
+    let begun : c.LANES-parts.result / 16 * b ≡ lanes / 16 * b = ap (λ (x : ℕ). x * b) parts in
+    let first : (lanes * b + 0) / 16 ≡ lanes / 16 * b + 0 / 16 = part_of lanes b 0 whole in
+    let none : (lanes * b + 0) % 16 ≡ 0 % 16 = lane_of lanes b 0 whole in
+    let other : (m / 16 < c.LANES-parts.result / 16 * b) ⊎ (c.LANES-parts.result / 16 * b + c.loop-part.part ≤ m / 16) = elim apart [
+      | inl before ↦ inl (omega (arith, before, begun, first, none))
+      | inr after ↦ inr (omega (arith, after, begun, first, none, whole, parts, c.loop-part.auto.part-end))
+    ] in
+    ap (λ (row : List ℕ). slice_index row (m % 16)) (c.loop-part.invariant.kept p (m / 16) (omega (arith, within)) other)

@@ -1,44 +1,44 @@
-use Rattle.std.proofs.Common.{rules, ◌≡◌, ◌≢◌, ℕ, ◌<◌, ◌≤◌, ◌+◌, inl, inr, List, [], length, replicate, slice_index, get_or, set, map, arith, refl, sym, ◌∙◌, ap}
+use Rattle.std.proofs.Common.{◌≡◌, ℕ, ◌<◌, ◌≤◌, inl, inr, List, [], ◌∷◌, length, slice_index, get_or, arith, refl, sym, ◌∙◌}
 use Rattle.std.proofs.lemmas.Bool.{cases_lt}
-use Rattle.std.proofs.lemmas.List.{length-map, get_or-replicate, get_or-set_same, get_or-set_other, map-set, ext_get_or}
-use Rattle.timetable.specs.Steps.{Lowers}
+use Rattle.std.proofs.lemmas.List.{length-map, get_or-set_same, get_or-set_other, ext_get_or}
 use Rattle.timetable.proofs.Lowering.{lowers_alike_in}
-use Rattle.trip_lanes.specs.Lane.{lane}
-use Rattle.trip_lanes.proofs.Lower.{lane_old, lowers_set}
-use Rattle.rounds.specs.State.{Bounds}
-use Rattle.rounds.proofs.Bounding.{one_more}
+use Rattle.trip_lanes.specs.Lane.{labels_in}
+use Rattle.rounds.proofs.Bounding.{one_more_row}
 use Rattle.rounds.proofs.bounded.begin.Goals as goal
 
+-- lists that are alike at each place
+alike : {A : Type 0} (xs ys : List A) → length xs ≡ length ys → ((p : ℕ) (none : A) → p < length xs → get_or xs p none ≡ get_or ys p none) → xs ≡ ys
+alike [] [] same each = refl
+alike [] (y ∷ ys) same each = absurd (omega (arith, same))
+alike (x ∷ xs) ys same each = ext_get_or x (x ∷ xs) ys same (λ p l. each p x l)
+
 pub loop-stop-preserved : goal.loop-stop-preserved
-loop-stop-preserved c =
-    let bound = c.args.bound.now in
+loop-stop-preserved g c =
     let s = c.loop-stop.stop in
     let labels = c.loop-stop.labels in
     let before = c.loop-stop.before in
     let low = c.lower_of-low.result in
-    let v = slice_index (get_or bound s []) c.args.k in
     let within : s < length labels = omega arith in
     let noted : s < length before = omega arith in
     record {
-      lanes = λ l h.
-          let long : s < length (lane l labels) = omega (arith, length-map labels (λ w. slice_index w l)) in
-          let lowered : Lowers (λ p x. (p ≡ s) × (x ≡ slice_index (replicate 16 v) l)) (lane l labels) (lane l (set labels s low)) =
-          rw (map-set (λ w. slice_index w l) labels s low, c.lower_of-low.ensures l h, ← lane_old labels s l within) (lowers_set (lane l labels) s (slice_index (replicate 16 v) l) long) in
-          one_more (lane c.args.k bound) s (slice_index (replicate 16 v) l) (get_or-replicate 16 l v 0 h ∙ sym (lane_old bound s c.args.k (omega arith))) (c.loop-stop.invariant.lanes l h) lowered;
-      noted = λ p below. elim (cases_lt p s) [
-        | inl lt ↦ get_or-set_other before s p low [] (λ e. omega arith) ∙ (c.loop-stop.invariant.noted p lt ∙ sym (get_or-set_other labels s p low [] (λ e. omega arith)))
+      lanes = λ l h. one_more_row g.R.Row.labels labels s l c.index-labels-stop.result low c.args.base g.R.Row.NEVER c.args.k c.args.bound.now (slice_index (g.R.Row.labels c.bound_of.result) l)
+          c.index-labels-stop.is within (omega arith) (c.lower_of-low.ensures l h) (c.bound_of.ensures l h) (c.loop-stop.invariant.lanes l h);
+      noted = λ p none below. elim (cases_lt p s) [
+        | inl lt ↦ get_or-set_other before s p low none (λ e. omega arith) ∙ (c.loop-stop.invariant.noted p none lt ∙ sym (get_or-set_other labels s p low none (λ e. omega arith)))
         | inr ge ↦
             let e : p ≡ s = omega arith in
-            rw (e, get_or-set_same before s low [] noted, get_or-set_same labels s low [] within) refl
+            rw (e, get_or-set_same before s low none noted, get_or-set_same labels s low none within) refl
       ];
     }
 
 pub returns-clause-lanes : goal.returns-clause-lanes
-returns-clause-lanes c l h =
-    let long = length-map c.args.labels.now (λ w. slice_index w l) in
-    let end : length c.args.labels.now ≤ c.loop-stop.stop = omega arith in
+returns-clause-lanes g c l h =
+    let rows = c.args.labels.now in
+    let long = length-map (labels_in g.R.Row.labels rows) (λ w. slice_index w l) in
+    let rows_long = length-map rows g.R.Row.labels in
+    let end : length rows ≤ c.loop-stop.stop = omega arith in
     lowers_alike_in (λ p x m o. o.1) (λ p x m o. (omega arith, o)) (c.loop-stop.invariant.lanes l h)
 
 pub returns-clause-before : goal.returns-clause-before
-returns-clause-before c =
-    ext_get_or [] c.loop-stop.before c.loop-stop.labels (omega arith) (λ p l. c.loop-stop.invariant.noted p (omega arith))
+returns-clause-before g c =
+    alike c.loop-stop.before c.loop-stop.labels (omega arith) (λ p none l. c.loop-stop.invariant.noted p none (omega arith))

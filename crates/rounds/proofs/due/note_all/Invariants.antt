@@ -1,4 +1,4 @@
-use Rattle.std.proofs.Common.{◌≡◌, ◌<◌, ◌≤◌, ℕ, length, slice_get, slice_index, Some}
+use Rattle.std.proofs.Common.{◌≡◌, ◌<◌, ◌≤◌, ℕ, slice_get, slice_index, Some}
 use Rattle.rounds.proofs.due.note_all.Given as goal
 
 abbrev pub invariant-loop-line : goal.invariant-loop-line

@@ -1,15 +1,16 @@
 use Rattle.std.proofs.Common.{◌≡◌, ℕ, ◌<◌, length}
 use Rattle.timetable.specs.Steps.{Lowers}
-use Rattle.trip_lanes.specs.Lane.{lane, MarksFallen}
+use Rattle.trip_lanes.specs.Lane.{lane, labels_in, MarksFallenOf}
+use Rattle.rounds.specs.Cut.{cut_trips}
 use Rattle.rounds.proofs.LineScan.{CarriesBelow}
 use Rattle.rounds.proofs.scan.scan_lines.Given as goal
 
 abbrev pub invariant-loop-i : goal.invariant-loop-i
-invariant-loop-i v =
+invariant-loop-i g v =
     record {
       same : length v.ride ≡ length v.initial.ride;
-      aboard : length v.aboard ≡ length v.initial.aboard;
       marked : length v.marked ≡ length v.ride;
-      lanes : (k : ℕ) → k < 16 → Lowers (CarriesBelow (lane k v.round.labels.ready.now) v.round.trips.now v.round.lines.now.lines v.i) (lane k v.initial.ride) (lane k v.ride);
-      marks : MarksFallen v.initial.ride v.ride v.initial.marked v.marked;
+      lanes : (k : ℕ) → k < g.R.Row.LANES → Lowers (CarriesBelow (lane k (labels_in g.R.Row.labels v.round.labels.ready.now)) (cut_trips v.round.base g.R.Row.NEVER v.round.trips.now) v.round.lines.now.lines v.i)
+          (lane k (labels_in g.R.Row.labels v.initial.ride)) (lane k (labels_in g.R.Row.labels v.ride));
+      marks : MarksFallenOf g.R.Row.LANES (labels_in g.R.Row.labels v.initial.ride) (labels_in g.R.Row.labels v.ride) v.initial.marked v.marked;
     }

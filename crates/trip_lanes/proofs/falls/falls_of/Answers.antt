@@ -1,8 +1,8 @@
-use Rattle.std.proofs.Common.{rules, true, false, ◌≡◌, ◌<◌, ℕ, inl, inr, [], List, length, get_or, set, slice_get, slice_index, Some, arith, sym, ◌∙◌, ap, subst}
+use Rattle.std.proofs.Common.{rules, true, false, ◌≡◌, ◌<◌, ℕ, inl, inr, List, length, get_or, set, slice_get, slice_index, Some, arith, sym, ◌∙◌, ap, subst}
 use Rattle.std.proofs.lemmas.Bool.{cases_lt, false≢true}
 use Rattle.std.proofs.lemmas.List.{get_or-set_same, get_or-set_other, length-set}
 use Rattle.std.proofs.lemmas.Option.{slice_get_within, get_or_from_slice_get, slice_get-get_or}
-use Rattle.trip_lanes.proofs.Lower.{lane_old}
+use Rattle.trip_lanes.proofs.Lower.{row_lane}
 use Rattle.trip_lanes.specs.Falls.{HasFallen}
 use Rattle.trip_lanes.specs.declared.falls.Fall.{Fall}
 use Rattle.trip_lanes.proofs.falls.falls_of.Goals as goal
@@ -16,25 +16,29 @@ stays falls s p g f lt at =
     slice_get-get_or falls p f (omega (arith, length-set falls s g)) ∙ ap Some (sym (get_or-set_other falls s p g f (λ e. omega arith)) ∙ read)
 
 pub loop-stop-preserved : goal.loop-stop-preserved
-loop-stop-preserved c =
+loop-stop-preserved g c =
     let s = c.loop-stop.stop in
     let before = c.args.before.now in
     let ready = c.args.ready.now in
     let falls = c.loop-stop.falls in
+    let labels = g.R.Row.labels in
     let within : s < length falls = omega arith in
     record {
       same = elim c.if-fallen-stop.branch [ then-fallen-stop w ↦ search rules | else-fallen-stop w ↦ search rules ];
       falls = λ l p f h below at. elim c.if-fallen-stop.branch [
         | then-fallen-stop w ↦
             let at' = rw w.falls-is at at in
+            let was = w.index-before-stop.result in
+            let now = w.index-ready-stop.result in
+            let fall = w.fall.result in
             elim (cases_lt p s) [
-              | inl lt ↦ c.loop-stop.invariant.falls l p f h lt (stays falls s p w.fall_of.result f lt at')
+              | inl lt ↦ c.loop-stop.invariant.falls l p f h lt (stays falls s p fall f lt at')
               | inr ge ↦
                   let e : p ≡ s = omega arith in
-                  let read : get_or (set falls s w.fall_of.result) p f ≡ f = get_or_from_slice_get (set falls s w.fall_of.result) p f f at' in
-                  let here : w.fall_of.result ≡ f = sym (get_or-set_same falls s w.fall_of.result f within) ∙ (ap (λ (i : ℕ). get_or (set falls s w.fall_of.result) i f) (sym e) ∙ read) in
-                  rw (e, lane_old before s l (omega arith), lane_old ready s l (omega arith))
-                  (subst (λ (g : Fall). HasFallen (slice_index (get_or before s []) l) (slice_index (get_or ready s []) l) g) here (w.fall_of.ensures l h))
+                  let read : get_or (set falls s fall) p f ≡ f = get_or_from_slice_get (set falls s fall) p f f at' in
+                  let here : fall ≡ f = sym (get_or-set_same falls s fall f within) ∙ (ap (λ (i : ℕ). get_or (set falls s fall) i f) (sym e) ∙ read) in
+                  rw (e, row_lane labels before s l was was w.index-before-stop.is (omega arith), row_lane labels ready s l now now w.index-ready-stop.is (omega arith))
+                  (subst (λ (g : Fall). HasFallen (slice_index (labels was) l) (slice_index (labels now) l) g) here (w.fall.ensures l h))
             ]
         | else-fallen-stop w ↦ elim (cases_lt p s) [
           | inl lt ↦ c.loop-stop.invariant.falls l p f h lt (stays falls s p _ f lt (rw w.falls-is at at))
@@ -47,5 +51,5 @@ loop-stop-preserved c =
     }
 
 pub returns-clause-falls : goal.returns-clause-falls
-returns-clause-falls c l h =
+returns-clause-falls g c l h =
     record { fall = λ p f at. let w = slice_get_within c.loop-stop.falls p f at in c.loop-stop.invariant.falls l p f h (omega arith) at }

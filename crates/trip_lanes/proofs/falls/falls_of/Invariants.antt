@@ -1,12 +1,13 @@
 use Rattle.std.proofs.Common.{◌≡◌, ◌<◌, ℕ, length, slice_get, slice_index, Some}
-use Rattle.trip_lanes.specs.Lane.{lane}
+use Rattle.trip_lanes.specs.Lane.{lane, labels_in}
 use Rattle.trip_lanes.specs.Falls.{HasFallen}
 use Rattle.trip_lanes.specs.declared.falls.Fall.{Fall}
 use Rattle.trip_lanes.proofs.falls.falls_of.Given as goal
 
 abbrev pub invariant-loop-stop : goal.invariant-loop-stop
-invariant-loop-stop v =
+invariant-loop-stop g v =
     record {
       same : length v.falls ≡ length v.initial.falls;
-      falls : (l p : ℕ) (f : Fall) → l < 16 → p < v.stop → slice_get v.falls p ≡ Some f → HasFallen (slice_index (lane l v.before) p) (slice_index (lane l v.ready) p) f;
+      falls : (l p : ℕ) (f : Fall) → l < g.R.Row.LANES → p < v.stop → slice_get v.falls p ≡ Some f →
+          HasFallen (slice_index (lane l (labels_in g.R.Row.labels v.before)) p) (slice_index (lane l (labels_in g.R.Row.labels v.ready)) p) f;
     }

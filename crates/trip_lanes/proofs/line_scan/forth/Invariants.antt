@@ -1,6 +1,6 @@
 use Rattle.std.proofs.Common.{◌-◌, ℕ, ◌<◌, ◌≤◌}
 use Rattle.trip_lanes.specs.Columns.{departs}
-use Rattle.trip_lanes.specs.Riders.{Ascend}
+use Rattle.trip_lanes.specs.Ranks.{Ascend}
 use Rattle.trip_lanes.proofs.line_scan.forth.Given as goal
 
 abbrev pub invariant-loop-first : goal.invariant-loop-first

@@ -27,7 +27,6 @@ loop-stop-preserved c =
       lanes = λ k l.
           let ride = lane k c.args.ride.now in
           let read = lane_old c.args.ride.now x k within in
-          let early = c.requires.rides k x l in
           let before : (p : ℕ) → slice_index (lane k c.loop-stop.ready) p ≤ NEVER = λ p.
           let f = c.requires.fits k p l in
           let a = lane_falls (lane k c.args.ready.now) (lane k c.loop-stop.ready) (c.loop-stop.invariant.lanes k l) p in
@@ -37,9 +36,9 @@ loop-stop-preserved c =
           let b = lane_falls (lane k c.loop-stop.ready) (lane k c.lower_all.new.labels) (c.lower_all.ensures k l) p in
           omega arith in
           transfer_one feet ride x c.leaving.result.now c.leaving.ensures (c.loop-stop.invariant.lanes k l)
-          (change_ends feet c.known.ensures ride x (lane k c.loop-stop.ready) (lane k c.lower_all.new.labels) early before
-          (changed_by x (slice_index c.later.result k) (slice_index ride x) c.change.result (slice_index feet.changes x) (rw read (c.later.ensures k l)) c.change.ensures (c.lower_all.ensures k l)))
-          (later_is feet c.known.ensures x c.leaving.result.now (slice_index ride x) (lane k c.lower_all.new.labels) (lane k c.walk_from.new.ready) c.leaving.ensures (λ ne. omega (arith, early ne)) fits (rw read (c.walk_from.ensures k l)));
+          (change_ends NEVER feet ride x (lane k c.loop-stop.ready) (lane k c.lower_all.new.labels) (omega arith) before
+          (changed_by NEVER x (slice_index c.later.result k) (slice_index ride x) c.change.result (slice_index feet.changes x) (rw read (c.later.ensures k l)) c.change.ensures (c.lower_all.ensures k l)))
+          (later_is NEVER c.leaving.result.now (slice_index ride x) (lane k c.lower_all.new.labels) (lane k c.walk_from.new.ready) (omega arith) fits (rw read (c.walk_from.ensures k l)));
     }
 
 pub returns : goal.returns

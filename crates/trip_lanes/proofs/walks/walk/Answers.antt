@@ -33,7 +33,7 @@ loop-stop-preserved c =
           let b = lane_falls (lane k c.loop-stop.ready) (lane k c.lower_all.new.labels) (c.lower_all.ensures k l) p in
           omega arith in
           offer_one feet ride x c.leaving.result.now c.leaving.ensures (c.loop-stop.invariant.lanes k l) (rw read (c.lower_all.ensures k l))
-          (later_is c.args.feet.now c.known.ensures x c.leaving.result.now (slice_index ride x) (lane k c.lower_all.new.labels) (lane k c.walk_from.new.ready) c.leaving.ensures (c.requires.rides k x l) fits (rw read (c.walk_from.ensures k l)));
+          (later_is NEVER c.leaving.result.now (slice_index ride x) (lane k c.lower_all.new.labels) (lane k c.walk_from.new.ready) (omega arith) fits (rw read (c.walk_from.ensures k l)));
     }
 
 pub returns : goal.returns

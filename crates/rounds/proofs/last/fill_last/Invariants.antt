@@ -1,0 +1,12 @@
+use Rattle.std.proofs.Common.{ℕ, ◌+◌, ◌<◌, ◌≤◌, slice_index}
+use Rattle.timetable.specs.Footpaths.{IsFoot}
+use Rattle.timetable.specs.declared.limits.TheConstants.{END_OF_AXIS, MOST_FOOT_SECONDS}
+use Rattle.rounds.proofs.last.fill_last.Given as goal
+
+abbrev pub invariant-loop-stop : goal.invariant-loop-stop
+invariant-loop-stop l =
+    record {
+      rides : (p : ℕ) → p < l.stop → slice_index l.ridden p ≤ slice_index l.last p;
+      walks : (q p seconds : ℕ) → q < l.stop → IsFoot l.feet.walks q p seconds → slice_index l.ridden q + seconds ≤ slice_index l.last p;
+      few : (p : ℕ) → slice_index l.last p ≤ END_OF_AXIS + MOST_FOOT_SECONDS;
+    }

@@ -1,0 +1,64 @@
+use Rattle.std.proofs.Common.{rules, ◌<◌, ◌≤◌, true, false, ℕ, length, slice_index, sym, ◌∙◌, arith}
+use Rattle.std.proofs.lemmas.Bool.{false≢true}
+use Rattle.std.proofs.lemmas.Option.{get_or_from_slice_get}
+use Rattle.std.proofs.lemmas.List.{length-map}
+use Rattle.timetable.specs.Footpaths.{IsFoot}
+use Rattle.timetable.proofs.Known.{foot_in_range}
+use Rattle.trip_lanes.proofs.Walking.{offer_one, offer_each}
+use Rattle.trip_lanes.specs.Lane.{lane, labels_in}
+use Rattle.trip_lanes.proofs.Lower.{row_lane}
+use Rattle.trip_lanes.proofs.Carry.{lane_falls, marks_then}
+use Rattle.trip_lanes.proofs.LaneWalk.{later_is}
+use Rattle.trip_lanes.proofs.Marked.{offer_skip}
+use Rattle.trip_lanes.proofs.marked_walks.walk_marked.Goals as goal
+use Rattle.trip_lanes.proofs.marked_walks.walk_marked.Goals.{then-marked-stop, else-marked-stop}
+
+pub walk_noting-requires-clause-targets : goal.walk_noting-requires-clause-targets
+walk_noting-requires-clause-targets g c k stop seconds h =
+    let feet = c.args.feet.now.walks in
+    let foot : IsFoot feet c.loop-stop.stop stop seconds = (c.leaving.result.now, k, c.leaving.ensures, h) in
+    let in_range = foot_in_range c.args.feet.now c.known.ensures c.loop-stop.stop stop seconds foot in
+    omega (arith, in_range.0, c.lower_row.auto.labels)
+
+pub loop-stop-preserved : goal.loop-stop-preserved
+loop-stop-preserved g c =
+    let feet = c.args.feet.now.walks in
+    let x = c.loop-stop.stop in
+    let rows = labels_in g.R.Row.labels in
+    let within : x < length c.args.ride.now = omega arith in
+    record {
+      same = elim c.if-marked-stop.branch [ then-marked-stop w ↦ search rules | else-marked-stop w ↦ search rules ];
+      lanes = λ k l. elim c.if-marked-stop.branch [
+        | then-marked-stop w ↦
+            let read = row_lane g.R.Row.labels c.args.ride.now x k w.index-ride-stop.result w.index-ride-stop.result w.index-ride-stop.is within in
+            let ride = lane k (rows c.args.ride.now) in
+            let fits : (p : ℕ) → slice_index (lane k (rows w.lower_row.new.labels)) p ≤ g.R.Row.NEVER = λ p.
+            let f = c.requires.fits k p l in
+            let a = lane_falls (lane k (rows c.args.ready.now)) (lane k (rows c.loop-stop.ready)) (c.loop-stop.invariant.lanes k l) p in
+            let b = lane_falls (lane k (rows c.loop-stop.ready)) (lane k (rows w.lower_row.new.labels)) (w.lower_row.ensures.lanes k l) p in
+            omega arith in
+            rw w.ready-is (offer_one feet ride x w.leaving.result.now w.leaving.ensures (c.loop-stop.invariant.lanes k l) (rw read (w.lower_row.ensures.lanes k l))
+            (later_is g.R.Row.NEVER w.leaving.result.now (slice_index ride x) (lane k (rows w.lower_row.new.labels)) (lane k (rows w.walk_noting.new.ready)) g.met.R.Row.never_fits fits (rw read (w.walk_noting.ensures.lanes k l))))
+        | else-marked-stop w ↦
+            rw w.ready-is (offer_skip feet (lane k (rows c.args.ride.now)) x (lane k (rows c.args.ready.now)) (lane k (rows c.loop-stop.ready)) (c.loop-stop.invariant.lanes k l)
+            (c.requires.settled k x l (omega arith) (λ on. false≢true (sym w.if-marked-stop.false ∙ get_or_from_slice_get c.args.marked.now x true false on))))
+      ];
+      falls = elim c.if-marked-stop.branch [ then-marked-stop w ↦ search rules | else-marked-stop w ↦ search rules ];
+      marks = elim c.if-marked-stop.branch [
+        | then-marked-stop w ↦ rw (w.ready-is, w.fallen-is) (marks_then (rows c.args.ready.now) (rows w.lower_row.new.labels) (rows w.walk_noting.new.ready) c.args.fallen.now w.lower_row.new.marked w.walk_noting.new.fallen
+            (λ l p h. let a = lane_falls (lane l (rows c.args.ready.now)) (lane l (rows c.loop-stop.ready)) (c.loop-stop.invariant.lanes l h) p in let b = lane_falls (lane l (rows c.loop-stop.ready)) (lane l (rows w.lower_row.new.labels)) (w.lower_row.ensures.lanes l h) p in omega arith)
+            (λ l p h. lane_falls (lane l (rows w.lower_row.new.labels)) (lane l (rows w.walk_noting.new.ready)) (w.walk_noting.ensures.lanes l h) p)
+            (marks_then (rows c.args.ready.now) (rows c.loop-stop.ready) (rows w.lower_row.new.labels) c.args.fallen.now c.loop-stop.fallen w.lower_row.new.marked
+            (λ l p h. lane_falls (lane l (rows c.args.ready.now)) (lane l (rows c.loop-stop.ready)) (c.loop-stop.invariant.lanes l h) p)
+            (λ l p h. lane_falls (lane l (rows c.loop-stop.ready)) (lane l (rows w.lower_row.new.labels)) (w.lower_row.ensures.lanes l h) p)
+            c.loop-stop.invariant.marks w.lower_row.ensures.marks)
+            w.walk_noting.ensures.fallen)
+        | else-marked-stop w ↦ rw (w.ready-is, w.fallen-is) c.loop-stop.invariant.marks
+      ];
+    }
+
+pub returns-clause-lanes : goal.returns-clause-lanes
+returns-clause-lanes g c l h =
+    let rows = labels_in g.R.Row.labels in
+    let long : length (lane l (rows c.args.ready.now)) ≤ c.loop-stop.stop = omega (arith, length-map (rows c.args.ready.now) (λ w. slice_index w l), length-map c.args.ready.now g.R.Row.labels) in
+    offer_each c.args.feet.now.walks (lane l (rows c.args.ride.now)) c.loop-stop.stop long (omega arith) (c.loop-stop.invariant.lanes l h)

@@ -1,0 +1,14 @@
+use Rattle.std.proofs.Common.{◌≡◌, ℕ, ◌<◌, length}
+use Rattle.timetable.specs.Steps.{Lowers}
+use Rattle.trip_lanes.proofs.Walking.{OfferedBelow}
+use Rattle.trip_lanes.specs.Lane.{lane, labels_in, MarksFallenOf}
+use Rattle.trip_lanes.proofs.marked_walks.walk_marked.Given as goal
+
+abbrev pub invariant-loop-stop : goal.invariant-loop-stop
+invariant-loop-stop g l =
+    record {
+      same : length l.ready ≡ length l.ride;
+      lanes : (k : ℕ) → k < g.R.Row.LANES → Lowers (OfferedBelow l.feet.walks (lane k (labels_in g.R.Row.labels l.ride)) l.stop) (lane k (labels_in g.R.Row.labels l.initial.ready)) (lane k (labels_in g.R.Row.labels l.ready));
+      falls : length l.fallen ≡ length l.ride;
+      marks : MarksFallenOf g.R.Row.LANES (labels_in g.R.Row.labels l.initial.ready) (labels_in g.R.Row.labels l.ready) l.initial.fallen l.fallen;
+    }

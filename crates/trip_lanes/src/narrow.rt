@@ -1,0 +1,185 @@
+//! Narrow rows: thirty-two labels of 16 bits, which reach 65,535 seconds, some eighteen hours, from where they count.
+ghost use Rattle.std.specs.Prelude.{◌≡◌, ◌≢◌, ℕ, ◌<◌, ◌≤◌, ◌⊎◌, slice_index};
+ghost use Rattle.std.proofs.Common.{rules};
+
+use crate::falls::Fall;
+use crate::lanes::{LANES, Lanes};
+use crate::ranks::Span;
+use crate::rows::Row;
+use std::simd::prelude::*;
+use std::simd::u16x32;
+use timetable::NEVER;
+
+/// How many narrow labels stand side by side: they take as much room as sixteen wide ones.
+const NARROW_LANES: usize = 32;
+
+/// The greatest narrow label.
+const FAR: u16 = 65_535;
+
+/// The labels of one stop for thirty-two departures, in seconds from some time on.
+pub type Narrow = [u16; NARROW_LANES];
+
+impl Row for Narrow {
+    ghost LANES = { 32 };
+
+    const LANES: usize = NARROW_LANES;
+
+    ghost NEVER = { 65535 };
+
+    const NEVER: u32 = 65_535;
+
+    ghost labels = { λ row. row };
+
+    fn all(label: u32) -> Self {
+        [label as u16; NARROW_LANES]
+    }
+
+    fn minutely(first: u32, minutes: u32) -> Self {
+        let mut departs = [FAR; NARROW_LANES];
+        for l in 0..NARROW_LANES {
+            if (l as u32) < minutes {
+                departs[l] = (first + 60 * l as u32) as u16;
+            }
+        }
+        departs
+    }
+
+    fn first(self) -> u32 {
+        self[0] as u32
+    }
+
+    fn lower_of(self, other: Self) -> Self {
+        u16x32::from_array(self)
+            .simd_min(u16x32::from_array(other))
+            .to_array()
+    }
+
+    fn changed(self, old: Self) -> bool {
+        u16x32::from_array(self)
+            .simd_ne(u16x32::from_array(old))
+            .any()
+    }
+
+    fn later(self, seconds: u32) -> Self {
+        let more = if seconds < FAR as u32 {
+            seconds as u16
+        } else {
+            FAR
+        };
+        let early = u16x32::from_array(self).simd_min(u16x32::splat(FAR - more));
+        (early + u16x32::splat(more)).to_array()
+    }
+
+    fn catch(self, depart: u32, rank: u32) -> Self {
+        u16x32::from_array(self)
+            .simd_le(u16x32::splat(depart as u16))
+            .select(u16x32::splat(rank as u16), u16x32::splat(FAR))
+            .to_array()
+    }
+
+    fn alight(self, run: Self, rank: u32, arrive: u32) -> Self {
+        u16x32::from_array(run)
+            .simd_eq(u16x32::splat(rank as u16))
+            .select(u16x32::splat(arrive as u16), u16x32::from_array(self))
+            .to_array()
+    }
+
+    fn span(self) -> Span {
+        let first = least(self);
+        if first == FAR as u32 {
+            return Span { first: 0, end: 0 };
+        }
+        Span {
+            first: first as usize,
+            end: greatest(ridden(self)) as usize + 1,
+        }
+    }
+
+    fn is_reached(self, departs: Self) -> bool {
+        let far = u16x32::splat(FAR);
+        let dead = u16x32::from_array(departs).simd_eq(far);
+        dead.select(u16x32::splat(0), u16x32::from_array(self))
+            .simd_ne(far)
+            .all()
+    }
+
+    fn fall(self, before: Self) -> Fall {
+        Fall {
+            low: least(of_fallen(before, self, self, FAR)),
+            high: greatest(of_fallen(before, self, self, 0)),
+            top: greatest(of_fallen(before, self, before, 0)),
+        }
+    }
+
+    fn since(self, departs: Self, part: usize) -> Lanes {
+        let mut since = [NEVER; LANES];
+        for l in 0..LANES {
+            let label = self[LANES * part + l];
+            if label != FAR {
+                since[l] = (label - departs[LANES * part + l]) as u32;
+            }
+        }
+        since
+    }
+
+    ghost some = { Prim.search rules };
+
+    ghost sixteens = { Prim.search rules };
+
+    ghost few = { Prim.search rules };
+
+    ghost room = { Prim.search rules };
+
+    ghost never_fits = { Prim.search rules };
+}
+
+/// The ranks of the lanes that ride a trip, and 0 in the others.
+fn ridden(run: Narrow) -> Narrow
+    ensures ranks { (l : ℕ) → l < 32 → slice_index run l ≢ 65535 → slice_index result l ≡ slice_index run l }
+    ensures others { (l : ℕ) → l < 32 → slice_index run l ≡ 65535 → slice_index result l ≡ 0 }
+{
+    let none = u16x32::splat(FAR);
+    let ranks = u16x32::from_array(run);
+    ranks
+        .simd_eq(none)
+        .select(u16x32::splat(0), ranks)
+        .to_array()
+}
+
+/// The labels of the lanes that fell, and another number in the others.
+fn of_fallen(before: Narrow, ready: Narrow, labels: Narrow, other: u16) -> Narrow
+    ensures { (l : ℕ) → l < 32 → slice_index ready l < slice_index before l → slice_index result l ≡ slice_index labels l }
+{
+    u16x32::from_array(ready)
+        .simd_lt(u16x32::from_array(before))
+        .select(u16x32::from_array(labels), u16x32::splat(other))
+        .to_array()
+}
+
+/// The least of some labels.
+fn least(labels: Narrow) -> u32
+    ensures below { (l : ℕ) → l < 32 → result ≤ slice_index labels l }
+    ensures some { (result ≡ 65535) ⊎ ((l : ℕ) × (l < 32) × (slice_index labels l ≡ result)) }
+{
+    let mut low = FAR;
+    for l in 0..NARROW_LANES {
+        if labels[l] < low {
+            low = labels[l];
+        }
+    }
+    low as u32
+}
+
+/// The greatest of some labels.
+fn greatest(labels: Narrow) -> u32
+    ensures above { (l : ℕ) → l < 32 → slice_index labels l ≤ result }
+    ensures some { (result ≡ 0) ⊎ ((l : ℕ) × (l < 32) × (slice_index labels l ≡ result)) }
+{
+    let mut high = 0;
+    for l in 0..NARROW_LANES {
+        if high < labels[l] {
+            high = labels[l];
+        }
+    }
+    high as u32
+}
