@@ -111,7 +111,8 @@ class Drawn:
 
     def calls(self, trip: str) -> Records:
         """The records of a trip; some have no time, some only one, and a few trips a record without a stop."""
-        time = self.any_of(7, 8, 8, 8, 8, 8, 9, 23, 25, 31) * 3600 + self.random.randint(0, 59) * 60
+        # some are late at night: narrow labels end some eighteen hours after a departure
+        time = self.any_of(7, 8, 8, 8, 8, 8, 8, 9, 18, 23, 25, 26, 31) * 3600 + self.random.randint(0, 59) * 60
         count = self.random.randint(0, 6)
         records = []
         for n in range(count):
@@ -194,8 +195,9 @@ class Drawn:
         return ["remove_route", self.random.choice(self.routes), ""]
 
     def words(self, folder: Path) -> list[str]:
+        # windows of one batch of 16 or 32 departures, of one more departure, and of several batches
         first = self.any_of(0, 7 * 60, 7 * 60 + 50, 8 * 60, 8 * 60, 23 * 60)
-        last = first + self.any_of(0, 0, 1, 15, 16, 30, 59)
+        last = min(first + self.any_of(0, 0, 0, 1, 15, 16, 31, 32, 64), 24 * 60 - 1)
         asked: dict[str, object] = {
             "feed": folder,
             "date": DATE.strftime("%Y%m%d"),

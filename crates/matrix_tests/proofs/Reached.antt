@@ -1,5 +1,5 @@
 -- The labels and the trip of the worked examples of lanes.
-use Rattle.std.proofs.Common.{◌≡◌, ◌≢◌, ℕ, zero, suc, ◌<◌, ◌≤◌, ◌⊎◌, inl, inr, List, [], ◌∷◌, get_or, set, replicate, slice_index, slice_get, Some, refl, ◌∙◌, arith, subst}
+use Rattle.std.proofs.Common.{◌≡◌, ◌≢◌, ℕ, zero, suc, ◌<◌, ◌≤◌, ◌⊎◌, inl, inr, [], ◌∷◌, set, replicate, slice_index, slice_get, Some, refl, ◌∙◌, arith, subst}
 use Rattle.std.proofs.lemmas.Bool.{cases_eq}
 use Rattle.std.proofs.lemmas.List.{get_or-set_other, get_or-replicate}
 use Rattle.std.proofs.lemmas.Option.{same_Some, slice_get_within}
@@ -26,3 +26,14 @@ pub below_two : (a b : Event) → a.stop.0 < 2 → b.stop.0 < 2 → (k : ℕ) (e
 below_two a b x y zero e at = subst (λ (v : Event). v.stop.0 < 2) (same_Some a e at) x
 below_two a b x y (suc zero) e at = subst (λ (v : Event). v.stop.0 < 2) (same_Some b e at) y
 below_two a b x y (suc (suc k)) e at = let w = slice_get_within (a ∷ b ∷ []) (suc (suc k)) e at in absurd (omega arith)
+
+-- in a list of one number all are as low as it
+pub up_to : (n x most p : ℕ) → x ≤ most → slice_index (replicate n x) p ≤ most
+up_to zero x most zero h = omega arith
+up_to zero x most (suc p) h = omega arith
+up_to (suc n) x most zero h = h
+up_to (suc n) x most (suc p) h = up_to n x most p h
+
+-- stops that no narrow label reaches have labels that fit
+pub far_fits : (stops l p : ℕ) → slice_index (replicate stops (slice_index (replicate 32 65535) l)) p ≤ 65535
+far_fits stops l p = up_to stops (slice_index (replicate 32 65535) l) 65535 p (up_to 32 65535 65535 l (omega arith))

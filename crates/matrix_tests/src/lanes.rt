@@ -1,15 +1,18 @@
-//! Worked examples of lanes: sixteen departures side by side, over two stops.
+//! Worked examples of lanes: sixteen departures side by side, or thirty-two by narrow labels, over two stops or three.
 ghost use Rattle.std.specs.Prelude.{◌≡◌, ℕ, ◌<◌, ◌⊎◌, slice_index};
 
 use std::alloc::{AllocError, Global};
 use std::test::Fail;
 use timetable::{Call, Event, Events, Feet, NEVER, StopNo, Times, Trip};
 use trip_lanes::{
-    Labels, Lanes, LineView, UNFALLEN, carry_trip, falls_of, scan_line, transfer, walk,
+    Labels, Lanes, LineView, Narrow, UNFALLEN, carry_trip, falls_of, scan_line, transfer, walk,
 };
 
 /// No lane reaches the stop.
 const UNREACHED: Lanes = [NEVER; 16];
+
+/// The same of narrow labels.
+const FAR: Narrow = [65_535; 32];
 
 /// The first two lanes at these seconds, the others not at all.
 fn two(first: u32, second: u32) -> Lanes
@@ -168,5 +171,122 @@ fn each_lane_takes_the_first_trip_of_a_line(rt: HostRuntime) -> Result<(), Fail>
     scan_line(line, 0, labels, &mut ride, &mut marked);
     assert!(rt; ride[0] == UNREACHED && ride[1] == two(110, 310) && ride[2] == two(120, 320));
     assert!(rt; !marked[0] && marked[1] && marked[2]);
+    Ok(())
+}
+
+/// The first two lanes and the last at these seconds from the base, the others not at all.
+fn three(first: u16, second: u16, last: u16) -> Narrow {
+    let mut lanes = FAR;
+    lanes[0] = first;
+    lanes[1] = second;
+    lanes[31] = last;
+    lanes
+}
+
+// The three trips of the line above, as labels tell them that count from 50: 50, 60, 70; 150, 160, 170; 250, 260, 270.
+#[test]
+fn narrow_lanes_take_the_first_trip_from_their_base_on(rt: HostRuntime) -> Result<(), Fail> {
+    let calls = [call(0), call(1), call(2)];
+    let times = [
+        stops_at(100),
+        stops_at(110),
+        stops_at(120),
+        stops_at(200),
+        stops_at(210),
+        stops_at(220),
+        stops_at(300),
+        stops_at(310),
+        stops_at(320),
+    ];
+    let line = LineView {
+        calls: &calls,
+        times: &times,
+        trips: 3,
+        base: 50,
+    };
+    let before = [FAR, FAR, FAR];
+    let ready = [three(50, 151, 51), FAR, three(65_535, 165, 65_535)];
+    let mut falls = [UNFALLEN; 3];
+    falls_of(&before, &ready, &[true, false, true], &mut falls);
+    let labels = Labels {
+        falls: &falls,
+        before: &before,
+        ready: &ready,
+    };
+    let mut ride = [FAR; 3];
+    let mut marked = [false; 3];
+    scan_line(line, 0, labels, &mut ride, &mut marked);
+    assert!(rt; ride[0] == FAR);
+    assert!(rt; ride[1] == three(60, 260, 160) && ride[2] == three(70, 270, 170));
+    assert!(rt; !marked[0] && marked[1] && marked[2]);
+    Ok(())
+}
+
+// From 50 on labels end at 65,585, and 100,000 would be 34,414 if its upper bits were left out.
+#[test]
+fn narrow_labels_end_at_their_horizon(rt: HostRuntime) -> Result<(), Fail> {
+    let calls = [call(0), call(1), call(2), call(3)];
+    let times = [
+        stops_at(100),
+        stops_at(65_584),
+        stops_at(65_585),
+        stops_at(100_000),
+    ];
+    let line = LineView {
+        calls: &calls,
+        times: &times,
+        trips: 1,
+        base: 50,
+    };
+    let before = [FAR, FAR, FAR, FAR];
+    let ready = [three(50, 51, 1), FAR, FAR, FAR];
+    let mut falls = [UNFALLEN; 4];
+    falls_of(&before, &ready, &[true, false, false, false], &mut falls);
+    let labels = Labels {
+        falls: &falls,
+        before: &before,
+        ready: &ready,
+    };
+    let mut ride = [FAR; 4];
+    let mut marked = [false; 4];
+    scan_line(line, 0, labels, &mut ride, &mut marked);
+    assert!(rt; ride[0] == FAR && ride[1] == three(65_534, 65_535, 65_534));
+    assert!(rt; ride[2] == FAR && ride[3] == FAR);
+    assert!(rt; !marked[0] && marked[1] && !marked[2] && !marked[3]);
+    Ok(())
+}
+
+// The trips leave at 20, 50 and 51, and labels count from 50: so the first two leave at 0, before all who are ready.
+#[test]
+fn nobody_catches_what_left_before_the_base(rt: HostRuntime) -> Result<(), Fail> {
+    let calls = [call(0), call(1)];
+    let times = [
+        stops_at(20),
+        stops_at(110),
+        stops_at(50),
+        stops_at(120),
+        stops_at(51),
+        stops_at(130),
+    ];
+    let line = LineView {
+        calls: &calls,
+        times: &times,
+        trips: 3,
+        base: 50,
+    };
+    let before = [FAR, FAR];
+    let ready = [three(1, 2, 1), FAR];
+    let mut falls = [UNFALLEN; 2];
+    falls_of(&before, &ready, &[true, false], &mut falls);
+    let labels = Labels {
+        falls: &falls,
+        before: &before,
+        ready: &ready,
+    };
+    let mut ride = [FAR; 2];
+    let mut marked = [false; 2];
+    scan_line(line, 0, labels, &mut ride, &mut marked);
+    assert!(rt; ride[0] == FAR && ride[1] == three(80, 65_535, 80));
+    assert!(rt; !marked[0] && marked[1]);
     Ok(())
 }

@@ -3,7 +3,8 @@
 //!
 //! - `networks`, `durations`, `changes`, `cells`: networks, the least durations over them, also with change times, and their
 //!   shares (over `small_networks`).
-//! - `lanes`: trips, lines, walks and changes, sixteen departures at a time.
+//! - `horizons`: durations that narrow labels can't tell, and windows that are no whole batches.
+//! - `lanes`: trips, lines, walks and changes, sixteen or thirty-two departures at a time.
 //! - `windows`: the durations of a window beside those of each of its minutes, and one search for several networks.
 //! - `book_steps`, `collected`: who computes which row, and the first row of each place.
 //! - `rows`, `text`: studies of rows, and the matrix as CSV.
@@ -20,6 +21,8 @@ mod changes;
 mod collected;
 #[cfg(test)]
 mod durations;
+#[cfg(test)]
+mod horizons;
 #[cfg(test)]
 mod lanes;
 #[cfg(test)]

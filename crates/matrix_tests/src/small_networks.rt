@@ -2,7 +2,7 @@
 
 use rounds::{Durations, Window, durations, one_minute};
 use std::alloc::{AllocError, Global};
-use timetable::{END_OF_AXIS, Event, Events, Feet, MOST_STOPS, Network, StopNo, Trip};
+use timetable::{END_OF_AXIS, Event, Events, Feet, MOST_STOPS, NEVER, Network, StopNo, Trip};
 
 /// A footpath: from a stop, to a stop, in seconds.
 pub(crate) type Footpath = (usize, u32, u32);
@@ -191,4 +191,17 @@ pub(crate) fn of_window(
         return Ok(Some(durations(alloc, network, StopNo(origin), window, rides)?));
     }
     Ok(None)
+}
+
+/// Whether the durations of a minute are these, with `NEVER` for none.
+pub(crate) fn is_minute(found: &Durations, minute: u32, alone: &[u32]) -> bool {
+    if minute >= found.minutes() || alone.len() != found.stops() as usize {
+        return false;
+    }
+    for stop in 0..found.stops() {
+        if found.at(StopNo(stop), minute).unwrap_or(NEVER) != alone[stop as usize] {
+            return false;
+        }
+    }
+    true
 }

@@ -1,12 +1,12 @@
 //! The durations of a window beside those of each of its minutes alone, and one search for several networks.
 
 use crate::small_networks::{
-    Footpath, SmallNetwork, at, network_over, of_window, trip_of, two_trips,
+    Footpath, SmallNetwork, at, is_minute, network_over, of_window, trip_of, two_trips,
 };
 use rounds::{Durations, Search, Window, one_minute};
 use std::alloc::{AllocError, Global};
 use std::test::Fail;
-use timetable::{END_OF_AXIS, Event, NEVER, Network, StopNo, Trip};
+use timetable::{END_OF_AXIS, Event, Network, StopNo, Trip};
 
 /// The change time of each stop.
 const CHANGES: [u32; 8] = [0, 60, 61, 200, 0, 30, 0, 0];
@@ -93,17 +93,14 @@ fn busy(alloc: Global) -> Result<SmallNetwork, AllocError> {
     network_over(alloc, 8, &FOOTPATHS, changes, busy_trips(alloc)?)
 }
 
-/// Whether the durations of a minute are these, with `NEVER` for none.
-fn is_minute(found: &Durations, minute: u32, alone: &[u32]) -> bool {
-    if minute >= found.minutes() || alone.len() != found.stops() as usize {
-        return false;
+/// The network of such trips from 08:00 and 08:07 on two days: those of the second are past what narrow labels tell.
+fn busy_on_two_days(alloc: Global) -> Result<SmallNetwork, AllocError> {
+    let mut trips = Vec::new(alloc);
+    for start in &[28_800, 29_220, 115_200, 115_620] {
+        push_trips(alloc, &mut trips, *start)?;
     }
-    for stop in 0..found.stops() {
-        if found.at(StopNo(stop), minute).unwrap_or(NEVER) != alone[stop as usize] {
-            return false;
-        }
-    }
-    true
+    let changes = Vec::from_slice(alloc, &CHANGES)?;
+    network_over(alloc, 8, &FOOTPATHS, changes, trips)
 }
 
 /// Whether the durations of a minute are those of its departure alone.
@@ -174,7 +171,7 @@ fn origins_agree(
 fn as_each_minute_alone(rt: HostRuntime) -> Result<(), Fail> {
     let alloc = rt.alloc();
     let network = busy(alloc)?;
-    for minutes in &[1, 15, 16, 17, 32, 90] {
+    for minutes in &[1, 15, 16, 17, 32, 33, 90] {
         for rides in &[0, 1, 3, 8, 9] {
             assert!(rt;
                 origins_agree(alloc, &network, *minutes, *rides)?,
@@ -194,6 +191,21 @@ fn a_day_as_each_minute_alone(rt: HostRuntime) -> Result<(), Fail> {
         minutes: 1_440,
     };
     assert!(rt; window_agrees(alloc, &network, 0, window, 4)?);
+    Ok(())
+}
+
+#[test]
+fn two_days_as_each_minute_alone(rt: HostRuntime) -> Result<(), Fail> {
+    let alloc = rt.alloc();
+    let network = busy_on_two_days(alloc)?;
+    for minutes in &[1, 32, 33, 64] {
+        for rides in &[1, 8] {
+            assert!(rt;
+                origins_agree(alloc, &network, *minutes, *rides)?,
+                "{minutes} minutes, {rides} rides"
+            );
+        }
+    }
     Ok(())
 }
 

@@ -1,5 +1,4 @@
-use Rattle.std.proofs.Common.{◌≡◌, ◌∙◌, slice_get, Some, ap, sym, arith, subst}
-use Rattle.timetable.specs.declared.trips.Event.{Event}
+use Rattle.std.proofs.Common.{◌∙◌, slice_get, ap, sym, arith}
 use Rattle.matrix_tests.proofs.Reached.{below_two}
 use Rattle.matrix_tests.proofs.lanes.who_is_ready_rides.Goals as goal
 
