@@ -1,5 +1,5 @@
 -- What choices between lanes give, in one lane.
-use Rattle.std.proofs.Common.{sym, true, false, ◌^◌, ◌≡◌, ℕ, cond, ltb, leb, eqb, ◌≢◌, ◌+◌, ◌-◌, ◌%◌, ◌<◌, ◌≤◌, List, length, get_or, slice_index, replicate, arith, refl, ◌∙◌}
+use Rattle.std.proofs.Common.{sym, true, false, ◌^◌, ◌≡◌, ℕ, cond, ltb, leb, eqb, ◌≢◌, ◌+◌, ◌-◌, ◌%◌, ◌<◌, ◌≤◌, List, length, get_or, slice_index, replicate, refl, ◌∙◌}
 use Rattle.std.proofs.lemmas.Bool.{false≢true, lt-ltb, le-leb, lt-leb, eq-eqb, ne_eqb}
 use Rattle.std.proofs.lemmas.Simd.{get_or-replicate, length-replicate}
 use Rattle.timetable.specs.declared.least.TheConstants.{NEVER}
@@ -9,14 +9,14 @@ use Rattle.trip_lanes.specs.Since.{IsSinceTo}
 use lib.Lanes.{mask_l}
 use mir.Syntax.{Width}
 
--- a label that is counted from its departure, unless it is the greatest number, below m
-pub since_of : (m depart label new : ℕ) → NEVER < m → label ≤ NEVER → (label ≢ NEVER → depart ≤ label) → new ≡ cond (eqb label NEVER) label ((label + (m - depart)) % m) → IsSinceTo NEVER depart label new
-since_of m depart label new most fits later e =
+-- a label below m that is counted from its departure, unless it is never
+pub since_of : (never m depart label then new : ℕ) → label < m → (label ≡ never → then ≡ NEVER) → (label ≢ never → depart ≤ label) → new ≡ cond (eqb label never) then ((label + (m - depart)) % m) → IsSinceTo never depart label new
+since_of never m depart label then new fits unreached later e =
     record {
-      never_so = λ never. e ∙ rw (eq-eqb label NEVER never) never;
+      never_so = λ same. e ∙ rw (eq-eqb label never same) (unreached same);
       since = λ live.
-          let counted : new ≡ (label + (m - depart)) % m = e ∙ rw (ne_eqb label NEVER live) refl in
-          rw counted (less label depart m (later live) (omega arith));
+          let counted : new ≡ (label + (m - depart)) % m = e ∙ rw (ne_eqb label never live) refl in
+          rw counted (less label depart m (later live) fits);
     }
 
 module _ (w : Width) (n : ℕ) where

@@ -1,5 +1,5 @@
 //! Narrow rows: thirty-two labels of 16 bits, which reach 65,535 seconds, some eighteen hours, from where they count.
-ghost use Rattle.std.specs.Prelude.{◌≡◌, ◌≢◌, ℕ, ◌<◌, ◌≤◌, ◌⊎◌, slice_index};
+ghost use Rattle.std.specs.Prelude.{◌≡◌, ◌≢◌, ℕ, ◌+◌, ◌*◌, ◌<◌, ◌≤◌, ◌⊎◌, slice_index};
 ghost use Rattle.std.proofs.Common.{rules};
 
 use crate::falls::Fall;
@@ -7,7 +7,7 @@ use crate::lanes::{LANES, Lanes};
 use crate::ranks::Span;
 use crate::rows::Row;
 use std::simd::prelude::*;
-use std::simd::u16x32;
+use std::simd::{u16x32, u32x16};
 use timetable::NEVER;
 
 /// How many narrow labels stand side by side: they take as much room as sixteen wide ones.
@@ -112,14 +112,14 @@ impl Row for Narrow {
     }
 
     fn since(self, departs: Self, part: usize) -> Lanes {
-        let mut since = [NEVER; LANES];
-        for l in 0..LANES {
-            let label = self[LANES * part + l];
-            if label != FAR {
-                since[l] = (label - departs[LANES * part + l]) as u32;
-            }
-        }
-        since
+        let times = u32x16::from_array(widened(self, part));
+        times
+            .simd_eq(u32x16::splat(FAR as u32))
+            .select(
+                u32x16::splat(NEVER),
+                times - u32x16::from_array(widened(departs, part)),
+            )
+            .to_array()
     }
 
     ghost some = { Prim.search rules };
@@ -133,7 +133,21 @@ impl Row for Narrow {
     ghost never_fits = { Prim.search rules };
 }
 
+/// A sixteenfold part of the labels, in 32 bits.
+#[inline(always)]
+fn widened(row: Narrow, part: usize) -> Lanes
+    requires { 16 * part + 16 ≤ 32 }
+    ensures { (l : ℕ) → l < 16 → slice_index result l ≡ slice_index row (16 * part + l) }
+{
+    let mut labels = [0; LANES];
+    for l in 0..LANES {
+        labels[l] = row[LANES * part + l] as u32;
+    }
+    labels
+}
+
 /// The ranks of the lanes that ride a trip, and 0 in the others.
+#[inline(always)]
 fn ridden(run: Narrow) -> Narrow
     ensures ranks { (l : ℕ) → l < 32 → slice_index run l ≢ 65535 → slice_index result l ≡ slice_index run l }
     ensures others { (l : ℕ) → l < 32 → slice_index run l ≡ 65535 → slice_index result l ≡ 0 }
@@ -147,6 +161,7 @@ fn ridden(run: Narrow) -> Narrow
 }
 
 /// The labels of the lanes that fell, and another number in the others.
+#[inline(always)]
 fn of_fallen(before: Narrow, ready: Narrow, labels: Narrow, other: u16) -> Narrow
     ensures { (l : ℕ) → l < 32 → slice_index ready l < slice_index before l → slice_index result l ≡ slice_index labels l }
 {
@@ -157,6 +172,7 @@ fn of_fallen(before: Narrow, ready: Narrow, labels: Narrow, other: u16) -> Narro
 }
 
 /// The least of some labels.
+#[inline(always)]
 fn least(labels: Narrow) -> u32
     ensures below { (l : ℕ) → l < 32 → result ≤ slice_index labels l }
     ensures some { (result ≡ 65535) ⊎ ((l : ℕ) × (l < 32) × (slice_index labels l ≡ result)) }
@@ -171,6 +187,7 @@ fn least(labels: Narrow) -> u32
 }
 
 /// The greatest of some labels.
+#[inline(always)]
 fn greatest(labels: Narrow) -> u32
     ensures above { (l : ℕ) → l < 32 → slice_index labels l ≤ result }
     ensures some { (result ≡ 0) ⊎ ((l : ℕ) × (l < 32) × (slice_index labels l ≡ result)) }

@@ -117,6 +117,7 @@ impl Row for Lanes {
 }
 
 /// The ranks of the lanes that ride a trip, and 0 in the others.
+#[inline(always)]
 fn ridden(run: Lanes) -> Lanes
     ensures ranks { (l : ℕ) → l < SIXTEEN → slice_index run l ≢ NEVER → slice_index result l ≡ slice_index run l }
     ensures others { (l : ℕ) → l < SIXTEEN → slice_index run l ≡ NEVER → slice_index result l ≡ 0 }
@@ -130,6 +131,7 @@ fn ridden(run: Lanes) -> Lanes
 }
 
 /// The labels of the lanes that fell, and another number in the others.
+#[inline(always)]
 fn of_fallen(before: Lanes, ready: Lanes, labels: Lanes, other: u32) -> Lanes
     ensures { (l : ℕ) → l < SIXTEEN → slice_index ready l < slice_index before l → slice_index result l ≡ slice_index labels l }
 {
@@ -140,6 +142,7 @@ fn of_fallen(before: Lanes, ready: Lanes, labels: Lanes, other: u32) -> Lanes
 }
 
 /// The least of some labels.
+#[inline(always)]
 fn least(labels: Lanes) -> u32
     ensures below { (l : ℕ) → l < SIXTEEN → result ≤ slice_index labels l }
     ensures some { (result ≡ NEVER) ⊎ ((l : ℕ) × (l < SIXTEEN) × (slice_index labels l ≡ result)) }
@@ -154,6 +157,7 @@ fn least(labels: Lanes) -> u32
 }
 
 /// The greatest of some labels.
+#[inline(always)]
 fn greatest(labels: Lanes) -> u32
     ensures above { (l : ℕ) → l < SIXTEEN → slice_index labels l ≤ result }
     ensures some { (result ≡ 0) ⊎ ((l : ℕ) × (l < SIXTEEN) × (slice_index labels l ≡ result)) }

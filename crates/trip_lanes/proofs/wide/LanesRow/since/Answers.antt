@@ -17,6 +17,6 @@ returns c l h =
     let departs_len : length departs ≡ 16 = omega arith in
     let less : ℕ → ℕ → ℕ = λ a b. (a + (2 ^ 32 - b)) % 2 ^ 32 in
     let counted_len : length (zip2 less times departs) ≡ 16 = length-zip2 less times departs (times_len ∙ sym departs_len) ∙ times_len in
-    rw whole (since_of (2 ^ 32) (get_or departs l 0) (get_or times l 0) _ (omega arith) (c.requires.fits l lt) (c.requires.later l lt)
+    rw whole (since_of NEVER (2 ^ 32) (get_or departs l 0) (get_or times l 0) (get_or times l 0) _ (let fits = c.requires.fits l lt in omega (arith, fits)) (λ same. same) (c.requires.later l lt)
     (sel_at w32 16 eqb times (replicate 16 NEVER) times (zip2 less times departs) l lt times_len refl times_len counted_len
     ∙ rw (get_or-replicate {A = ℕ} 16 l NEVER 0 lt, get_or-zip2 less times departs l 0 0 0 (omega arith) (omega arith)) refl))
