@@ -279,6 +279,42 @@ class Time(WithStandIn):
         status, said, _ = self.repository.gate("--budget", "0.02", now=hands)
         self.assertEqual((status, said[-1]), (0, "1 passed, 0 failed, 4 skipped"), said)
 
+    def test_thirty_minutes_prove_all_and_cut_edits_off(self) -> None:
+        """Proofs end in the 20th minute, edits of two crates in the 25th and shortly before the 30th; a third's are
+        at work when the time is up, and a fourth's aren't begun.
+        """
+        noted = 'echo "check $crate" >> "$RT_LOG"\n'
+        self.stand_in(STAND_IN.replace(noted, noted + '    [ "$crate" = one ] && sleep 60\n'))
+        self.repository.write("crates/one/must-fail/lib.bump.three_more.edit", EDIT.replace("+ 2", "+ 3"))
+        hands, was = Hands(), edits.Rooms.try_edits
+        ends = iter([25 * 60.0, 30 * 60 * gate.USED - 0.2, 30 * 60 * gate.USED, 30 * 60 * gate.USED])
+
+        def try_one(rooms: edits.Rooms, name: str, paths: list[Path], jobs: int) -> edits.Outcome:
+            outcome = was(rooms, name, paths, jobs)
+            hands.seconds = next(ends)
+            return outcome
+
+        proved = mock.patch.object(gate, "prove", hands.set_by_proof(20 * 60.0))
+        one_at_a_time = mock.patch.object(gate, "jobs", lambda: 1)
+        with proved, one_at_a_time, mock.patch.object(edits.Rooms, "try_edits", try_one):
+            status, said, _ = self.repository.gate("--budget", "30", now=hands)
+        self.assertEqual((status, said[-1]), (0, "3 passed, 0 failed, 3 skipped"), said)
+        told = [it for it in said if "skipped, for want of time" in it or "edits refused" in it]
+        self.assertEqual(
+            told,
+            [
+                "lower: 1 of 1 edits refused",
+                "upper: 1 of 1 edits refused",
+                "one/lib.bump.three_more.edit: skipped, for want of time",
+                "one/lib.bump.two_more.edit: skipped, for want of time",
+                "one: 0 of 2 edits refused",
+                "two/lib.bump.two_more.edit: skipped, for want of time",
+                "two: 0 of 1 edits refused",
+            ],
+        )
+        self.assertEqual((self.order(), self.repository.rows()), (["lower", "upper", "one"], ["lower", "upper"]))
+        self.assertLess(hands.seconds, 30 * 60.0)
+
     def test_a_failed_proof_fails_however_much_is_skipped(self) -> None:
         self.stand_in(STAND_IN.replace("1 passed, 0 failed", "0 passed, 1 failed"))
         status, said, _ = self.repository.gate("--budget", "0")
