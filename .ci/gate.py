@@ -102,6 +102,7 @@ def scripts(room: Path) -> list[list[str]]:
         [".ci/packaging_checks.py", program],
         [".ci/random_feeds.py", program],
         [".ci/program_runs.py", program],
+        [".ci/study_runs.py", program],
         [".ci/names.py"],
         [".ci/same.py"],
     ]

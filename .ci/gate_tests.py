@@ -16,7 +16,7 @@ import subprocess
 import sys
 import tempfile
 import unittest
-from collections.abc import Callable
+from collections.abc import Callable, Iterator
 from pathlib import Path
 from typing import Optional
 from unittest import mock
@@ -79,7 +79,7 @@ pub fn twice(count: u32) -> u32
 """
 )
 ONCE = "file: src/lib.rt\nold:     bump(bump(count))\nnew:     bump(count)\n"
-UNKNOWN_NAME = "file: src/lib.rt\nold:     bump(bump(count))\nnew:     bump(bump(counts))\n"
+UNKNOWN_NAME = "file: src/lib.rt\nold:     count + 1\nnew:     counts + 1\n"
 UNREAD = "file: src/lib.rt\nold:     bump(bump(count))\nnew:     bump(bump(count)\n"
 
 
@@ -279,6 +279,42 @@ class Time(WithStandIn):
         status, said, _ = self.repository.gate("--budget", "0.02", now=hands)
         self.assertEqual((status, said[-1]), (0, "1 passed, 0 failed, 4 skipped"), said)
 
+    def test_thirty_minutes_prove_all_and_cut_edits_off(self) -> None:
+        """Proofs end in the 20th minute, edits of two crates in the 25th and shortly before the 30th; a third's are
+        at work when the time is up, and a fourth's aren't begun.
+        """
+        noted = 'echo "check $crate" >> "$RT_LOG"\n'
+        self.stand_in(STAND_IN.replace(noted, noted + '    [ "$crate" = one ] && sleep 60\n'))
+        self.repository.write("crates/one/must-fail/lib.bump.three_more.edit", EDIT.replace("+ 2", "+ 3"))
+        hands, was = Hands(), edits.Rooms.try_edits
+        ends = iter([25 * 60.0, 30 * 60 * gate.USED - 0.2, 30 * 60 * gate.USED, 30 * 60 * gate.USED])
+
+        def try_one(rooms: edits.Rooms, name: str, paths: list[Path], jobs: int) -> edits.Outcome:
+            outcome = was(rooms, name, paths, jobs)
+            hands.seconds = next(ends)
+            return outcome
+
+        proved = mock.patch.object(gate, "prove", hands.set_by_proof(20 * 60.0))
+        one_at_a_time = mock.patch.object(gate, "jobs", lambda: 1)
+        with proved, one_at_a_time, mock.patch.object(edits.Rooms, "try_edits", try_one):
+            status, said, _ = self.repository.gate("--budget", "30", now=hands)
+        self.assertEqual((status, said[-1]), (0, "3 passed, 0 failed, 3 skipped"), said)
+        told = [it for it in said if "skipped, for want of time" in it or "edits refused" in it]
+        self.assertEqual(
+            told,
+            [
+                "lower: 1 of 1 edits refused",
+                "upper: 1 of 1 edits refused",
+                "one/lib.bump.three_more.edit: skipped, for want of time",
+                "one/lib.bump.two_more.edit: skipped, for want of time",
+                "one: 0 of 2 edits refused",
+                "two/lib.bump.two_more.edit: skipped, for want of time",
+                "two: 0 of 1 edits refused",
+            ],
+        )
+        self.assertEqual((self.order(), self.repository.rows()), (["lower", "upper", "one"], ["lower", "upper"]))
+        self.assertLess(hands.seconds, 30 * 60.0)
+
     def test_a_failed_proof_fails_however_much_is_skipped(self) -> None:
         self.stand_in(STAND_IN.replace("1 passed, 0 failed", "0 passed, 1 failed"))
         status, said, _ = self.repository.gate("--budget", "0")
@@ -406,44 +442,52 @@ pub fn bare() {
 
 
 class Prover(unittest.TestCase):
-    """Through the toolchain itself."""
+    """Through the toolchain itself, but for `rt ci`, which each run of the gate goes through. A check takes ten
+    seconds, so one run shows what several edits come to.
+    """
 
-    def run_gate(self, edits: dict[str, str], *words: str, source: str = TWICE) -> tuple[int, list[str], list[str]]:
-        """What the gate says of one crate with these edits beside its own: its status, what it said, and what it wrote
-        down.
-        """
+    EDITS = {
+        "lib.bump.another_name": UNKNOWN_NAME,
+        "lib.bump.turned_round": PROVES,
+        "lib.twice.half_a_call": UNREAD,
+        "lib.twice.once": ONCE,
+    }
+
+    def test_what_edits_come_to_is_told_and_one_that_proves_makes_the_gate_fail(self) -> None:
         with tempfile.TemporaryDirectory(prefix="ttm-gate-test-") as made:
-            repository = Repository(Path(made), {"counts": ""})
-            repository.write("crates/counts/src/lib.rt", source)
-            for name, text in edits.items():
+            repository = Repository(Path(made), {"counts": "", "wrong": ""})
+            repository.write("crates/counts/src/lib.rt", TWICE)
+            (repository.root / "crates/counts/must-fail/lib.bump.two_more.edit").unlink()
+            repository.write("crates/wrong/src/lib.rt", LOWER.replace("count + 1 }", "count + 3 }"))
+            for name, text in self.EDITS.items():
                 repository.write(f"crates/counts/must-fail/{name}.edit", text)
-            status, said, _ = repository.gate(*words)
-            return status, said, repository.rows()
-
-    def test_an_edit_that_proves_makes_the_gate_fail(self) -> None:
-        status, said, rows = self.run_gate({"lib.bump.turned_round": PROVES}, source=LOWER)
-        self.assertEqual((status, said[-1], rows), (1, "2 passed, 1 failed", []), said)
+            with mock.patch.object(gate, "prove", lambda room: gate.Count(1)), self.joint() as checks:
+                status, said, _ = repository.gate()
+            self.assertEqual((status, said[-1], repository.rows()), (1, "2 passed, 4 failed", []), said)
+        self.assertIn("counts: 1 of 4 edits refused", said)
         self.assertIn("counts/lib.bump.turned_round.edit: NOT REFUSED: the crate is still proved with it", said)
-        self.assertIn("counts: 1 of 2 edits refused", said)
-
-    def test_edits_of_two_functions_are_tried_by_one_check(self) -> None:
-        status, said, rows = self.run_gate({"lib.twice.once": ONCE}, "--edits", "counts")
-        self.assertEqual((status, said, rows), (0, ["counts: 2 of 2 edits refused", "2 passed, 0 failed"], ["counts"]))
-
-    def test_an_edit_that_proves_or_is_not_read_is_told_among_others(self) -> None:
-        unread = {"lib.twice.half_a_call": UNREAD, "lib.twice.another_name": UNKNOWN_NAME}
-        status, said, rows = self.run_gate({**unread, "lib.bump.turned_round": PROVES}, "--edits", "counts")
-        self.assertEqual((status, said[-1], rows), (1, "1 passed, 3 failed", []), said)
-        self.assertIn("counts/lib.bump.turned_round.edit: NOT REFUSED: the crate is still proved with it", said)
-        for name in unread:
-            start = f"counts/{name}.edit: NOT REFUSED: the prover can't read it"
+        for name in ("bump.another_name", "twice.half_a_call"):
+            start = f"counts/lib.{name}.edit: NOT REFUSED: the prover can't read it"
             self.assertTrue(any(it.startswith(start) for it in said), said)
+        # one check tells of two functions which of their edits is refused
+        self.assertIn(({"lib.bump.turned_round.edit", "lib.twice.once.edit"}, {"lib.twice.once.edit"}), checks)
+        self.assertIn("wrong/lib.bump.two_more.edit: NOT REFUSED: the crate isn't proved without it", said)
 
-    def test_no_edit_is_refused_where_the_crate_is_not_proved_without_it(self) -> None:
-        wrong = LOWER.replace("count + 1 }", "count + 3 }")
-        status, said, rows = self.run_gate({}, "--edits", "counts", source=wrong)
-        self.assertEqual((status, said[-1], rows), (1, "0 passed, 1 failed", []), said)
-        self.assertIn("counts/lib.bump.two_more.edit: NOT REFUSED: the crate isn't proved without it", said)
+    @staticmethod
+    @contextlib.contextmanager
+    def joint() -> Iterator[list[tuple[set[str], set[str]]]]:
+        """The names of the edits that each joint check plants, and of those that are refused."""
+        checks: list[tuple[set[str], set[str]]] = []
+        was = edits.Trial.together
+
+        def together(trial: edits.Trial, asked: list[edits.Edit]) -> list[edits.Edit]:
+            chosen, _ = edits.choose(asked, trial.texts)
+            refused = was(trial, asked)
+            checks.append(({it.name for it in chosen}, {it.name for it in refused}))
+            return refused
+
+        with mock.patch.object(edits.Trial, "together", together):
+            yield checks
 
 
 if __name__ == "__main__":

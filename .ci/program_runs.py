@@ -144,6 +144,17 @@ def unread(name: str, words: str, path: str, *changes: Change) -> Run:
 RUNS = [
     Run("no words", "", EXAMPLE),
     Run(
+        "every stop is an origin",
+        f"--feed feed {ASKED} 0",
+        EXAMPLE + "base,B,50,2,,0,1800\nbase,C,50,1,,,0\n",
+    ),
+    Run(
+        "a trip that is removed, and one that is shifted",
+        f"--feed feed {ASKED} 0 --origins a.csv cut.csv late.csv",
+        EXAMPLE + "cut,A,50,2,0,600,\nlate,A,50,3,0,900,1800\n",
+        changes=[Text("cut.csv", "action,id,seconds\nremove_trip,T2,\n")],
+    ),
+    Run(
         "all own files and two scenarios",
         f"--feed feed {ASKED} 300 {OWN_WORDS} cut.csv late.csv",
         HEAD + BASE + CUT + LATE,
@@ -194,6 +205,7 @@ RUNS = [
         Text("to.csv", "stop_id\nZ\n"),
     ),
     refused("a bad setting", f"--feed feed {ASKED} 7201 {OWN_WORDS}", "bad walk"),
+    refused("seven days before the date", f"--feed feed {ASKED} 0 --back 7", "bad back"),
     refused("shares that don't ascend", f"{FOUR} --share 50,25 --within 1800,1800", "bad share"),
     refused("a share of nothing", f"{FOUR} --share 0 --within 1800", "bad share"),
     refused("nine shares", f"{FOUR} --share 1,2,3,4,5,6,7,8,9 --within 1800", "bad share"),
@@ -226,7 +238,9 @@ RUNS = [
     ),
     unread("an own file that isn't there", f"--feed feed {ASKED} 0 --origins none.csv", "none.csv"),
     unread("destinations that aren't there", f"--feed feed {ASKED} 0 --destinations none.csv cut.csv", "none.csv"),
+    unread("footpaths that aren't there", f"--feed feed {ASKED} 0 --footpaths none.csv", "none.csv"),
     unread("a scenario that isn't there", f"--feed feed {ASKED} 0 none.csv", "none.csv"),
+    unread("a folder for a scenario", f"--feed feed {ASKED} 0 feed", "feed"),
     unread(
         "a file of the feed without permission",
         f"--feed feed {ASKED} 0",
@@ -483,10 +497,34 @@ def version_text(program: str) -> tuple[object, object]:
     return (*told, at_hand), (f"ttm 2.0.0\nproved with {named}\n", "", 0, logic)
 
 
+NO_OPTION = """error: unexpected argument '--nothing' found
+
+  tip: a similar argument exists: '--within'
+
+Usage: ttm --feed <DIR> --date <YYYYMMDD> --from <HH:MM> --to <HH:MM> --trips <K> --walk <S> --share <P> --within <S> \
+--workers <N> --tries <N> [SCENARIO]...
+
+For more information, try '--help'.
+"""
+
+
 def wrong_word(program: str) -> tuple[object, object]:
-    """Words that aren't the program's are told on the standard error; only the first line is compared here."""
-    out, err, status = left_by(program, ["--nope"])
-    return (out, err.splitlines()[:1], status), ("", ["error: unexpected argument '--nope' found"], 2)
+    """Words that aren't the program's are told on the standard error."""
+    return left_by(program, ["--nothing"]), ("", NO_OPTION, 2)
+
+
+FEW = 6  # files that may be open at once: three are before the first is read
+
+
+def few_files(program: str) -> tuple[object, object]:
+    """A file that was read is closed: more are read than may be open at once."""
+    words = f"--feed feed {ASKED} 300 {OWN_WORDS} --destinations b.csv cut.csv late.csv".split()
+    limited = ["-c", f'ulimit -n {FEW}; exec "$0" "$@"', program, *words]
+    wanted = "scenario,origin,share,access_1800,B\n" + "".join(
+        f"{scenario},C,50,15,120\n{scenario},A,50,{access},{to_b}\n"
+        for scenario, access, to_b in (("base", 15, 600), ("cut", 10, 600), ("late", 15, 900))
+    )
+    return left_by("/bin/sh", limited), (wanted, "", 0)
 
 
 def no_text(program: str) -> tuple[object, object]:
@@ -499,6 +537,15 @@ def steady(told: str) -> str:
     for varies, stays in VARYING:
         told = varies.sub(stays, told)
     return told
+
+
+def same_reported(program: str, run: Run, was: Left) -> Compared:
+    """What a run leaves with a report, beside what it left without one: the report is told besides, and nothing else
+    differs.
+    """
+    out, err, status = left_by(program, [*run.words.split(), "--report"], run.changes)
+    told = was[1] in err, len(err) > len(was[1]) or status != 0
+    return Compared(f"{run.name}, with a report", (out, status, told), (was[0], was[2], (True, True)))
 
 
 def reported(program: str, report: Report) -> Compared:
@@ -560,6 +607,7 @@ SPECIAL: list[Callable[[str], tuple[object, object]]] = [
     help_text,
     version_text,
     wrong_word,
+    few_files,
     no_text,
     terminal,
 ]
@@ -570,6 +618,8 @@ def tried(program: str) -> Iterator[Compared]:
     for run in RUNS + REFUSED:
         was = left_by(program, run.words.split(), run.changes)
         yield Compared(run.name, was, (run.out, run.err, run.status))
+        if run.words:
+            yield same_reported(program, run, was)
     for report in REPORTS:
         yield reported(program, report)
     for special in SPECIAL:

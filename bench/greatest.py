@@ -40,13 +40,23 @@ def footpaths(pairs: int) -> Iterator[str]:
         first += size
 
 
+def patterns() -> list[str]:
+    """The stop times of each trip of a line, some minutes apart, but for the trip's number and its stops."""
+    texts = []
+    for run in range(TRIPS_OF_A_LINE):
+        times = [clock(4 * 3600 + run * 590 + k * 120) for k in range(CALLS)]
+        texts.append("\n".join("{0},%s,%s,{%d},%d" % (time, time, k + 1, k) for k, time in enumerate(times)))
+    return texts
+
+
 def calls(trips: int) -> Iterator[str]:
-    """The stop times of trips in lines of their own stops, some minutes apart."""
+    """The stop times of trips in lines of their own stops, those of a trip at once."""
+    made = patterns()
     for trip in range(trips):
         line, run = divmod(trip, TRIPS_OF_A_LINE)
-        for k in range(CALLS):
-            time = clock(4 * 3600 + run * 590 + k * 120)
-            yield "%d,%s,%s,%d,%d" % (trip, time, time, (line * 37 + k * 331) % STOPS, k)
+        if run == 0:
+            stops = [(line * 37 + k * 331) % STOPS for k in range(CALLS)]
+        yield made[run].format(trip, *stops)
 
 
 def main() -> None:

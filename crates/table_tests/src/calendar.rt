@@ -1,13 +1,10 @@
 //! The services of `calendar.txt`.
 
-ghost use Rattle.std.specs.Prelude.{◌≤◌, length};
-
 use jiff::civil::Date;
 use std::alloc::Global;
-use std::process::Abort;
 use std::test::Fail;
 use table_files::{Calendar, CalendarRow, read_calendar};
-use table_records::{FeedFault, FileName, What};
+use table_records::FeedFault;
 
 // A day of May 2026.
 fn in_may(day: i8) -> Option<Date> {
@@ -53,78 +50,4 @@ SUN, 0,0,0,0,0,0,01,20260503,20260531
 fn a_week_from_monday_on(rt: HostRuntime) -> Result<(), Fail> {
     assert!(rt; reads_monday_and_sunday(rt.alloc())?);
     Ok(())
-}
-
-// The fault of a file, none where it has none.
-fn fault_of(alloc: Global, bytes: &[u8]) -> Option<FeedFault>
-    requires { length bytes.now ≤ 1073741824 }
-{
-    read_calendar(alloc, bytes).err()
-}
-
-// A file is refused for this fault.
-fn expect_fault(rt: &impl Abort, alloc: Global, bytes: &'static [u8], at: u64, what: What)
-    requires { length bytes.now ≤ 1073741824 }
-{
-    let fault = fault_of(alloc, bytes);
-    assert_eq!(rt; fault, Some(FeedFault::at(FileName::Calendar, at, what)));
-}
-
-#[test]
-fn columns_and_identifiers_are_refused(rt: HostRuntime) {
-    let alloc = rt.alloc();
-    expect_fault(
-        &rt,
-        alloc,
-        b"service_id,monday\nA,1\n",
-        1,
-        What::MissingColumn,
-    );
-    expect_fault(
-        &rt,
-        alloc,
-        b"service_id,monday,tuesday,wednesday,thursday,friday,saturday,sunday,start_date,end_date\n,1,0,0,0,0,0,2,x,y\n",
-        2,
-        What::EmptyId,
-    );
-    expect_fault(
-        &rt,
-        alloc,
-        b"service_id,monday,tuesday,wednesday,thursday,friday,saturday,sunday,start_date,end_date\nA,1,0,0,0,0,0,1,20260504,20260531\nA,2\n",
-        3,
-        What::DuplicateId,
-    );
-}
-
-#[test]
-fn flags_and_dates_are_refused(rt: HostRuntime) {
-    let alloc = rt.alloc();
-    expect_fault(
-        &rt,
-        alloc,
-        b"service_id,monday,tuesday,wednesday,thursday,friday,saturday,sunday,start_date,end_date\nA,1,0,0,0,0,0,2,20260504,20260531\n",
-        2,
-        What::BadNumber,
-    );
-    expect_fault(
-        &rt,
-        alloc,
-        b"service_id,monday,tuesday,wednesday,thursday,friday,saturday,sunday,start_date,end_date\nA,,0,0,0,0,0,1,20260504,20260531\n",
-        2,
-        What::BadNumber,
-    );
-    expect_fault(
-        &rt,
-        alloc,
-        b"service_id,monday,tuesday,wednesday,thursday,friday,saturday,sunday,start_date,end_date\nA,1,0,0,0,0,0,1,20260230,20260531\n",
-        2,
-        What::BadDate,
-    );
-    expect_fault(
-        &rt,
-        alloc,
-        b"service_id,monday,tuesday,wednesday,thursday,friday,saturday,sunday,start_date,end_date\nA,1,0,0,0,0,0,1,20260504,\n",
-        2,
-        What::BadDate,
-    );
 }

@@ -1,21 +1,11 @@
 //! The dates that `calendar_dates.txt` adds and removes.
 
-ghost use Rattle.std.specs.Prelude.{◌≤◌, length};
-
 use crate::test_identifiers::identifiers;
 use jiff::civil::Date;
 use std::alloc::Global;
-use std::process::Abort;
 use std::test::Fail;
 use table_files::{CalendarDates, ExceptionRow, read_calendar_dates};
-use table_records::{FeedFault, FileName, Identifiers, What};
-
-// The fault of a file, none where it has none.
-fn fault_of(alloc: Global, bytes: &[u8]) -> Option<FeedFault>
-    requires { length bytes.now ≤ 1073741824 }
-{
-    read_calendar_dates(alloc, bytes, Identifiers::new(alloc)).err()
-}
+use table_records::FeedFault;
 
 // A day of 2026.
 fn in_2026(month: i8, day: i8) -> Option<Date> {
@@ -57,48 +47,4 @@ fn reads_christmas(alloc: Global) -> Result<bool, FeedFault> {
 fn services_are_numbered_on(rt: HostRuntime) -> Result<(), Fail> {
     assert!(rt; reads_christmas(rt.alloc())?);
     Ok(())
-}
-
-// A file is refused for this fault.
-fn expect_fault(rt: &impl Abort, alloc: Global, bytes: &'static [u8], at: u64, what: What)
-    requires { length bytes.now ≤ 1073741824 }
-{
-    let fault = fault_of(alloc, bytes);
-    assert_eq!(rt;
-        fault,
-        Some(FeedFault::at(FileName::CalendarDates, at, what))
-    );
-}
-
-#[test]
-fn refusals(rt: HostRuntime) {
-    let alloc = rt.alloc();
-    expect_fault(
-        &rt,
-        alloc,
-        b"service_id,date,exception_type\n,x,3\n",
-        2,
-        What::EmptyId,
-    );
-    expect_fault(
-        &rt,
-        alloc,
-        b"service_id,date,exception_type\nA,20260431,3\n",
-        2,
-        What::BadDate,
-    );
-    expect_fault(
-        &rt,
-        alloc,
-        b"service_id,date,exception_type\nA,20260430,1\nA,20260430,3\n",
-        3,
-        What::BadNumber,
-    );
-    expect_fault(
-        &rt,
-        alloc,
-        b"service_id,date\nA,20260430\n",
-        1,
-        What::MissingColumn,
-    );
 }

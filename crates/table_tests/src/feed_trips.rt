@@ -1,13 +1,10 @@
 //! The trips of `trips.txt`.
 
-ghost use Rattle.std.specs.Prelude.{◌≤◌, length};
-
 use crate::test_identifiers::identifiers;
 use std::alloc::Global;
-use std::process::Abort;
 use std::test::Fail;
 use table_files::{FeedTrips, TripNumbers, read_feed_trips};
-use table_records::{FeedFault, FileName, Identifiers, What};
+use table_records::FeedFault;
 
 // Whether the trips T1, T2 and T3 have their routes and services, of which NEW is the second.
 fn has_three_trips(trips: &FeedTrips) -> bool {
@@ -48,63 +45,4 @@ fn reads_three_trips(alloc: Global) -> Result<bool, FeedFault> {
 fn trips_have_routes_and_services(rt: HostRuntime) -> Result<(), Fail> {
     assert!(rt; reads_three_trips(rt.alloc())?);
     Ok(())
-}
-
-// The fault of a file beside the route R1, none where it has none.
-fn fault_of(alloc: Global, bytes: &[u8]) -> Option<FeedFault>
-    requires { length bytes.now ≤ 1073741824 }
-{
-    let routes = identifiers(alloc, &[b"R1"]).ok()?;
-    if routes.len() > 1 {
-        return None;
-    }
-    read_feed_trips(alloc, bytes, &routes, Identifiers::new(alloc)).err()
-}
-
-// A file is refused for this fault.
-fn expect_fault(rt: &impl Abort, alloc: Global, bytes: &'static [u8], at: u64, what: What)
-    requires { length bytes.now ≤ 1073741824 }
-{
-    let fault = fault_of(alloc, bytes);
-    assert_eq!(rt; fault, Some(FeedFault::at(FileName::Trips, at, what)));
-}
-
-#[test]
-fn refusals(rt: HostRuntime) {
-    let alloc = rt.alloc();
-    expect_fault(
-        &rt,
-        alloc,
-        b"route_id,service_id,trip_id\nR1,MON,T1\nR3,,\n",
-        3,
-        What::UnknownRoute,
-    );
-    expect_fault(
-        &rt,
-        alloc,
-        b"route_id,service_id,trip_id\nR1,MON,T1\nR1,MON,T1\n",
-        3,
-        What::DuplicateId,
-    );
-    expect_fault(
-        &rt,
-        alloc,
-        b"route_id,service_id,trip_id\nR1,,T1\n",
-        2,
-        What::EmptyId,
-    );
-    expect_fault(
-        &rt,
-        alloc,
-        b"route_id,service_id,trip_id\nR1,MON,\n",
-        2,
-        What::EmptyId,
-    );
-    expect_fault(
-        &rt,
-        alloc,
-        b"route_id,trip_id\nR1,T1\n",
-        1,
-        What::MissingColumn,
-    );
 }

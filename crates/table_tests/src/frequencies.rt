@@ -4,10 +4,9 @@ ghost use Rattle.std.specs.Prelude.{◌≤◌, length};
 
 use crate::test_identifiers::identifiers;
 use std::alloc::Global;
-use std::process::Abort;
 use std::test::Fail;
 use table_files::{Departures, read_frequencies};
-use table_records::{FeedFault, FileName, What};
+use table_records::FeedFault;
 
 // Whether the second of two trips has these departures, and the first has none.
 fn has_departures(rows: &[Vec<Departures>], second: &[Departures]) -> bool {
@@ -42,72 +41,4 @@ fn rows_of_each_trip(rt: HostRuntime) -> Result<(), Fail> {
     )?;
     assert!(rt; holds);
     Ok(())
-}
-
-// The fault of a file beside two trips, none where it has none.
-fn fault_of(alloc: Global, bytes: &[u8]) -> Option<FeedFault>
-    requires { length bytes.now ≤ 1073741824 }
-{
-    let trips = identifiers(alloc, &[b"T1", b"T2"]).ok()?;
-    read_frequencies(alloc, bytes, &trips).err()
-}
-
-// A file is refused for this fault.
-fn expect_fault(rt: &impl Abort, alloc: Global, bytes: &'static [u8], at: u64, what: What)
-    requires { length bytes.now ≤ 1073741824 }
-{
-    let fault = fault_of(alloc, bytes);
-    assert_eq!(rt; fault, Some(FeedFault::at(FileName::Frequencies, at, what)));
-}
-
-#[test]
-fn columns_and_trips_are_refused(rt: HostRuntime) {
-    let alloc = rt.alloc();
-    expect_fault(
-        &rt,
-        alloc,
-        b"trip_id,start_time,end_time\nT1,08:00:00,08:20:00\n",
-        1,
-        What::MissingColumn,
-    );
-    expect_fault(
-        &rt,
-        alloc,
-        b"trip_id,start_time,end_time,headway_secs\nT9,,,\n",
-        2,
-        What::UnknownTrip,
-    );
-    expect_fault(
-        &rt,
-        alloc,
-        b"trip_id,start_time,end_time,headway_secs\nT1,08:00:00,08:20:00,1\n,,,\n",
-        3,
-        What::EmptyId,
-    );
-}
-
-#[test]
-fn times_and_headways_are_refused(rt: HostRuntime) {
-    let alloc = rt.alloc();
-    expect_fault(
-        &rt,
-        alloc,
-        b"trip_id,start_time,end_time,headway_secs\nT1,,08:20:00,1\n",
-        2,
-        What::BadTime,
-    );
-    expect_fault(
-        &rt,
-        alloc,
-        b"trip_id,start_time,end_time,headway_secs\nT1,08:00:00,168:00:00,1\n",
-        2,
-        What::BadTime,
-    );
-    expect_fault(
-        &rt,
-        alloc,
-        b"trip_id,start_time,end_time,headway_secs\nT1,08:00:00,08:20:00,0\n",
-        2,
-        What::BadNumber,
-    );
 }

@@ -3,7 +3,9 @@
 //! - `records`: records, columns, fields and identifiers.
 //! - `calendar`, `calendar_dates`, `feed_trips`, `frequencies`, `places`, `routes`, `stop_times`, `transfers`: one file each; `sizes`: files at
 //!   their limits.
-//! - `feeds`, `feed_faults`, `feed_places`, `origins`: whole feeds (`test_feeds`), and an analyst's own files.
+//! - `feeds`, `feed_places`, `origins`: whole feeds (`test_feeds`), and an analyst's own files.
+//! Files that are refused are data: `.ci/fault_cases.py`.
+//!
 //! - `test_identifiers`: identifiers of trips, stops, routes and services, which several of these are read beside.
 #![tactic(auto)]
 
@@ -11,8 +13,6 @@
 mod calendar;
 #[cfg(test)]
 mod calendar_dates;
-#[cfg(test)]
-mod feed_faults;
 #[cfg(test)]
 mod feed_places;
 #[cfg(test)]

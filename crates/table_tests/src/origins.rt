@@ -1,7 +1,7 @@
 //! Origins and opportunities over the small feed.
 
 use crate::test_feeds::{feed_in, small_feed};
-use gtfs_tables::{Feed, FeedFault, FileName, What, file_fits, read_opportunities, read_origins};
+use gtfs_tables::{Feed, file_fits, read_opportunities, read_origins};
 use std::alloc::Global;
 use std::process::Abort;
 use timetable::StopNo;
@@ -28,29 +28,11 @@ fn gives_opportunities(alloc: Global, file: Option<&[u8]>, feed: &Feed, want: &[
     }
 }
 
-// Whether a file of origins has this fault.
-fn has_origins_fault(alloc: Global, file: &[u8], feed: &Feed, fault: FeedFault) -> bool {
-    if !file_fits(Some(file)) {
-        return false;
-    }
-    read_origins(alloc, Some(file), feed).err() == Some(fault)
-}
-
-// Whether a file of opportunities has this fault.
-fn has_opportunities_fault(alloc: Global, file: &[u8], feed: &Feed, fault: FeedFault) -> bool {
-    if !file_fits(Some(file)) {
-        return false;
-    }
-    read_opportunities(alloc, Some(file), feed).err() == Some(fault)
-}
-
 // What a test expects of a file, or of none, beside the small feed.
 #[derive(Clone, Copy)]
 enum Expected<'a> {
     Origins(Option<&'a [u8]>, &'a [StopNo]),
     Opportunities(Option<&'a [u8]>, &'a [u32]),
-    OriginsFault(&'a [u8], FeedFault),
-    OpportunitiesFault(&'a [u8], FeedFault),
 }
 
 // Whether a file gives what is expected. One function owns the feeds of all tests, so that letting go of one is proved once.
@@ -65,10 +47,6 @@ fn is_as_expected(alloc: Global, feed: &Feed, expected: Expected<'_>) -> bool {
     match expected {
         Expected::Origins(file, want) => gives_origins(alloc, file, feed, want),
         Expected::Opportunities(file, want) => gives_opportunities(alloc, file, feed, want),
-        Expected::OriginsFault(file, fault) => has_origins_fault(alloc, file, feed, fault),
-        Expected::OpportunitiesFault(file, fault) => {
-            has_opportunities_fault(alloc, file, feed, fault)
-        }
     }
 }
 
@@ -78,22 +56,6 @@ fn expect_origins(rt: &impl Abort, alloc: Global, file: Option<&[u8]>, want: &[S
 
 fn expect_opportunities(rt: &impl Abort, alloc: Global, file: Option<&[u8]>, want: &[u32]) {
     assert!(rt; gives(alloc, Expected::Opportunities(file, want)));
-}
-
-fn expect_origins_fault(rt: &impl Abort, alloc: Global, file: &'static [u8], at: u64, what: What) {
-    let fault = FeedFault::at(FileName::Origins, at, what);
-    assert!(rt; gives(alloc, Expected::OriginsFault(file, fault)));
-}
-
-fn expect_opportunities_fault(
-    rt: &impl Abort,
-    alloc: Global,
-    file: &'static [u8],
-    at: u64,
-    what: What,
-) {
-    let fault = FeedFault::at(FileName::Opportunities, at, what);
-    assert!(rt; gives(alloc, Expected::OpportunitiesFault(file, fault)));
 }
 
 #[test]
@@ -126,49 +88,4 @@ fn opportunities_at_each_stop(rt: HostRuntime) {
         &[12, 0, 7],
     );
     expect_opportunities(&rt, alloc, Some(b"opportunities,stop_id\n"), &[0, 0, 0]);
-}
-
-#[test]
-fn origins_are_refused(rt: HostRuntime) {
-    let alloc = rt.alloc();
-    expect_origins_fault(&rt, alloc, b"stop_id\nA\n\"\"\n", 3, What::EmptyId);
-    expect_origins_fault(&rt, alloc, b"stop_id\nA\nZ\n", 3, What::UnknownStop);
-    expect_origins_fault(&rt, alloc, b"stop_id\nA\nB\nA\n", 4, What::DuplicateId);
-    expect_origins_fault(&rt, alloc, b"stop\nA\n", 1, What::MissingColumn);
-    expect_origins_fault(&rt, alloc, b"", 1, What::MissingColumn);
-}
-
-#[test]
-fn opportunities_are_refused(rt: HostRuntime) {
-    let alloc = rt.alloc();
-    expect_opportunities_fault(&rt, alloc, b"stop_id,opportunities\n,1\n", 2, What::EmptyId);
-    expect_opportunities_fault(
-        &rt,
-        alloc,
-        b"stop_id,opportunities\nA,1\nZ,x\n",
-        3,
-        What::UnknownStop,
-    );
-    expect_opportunities_fault(
-        &rt,
-        alloc,
-        b"stop_id,opportunities\nA,1\nA,x\n",
-        3,
-        What::DuplicateId,
-    );
-    expect_opportunities_fault(
-        &rt,
-        alloc,
-        b"stop_id,opportunities\nA,1\nB,-1\n",
-        3,
-        What::BadNumber,
-    );
-    expect_opportunities_fault(
-        &rt,
-        alloc,
-        b"stop_id,opportunities\nA,4294967296\n",
-        2,
-        What::BadNumber,
-    );
-    expect_opportunities_fault(&rt, alloc, b"stop_id\nA\n", 1, What::MissingColumn);
 }

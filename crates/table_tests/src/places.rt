@@ -3,7 +3,6 @@
 ghost use Rattle.std.specs.Prelude.{◌≤◌, length};
 
 use std::alloc::{AllocError, Global};
-use std::process::Abort;
 use std::test::Fail;
 use table_files::{Locations, Place, read_locations};
 use table_records::{FeedFault, FileName, What};
@@ -75,48 +74,6 @@ fn fault_of(alloc: Global, bytes: &[u8]) -> Option<FeedFault>
     requires { length bytes.now ≤ 1073741824 }
 {
     read_locations(alloc, bytes).err()
-}
-
-// A file is refused for this fault.
-fn expect_fault(rt: &impl Abort, alloc: Global, bytes: &'static [u8], at: u64, what: What)
-    requires { length bytes.now ≤ 1073741824 }
-{
-    let fault = fault_of(alloc, bytes);
-    assert_eq!(rt; fault, Some(FeedFault::at(FileName::Stops, at, what)));
-}
-
-#[test]
-fn refusals(rt: HostRuntime) {
-    let alloc = rt.alloc();
-    expect_fault(&rt, alloc, b"", 1, What::MissingColumn);
-    expect_fault(
-        &rt,
-        alloc,
-        b"stop,location_type\nA,\n",
-        1,
-        What::MissingColumn,
-    );
-    expect_fault(
-        &rt,
-        alloc,
-        b"stop_id,location_type\nA,\n,x\n",
-        3,
-        What::EmptyId,
-    );
-    expect_fault(
-        &rt,
-        alloc,
-        b"stop_id,location_type\nA,\nA,x\n",
-        3,
-        What::DuplicateId,
-    );
-    expect_fault(
-        &rt,
-        alloc,
-        b"stop_id,location_type\nA,1 0\n",
-        2,
-        What::BadNumber,
-    );
 }
 
 // The bytes of a file of so many stops.

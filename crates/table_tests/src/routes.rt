@@ -1,12 +1,9 @@
 //! The routes of `routes.txt`.
 
-ghost use Rattle.std.specs.Prelude.{◌≤◌, length};
-
 use std::alloc::Global;
-use std::process::Abort;
 use std::test::Fail;
 use table_files::read_routes;
-use table_records::{FeedFault, FileName, Identifiers, What};
+use table_records::{FeedFault, Identifiers};
 
 // Whether the routes are R1 and R2.
 fn has_two_routes(ids: &Identifiers) -> bool {
@@ -33,34 +30,4 @@ fn a_header_alone_names_no_route(rt: HostRuntime) -> Result<(), Fail> {
     let ids = read_routes(rt.alloc(), b"route_id\n")?;
     assert_eq!(rt; ids.len(), 0);
     Ok(())
-}
-
-// The fault of a file, none where it has none.
-fn fault_of(alloc: Global, bytes: &[u8]) -> Option<FeedFault>
-    requires { length bytes.now ≤ 1073741824 }
-{
-    read_routes(alloc, bytes).err()
-}
-
-// A file is refused for this fault.
-fn expect_fault(rt: &impl Abort, alloc: Global, bytes: &'static [u8], at: u64, what: What)
-    requires { length bytes.now ≤ 1073741824 }
-{
-    let fault = fault_of(alloc, bytes);
-    assert_eq!(rt; fault, Some(FeedFault::at(FileName::Routes, at, what)));
-}
-
-#[test]
-fn refusals(rt: HostRuntime) {
-    let alloc = rt.alloc();
-    expect_fault(&rt, alloc, b"route_id\nR1\nR1\n", 3, What::DuplicateId);
-    expect_fault(
-        &rt,
-        alloc,
-        b"route_id,route_type\nR1,3\n,3\n",
-        3,
-        What::EmptyId,
-    );
-    expect_fault(&rt, alloc, b"route\nR1\n", 1, What::MissingColumn);
-    expect_fault(&rt, alloc, b"", 1, What::MissingColumn);
 }

@@ -3,10 +3,9 @@
 ghost use Rattle.std.specs.Prelude.{◌≤◌, length};
 
 use std::alloc::Global;
-use std::process::Abort;
 use std::test::Fail;
 use table_files::{Link, Locations, Place, Transfers, read_locations, read_transfers};
-use table_records::{FeedFault, FileName, What};
+use table_records::FeedFault;
 use timetable::StopNo;
 
 // Stops A and B, station S with the stops B and C, the empty station T, and an entrance E. They stand in a box, so that
@@ -132,54 +131,4 @@ fn no_column_and_no_record_is_needed(rt: HostRuntime) -> Result<(), Fail> {
     assert!(rt; gives(alloc, b"from_stop_id,to_stop_id\n", &[], 0)?);
     assert!(rt; gives(alloc, b"x\ny\nz\n", &[], 2)?);
     Ok(())
-}
-
-// The fault of a file with these records.
-fn fault_of(alloc: Global, bytes: &[u8]) -> Option<FeedFault> {
-    let places = some_places(alloc)?;
-    if bytes.len() > 1_073_741_824 {
-        return None;
-    }
-    read_transfers(alloc, bytes, &places).err()
-}
-
-// A file is refused for this fault.
-fn expect_fault(rt: &impl Abort, alloc: Global, bytes: &'static [u8], at: u64, what: What)
-    requires { length bytes.now ≤ 1073741824 }
-{
-    let fault = fault_of(alloc, bytes);
-    assert_eq!(rt; fault, Some(FeedFault::at(FileName::Transfers, at, what)));
-}
-
-#[test]
-fn refusals(rt: HostRuntime) {
-    let alloc = rt.alloc();
-    expect_fault(
-        &rt,
-        alloc,
-        b"from_stop_id,to_stop_id,transfer_type,min_transfer_time\nA,B,2,60\n,,two,\n",
-        3,
-        What::BadNumber,
-    );
-    expect_fault(
-        &rt,
-        alloc,
-        b"from_stop_id,to_stop_id,transfer_type,min_transfer_time\nZ,Y,2,x\n",
-        2,
-        What::UnknownStop,
-    );
-    expect_fault(
-        &rt,
-        alloc,
-        b"from_stop_id,to_stop_id,transfer_type,min_transfer_time\nA,Y,,x\n",
-        2,
-        What::UnknownStop,
-    );
-    expect_fault(
-        &rt,
-        alloc,
-        b"from_stop_id,to_stop_id,transfer_type,min_transfer_time\nA,B,,60\nA,A,,x\n",
-        3,
-        What::BadNumber,
-    );
 }

@@ -10,27 +10,11 @@
 #![tactic(auto)]
 
 mod answers;
-#[cfg(test)]
-mod change_tests;
 mod disk;
-#[cfg(test)]
-mod disk_tests;
 mod example;
 mod program;
-#[cfg(test)]
-mod program_tests;
 mod reading;
-#[cfg(test)]
-mod refusal_tests;
-#[cfg(test)]
-mod row_feeds;
-#[cfg(test)]
-mod row_tests;
 mod study_files;
-#[cfg(test)]
-mod study_tests;
-#[cfg(test)]
-mod tests;
 
 use crate::program::run;
 use std::process::ExitCode;
