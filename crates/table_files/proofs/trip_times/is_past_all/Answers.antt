@@ -3,8 +3,8 @@ use Rattle.table_files.specs.declared.trip_times.StopTime.{StopTime}
 use Rattle.table_files.proofs.TripTimeFacts.{any_default, rises}
 use Rattle.table_files.proofs.trip_times.is_past_all.Goals as goal
 
-pub returns-else-count-eq0 : goal.returns-else-count-eq0
-returns-else-count-eq0 c = λ below k d within.
+pub returns-else-count-eq0-clause-past : goal.returns-else-count-eq0-clause-past
+returns-else-count-eq0-clause-past c = λ below k d within.
     let xs = c.args.trip_times.now.items in
     let last = c.len-count.result - 1 in
     let at_last : last < length xs = omega (arith, within, c.len-count.ensures, c.if-count-eq0.false) in
