@@ -132,13 +132,11 @@ def linked(folder: str, origins: Sequence[str], place: str, for_peers: bool) -> 
     return feed
 
 
-def row_of(folder: str, asked: Asked, programs: Sequence[Program], place: str) -> list[str]:
-    """The cells of a feed."""
-    origins = asked.origins_of(folder)
-    feed = linked(folder, origins, place, bool(asked.peers))
+def means_of(folder: str, asked: Asked, programs: Sequence[Program], place: str) -> dict[str, float]:
+    """The mean over a feed's origins of each origin's least time, by the names of the programs."""
+    feed = linked(folder, asked.origins_of(folder), place, bool(asked.peers))
     window = [asked.date, "07:00:00", str(asked.minutes), str(asked.trips), str(asked.walk)]
     words = [feed, *window, *(there(folder, "footpaths.csv") or ["-"]), os.path.join(feed, "origins.csv")]
-    names = [name for program in programs for name in program.names.values()]
     runs: list[Millis] = []
     sums: dict[str, str] = {}
     for _ in range(asked.times):
@@ -146,11 +144,22 @@ def row_of(folder: str, asked: Asked, programs: Sequence[Program], place: str) -
             millis, made = program.run(words)
             runs.append(millis)
             sums.update(made)
-    if set(sums) != set(names) or len(set(sums.values())) != 1:
+    if set(sums) != set(names_of(programs)) or len(set(sums.values())) != 1:
         sys.exit("%s: the durations differ: %s" % (folder, sums))
-    mean = least(runs)
+    return least(runs)
+
+
+def names_of(programs: Sequence[Program]) -> list[str]:
+    """What is measured, in the order of the columns."""
+    return [name for program in programs for name in program.names.values()]
+
+
+def row_of(folder: str, asked: Asked, programs: Sequence[Program], place: str) -> list[str]:
+    """The cells of a feed."""
+    names = names_of(programs)
+    mean = means_of(folder, asked, programs, place)
     ratios = ["%.2f" % (mean[name] / mean["ttm"]) for name in names[:-1]]
-    return [name_of(folder), str(len(origins))] + ["%.1f" % mean[name] for name in names] + ratios
+    return [name_of(folder), str(len(asked.origins_of(folder)))] + ["%.1f" % mean[name] for name in names] + ratios
 
 
 def asked_of(words: Optional[Sequence[str]] = None) -> Asked:
@@ -175,7 +184,7 @@ def main() -> None:
     asked = asked_of()
     with tempfile.TemporaryDirectory() as place:
         programs = programs_of(asked, place)
-        names = [name for program in programs for name in program.names.values()]
+        names = names_of(programs)
         print_head(["feed", "origins"] + [name + ", ms" for name in names] + ["over " + name for name in names[:-1]])
         for folder in asked.folder:
             print_row(row_of(folder, asked, programs, place))

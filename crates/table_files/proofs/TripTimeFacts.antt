@@ -113,3 +113,14 @@ fits i n xs up within below beyond =
   where
     at : (s : StopTime) → s.sequence ≡ n → Fits 0 xs i s
     at s e = fits_at i 0 xs s up (omega arith) within (λ m h. let b = below m h s in omega (arith, b, e)) (λ lt. let b = beyond lt s in omega (arith, b, e))
+
+-- all records are below a number that the last one is below
+pub below_last : (n : ℕ) (xs : List StopTime) → IsAscending 0 xs → (last : ℕ) → length xs ≡ last + 1 → (d : StopTime) → (get_or xs last d).sequence < n
+    → (k : ℕ) → k < length xs → (get_or xs k d).sequence < n
+below_last n xs up last size d lt k within =
+    let least : (get_or xs k d).sequence ≤ (get_or xs last d).sequence = rises 0 xs up k last d (omega (arith, size, within)) (omega (arith, size)) in
+    omega (arith, least, lt)
+
+-- a record past all others belongs last
+pub fits_last : (n : ℕ) (xs : List StopTime) → IsAscending 0 xs → ((k : ℕ) (d : StopTime) → k < length xs → (get_or xs k d).sequence < n) → FitsAt (length xs) n xs
+fits_last n xs up past = fits (length xs) n xs up (omega arith) (λ m e d. past m d (omega (arith, e))) (λ lt d. absurd (omega (arith, lt)))

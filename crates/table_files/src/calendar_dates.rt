@@ -76,7 +76,8 @@ impl RecordReader for ExceptionColumns {
         let Some(adds) = read_adds(field(row, self.kind)) else {
             return Err(FeedFault::at(FileName::CalendarDates, at, What::BadNumber));
         };
-        let service = number_service(alloc, &mut table.services, id)?;
+        let likely = table.rows.last().map_or(0, |row| row.service);
+        let service = number_service(alloc, &mut table.services, id, likely)?;
         table.rows.push(ExceptionRow {
             service,
             date,

@@ -78,7 +78,8 @@ impl<'a> RecordReader for TripReader<'a> {
         if route.is_empty() {
             return Err(FeedFault::at(FileName::Trips, at, What::EmptyId));
         }
-        let Some(route) = self.routes.number(route) else {
+        let likely = likely_numbers(table.numbers.as_slice());
+        let Some(route) = self.routes.number_near(route, likely.route as usize) else {
             return Err(FeedFault::at(FileName::Trips, at, What::UnknownRoute));
         };
         let service = field(row, self.columns.service);
@@ -92,12 +93,23 @@ impl<'a> RecordReader for TripReader<'a> {
         if !table.ids.push(alloc, id)? {
             return Err(FeedFault::at(FileName::Trips, at, What::DuplicateId));
         }
-        let service = number_service(alloc, &mut table.services, service)?;
+        let service = number_service(alloc, &mut table.services, service, likely.service)?;
         table.numbers.push(TripNumbers {
             route: route as u32,
             service,
         })?;
         Ok(())
+    }
+}
+
+// What the next trip is likely to have: the numbers of the trip before.
+fn likely_numbers(numbers: &[TripNumbers]) -> TripNumbers {
+    match numbers.last() {
+        Some(last) => *last,
+        None => TripNumbers {
+            route: 0,
+            service: 0,
+        },
     }
 }
 

@@ -22,6 +22,7 @@ mod ends;
 mod feed_trips;
 mod fill;
 mod frequencies;
+mod likely;
 mod locations;
 mod order;
 mod place;

@@ -6,18 +6,20 @@ ghost use Rattle.table_files.specs.Services.{named, number_in};
 use std::alloc::{AllocError, Global};
 use table_records::Identifiers;
 
-/// The number of a service, which gets the next number where it is named for the first time.
+/// The number of a service, which gets the next number where it is named for the first time. It is looked for where it is
+/// likely first.
 pub fn number_service(
     alloc: Global,
     services: &mut Identifiers,
     id: &[u8],
+    likely: u32,
 ) -> Result<u32, AllocError>
     requires { length services.old < 2 ^ 32 }
     ensures number { IfOk result (λ n. n ≡ number_in services.new id.now) }
     ensures named { IfOk result (λ _. services.new ≡ named services.old (id.now ∷ [])) }
     ensures few { IfOk result (λ _. length services.new ≤ length services.old + 1) }
 {
-    if let Some(number) = services.number(id) {
+    if let Some(number) = services.number_near(id, likely as usize) {
         return Ok(number as u32);
     }
     let number = services.len() as u32;

@@ -12,6 +12,7 @@ ghost use Rattle.table_files.specs.StopTimes.{is_wrong};
 ghost use Rattle.table_files.specs.StopTimes as spec;
 ghost use Rattle.table_files.specs.WholeTrips.{AreEvents};
 
+use crate::likely::Likely;
 use crate::trip_times::{StopTime, Times, TripTimes};
 use crate::whole_trips::{StopTimes, events_of_trips};
 use csv::ByteRecord;
@@ -32,6 +33,13 @@ pub struct TimeColumns {
     pub depart: Option<usize>,
     pub pickup: Option<usize>,
     pub drop_off: Option<usize>,
+}
+
+/// The records of each trip, and what the next record is likely to name.
+#[derive(Drop)]
+pub struct TripRecords {
+    pub trips: Vec<TripTimes>,
+    pub likely: Likely,
 }
 
 /// A reader of `stop_times.txt`, whose records name the feed's trips and stops.
@@ -63,7 +71,7 @@ impl<'a> RecordReader for TimeReader<'a> {
     ghost use Rattle.table_records.specs.declared.fault.FileName.TheVariants as file_name;
     ghost use Rattle.table_files.specs.StopTimes.{AreStopTimes, TimeRow, row_at, checks};
 
-    type Table = Vec<TripTimes>;
+    type Table = TripRecords;
 
     ghost Row = { TimeRow };
 
@@ -73,25 +81,26 @@ impl<'a> RecordReader for TimeReader<'a> {
 
     ghost checks = { λ s. checks s.trips.now s.stops.now };
 
-    ghost After = { λ s _ rows now. AreStopTimes s.trips.now s.stops.now now.items rows };
+    ghost After = { λ s _ rows now. AreStopTimes s.trips.now s.stops.now now.trips.items rows };
 
-    ghost HasRoom = { λ s table _. (length s.stops.now ≤ MOST_STOPS) × (length table.items ≡ length s.trips.now) };
+    ghost HasRoom = { λ s table _. (length s.stops.now ≤ MOST_STOPS) × (length table.trips.items ≡ length s.trips.now) };
 
     fn add(
         &self,
         _alloc: Global,
-        table: &mut Vec<TripTimes>,
+        table: &mut TripRecords,
         at: u64,
         row: &ByteRecord,
     ) -> Result<(), FeedFault> {
         if at > MOST_EVENTS as u64 + 1 {
             return Err(FeedFault::at(FileName::StopTimes, at, What::TooMany));
         }
-        let trip_stop = match self.trip_stop(row) {
+        let trip_stop = match self.trip_stop(row, &table.likely) {
             Ok(trip_stop) => trip_stop,
             Err(what) => return Err(FeedFault::at(FileName::StopTimes, at, what)),
         };
-        let trip_times = &mut table[trip_stop.trip];
+        table.likely.note(trip_stop.trip, trip_stop.stop);
+        let trip_times = &mut table.trips[trip_stop.trip];
         if trip_times.has(trip_stop.sequence) {
             return Err(FeedFault::at(FileName::StopTimes, at, What::DuplicateId));
         }
@@ -113,7 +122,7 @@ impl<'a> RecordReader for TimeReader<'a> {
 
 impl<'a> TimeReader<'a> {
     // Where a record belongs.
-    fn trip_stop(&self, row: &ByteRecord) -> Result<TripStop, What>
+    fn trip_stop(&self, row: &ByteRecord, likely: &Likely) -> Result<TripStop, What>
         requires { length self.now.stops.now ≤ MOST_STOPS }
         ensures good { let r = spec.row_at self.now.columns (fields_of row.now) in
             IfOk result (λ p. (spec.trip_stop_checks self.now.trips.now self.now.stops.now r ≡ []) × (p.trip ≡ spec.trip_of self.now.trips.now r)
@@ -126,10 +135,10 @@ impl<'a> TimeReader<'a> {
         if trip.is_empty() {
             return Err(What::EmptyId);
         }
-        let Some(trip) = self.trips.number(trip) else {
+        let Some(trip) = self.trips.number_near(trip, likely.trip()) else {
             return Err(What::UnknownTrip);
         };
-        let stop = read_stop(field(row, self.columns.stop), self.stops)?;
+        let stop = read_stop(field(row, self.columns.stop), self.stops, likely.stop())?;
         let Some(sequence) = number(trim(field(row, self.columns.sequence))) else {
             return Err(What::BadNumber);
         };
@@ -159,8 +168,8 @@ impl<'a> TimeReader<'a> {
     }
 }
 
-// The number of a stop, none where the text is empty.
-fn read_stop(text: &[u8], stops: &Identifiers) -> Result<Option<u32>, What>
+// The number of a stop, none where the text is empty. It is looked for where it is likely first.
+fn read_stop(text: &[u8], stops: &Identifiers, likely: usize) -> Result<Option<u32>, What>
     requires { length stops.now ≤ MOST_STOPS }
     ensures good { IfOk result (λ stop. (is_wrong (λ id. position (bytes_eq id) stops.now) text.now ≡ false)
         × (stop ≡ (if is_empty text.now then None else Some (number_in stops.now text.now)))) }
@@ -170,7 +179,7 @@ fn read_stop(text: &[u8], stops: &Identifiers) -> Result<Option<u32>, What>
     if text.is_empty() {
         return Ok(None);
     }
-    match stops.number(text) {
+    match stops.number_near(text, likely) {
         Some(stop) => Ok(Some(stop as u32)),
         None => Err(What::UnknownStop),
     }
@@ -193,6 +202,12 @@ fn read_allowed(text: &[u8]) -> Result<bool, What>
     ensures good { IfOk result (λ allowed. (is_wrong number_of (trimmed text.now) ≡ false) × (allowed ≡ spec.allows (trimmed text.now))) }
     ensures fault { IfErr result (λ e. (is_wrong number_of (trimmed text.now) ≡ true) × (e ≡ BadNumber)) }
 {
+    // Nearly all are one digit.
+    if let [digit] = text {
+        if digit.is_ascii_digit() {
+            return Ok(*digit != b'1');
+        }
+    }
     let text = trim(text);
     match number(text) {
         Some(kind) => Ok(kind != 1),
@@ -256,7 +271,10 @@ pub fn read_stop_times(
     ensures few { IfOk result (λ t. t.aside ≤ length trips.now) }
     ensures fault { IfErr result (λ e. Tells e (spec.time_faults trips.now stops.now bytes.now)) }
 {
-    let mut records = no_records(alloc, trips.len())?;
+    let mut records = TripRecords {
+        trips: no_records(alloc, trips.len())?,
+        likely: Likely::new(alloc, stops.len())?,
+    };
     let mut file = open_table(
         alloc,
         bytes,
@@ -271,5 +289,5 @@ pub fn read_stop_times(
     let read = read_records(alloc, &reader, &mut records, &mut file.rows);
     drop(file);
     read?;
-    events_of_trips(alloc, records)
+    events_of_trips(alloc, records.trips)
 }

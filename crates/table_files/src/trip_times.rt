@@ -67,7 +67,7 @@ impl TripTimes {
     pub fn has(&self, sequence: u32) -> bool
         ensures { result ≡ has_number sequence self.now }
     {
-        position_of(&self.items, sequence).is_none()
+        !is_past_all(&self.items, sequence) && position_of(&self.items, sequence).is_none()
     }
 
     /// Puts a record where its sequence number belongs, which none of the others has.
@@ -98,6 +98,10 @@ fn insert_stop_time(
     ensures ascending { IsAscending 0 trip_times.new.items }
     ensures err { OnErr result (trip_times.new.items ≡ trip_times.old.items) }
 {
+    if is_past_all(trip_times, stop_time.sequence) {
+        trip_times.push_back(stop_time)?;
+        return Ok(());
+    }
     let Some(i) = position_of(trip_times, stop_time.sequence) else {
         unreachable!();
     };
@@ -131,10 +135,11 @@ fn count_below(trip_times: &VecDeque<StopTime>, sequence: u32) -> usize
     trip_times.partition_point(|stop_time| stop_time.sequence < sequence)
 }
 
-// Whether all records have a lesser sequence number.
+// Whether all records have a lesser sequence number, so that one with this number belongs last.
 fn is_past_all(trip_times: &VecDeque<StopTime>, sequence: u32) -> bool
     requires { IsAscending 0 trip_times.now.items }
-    ensures { IsTrue result → (k : ℕ) (d : StopTime) → k < length trip_times.now.items → (slice_index_or trip_times.now.items k d).sequence < sequence }
+    ensures last { IsTrue result → FitsAt (length trip_times.now.items) sequence trip_times.now.items }
+    ensures past { IsTrue result → (k : ℕ) (d : StopTime) → k < length trip_times.now.items → (slice_index_or trip_times.now.items k d).sequence < sequence }
 {
     let count = trip_times.len();
     count == 0 || trip_times[count - 1].sequence < sequence

@@ -6,3 +6,5 @@ pub mod FieldFacts
 pub mod FaultFacts
 pub mod ReadingFacts
 pub mod TableFacts
+pub mod Near
+pub mod PlainTimes

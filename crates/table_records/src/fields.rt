@@ -1,6 +1,6 @@
 //! The values of fields: numbers, times and dates, and the spaces around them.
 
-ghost use Rattle.std.specs.Prelude.{◌≡◌, ◌<◌, IfSome, option_map};
+ghost use Rattle.std.specs.Prelude.{◌≡◌, ◌<◌, Some, IfSome, option_map};
 ghost use Rattle.jiff.specs.Words.{epoch_day};
 ghost use Rattle.table_records.specs.Fields.{sixty, time_of, day_of, trimmed, trim_start, trim_end, number_of};
 
@@ -67,6 +67,32 @@ pub fn number(digits: &[u8]) -> Option<u32>
 /// One to three digits of hours, 0 to 167, and two each of minutes and seconds, 00 to 59.
 /// Spaces around the time don't count.
 pub fn read_time(text: &[u8]) -> Option<u32>
+    ensures { result ≡ time_of (trimmed text.now) }
+{
+    match plain_time(text) {
+        Some(seconds) => Some(seconds),
+        None => any_time(text),
+    }
+}
+
+// The seconds of a time in the form that nearly all have, two digits of hours to 59 and no space; none of another text.
+fn plain_time(text: &[u8]) -> Option<u32>
+    ensures { IfSome result (λ seconds. time_of (trimmed text.now) ≡ Some seconds) }
+{
+    if text.len() != 8 {
+        return None;
+    }
+    if text[2] != b':' || text[5] != b':' {
+        return None;
+    }
+    let hours = two_digits(text[0], text[1])?;
+    let minutes = two_digits(text[3], text[4])?;
+    let seconds = two_digits(text[6], text[7])?;
+    Some(3600 * hours + 60 * minutes + seconds)
+}
+
+// The seconds of a time in any form.
+fn any_time(text: &[u8]) -> Option<u32>
     ensures { result ≡ time_of (trimmed text.now) }
 {
     let text = trim(text);

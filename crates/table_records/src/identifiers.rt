@@ -1,6 +1,6 @@
 //! Identifiers, numbered from 0 in the order in which they first came.
 
-ghost use Rattle.std.specs.Prelude.{◌≡◌, ◌<◌, ◌^◌, ◌∷◌, ◌++◌, ◌↔◌, [], not, length, position, slice_get, option_map, IfOk, IsTrue, OnErr, if◌then◌else◌};
+ghost use Rattle.std.specs.Prelude.{◌≡◌, ◌<◌, ◌^◌, ◌∷◌, ◌++◌, ◌↔◌, [], Some, not, length, position, slice_get, option_map, IfOk, IsTrue, OnErr, if◌then◌else◌};
 ghost use Rattle.std.specs.List.{list_any};
 ghost use Rattle.std.specs.Str.{bytes_eq};
 
@@ -53,6 +53,24 @@ impl Identifiers {
         ensures { result ≡ position (bytes_eq id.now) self.now }
     {
         self.set.get_index_of(id)
+    }
+
+    /// The number of an identifier, if it is here: the same as [`Identifiers::number`], found soonest where it is `guess`.
+    pub fn number_near(&self, id: &[u8], guess: usize) -> Option<usize>
+        ensures { result ≡ position (bytes_eq id.now) self.now }
+    {
+        if self.has_at(id, guess) {
+            return Some(guess);
+        }
+        self.number(id)
+    }
+
+    // Whether an identifier has this number.
+    fn has_at(&self, id: &[u8], number: usize) -> bool
+        ensures { IsTrue result → position (bytes_eq id.now) self.now ≡ Some number }
+    {
+        let ids = self.set.as_slice();
+        number < ids.len() && ids[number].as_slice() == id
     }
 
     /// The identifier that has this number, if there are so many.

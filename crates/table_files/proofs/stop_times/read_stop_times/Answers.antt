@@ -16,7 +16,7 @@ use Rattle.table_files.proofs.stop_times.read_stop_times.Goals as goal
 
 pub read_records-read-requires-clause-empty : goal.read_records-read-requires-clause-empty
 read_records-read-requires-clause-empty c =
-    no_stop_times c.args.trips.now c.args.stops.now _ (c.in_ok-records.ensures ∙ ap (λ n. replicate {A = List StopTime} n []) c.len.ensures.len)
+    no_stop_times c.args.trips.now c.args.stops.now _ (c.in_ok-no_records.ensures ∙ ap (λ n. replicate {A = List StopTime} n []) c.len.ensures.len)
 
 pub returns-in_err-file-clause-fault : goal.returns-in_err-file-clause-fault
 returns-in_err-file-clause-fault c =
@@ -43,11 +43,11 @@ pub returns-clause-fit : goal.returns-clause-fit
 returns-clause-fit c =
     let is = c.in_ok-read.ensures.good.1 in
     IfOk-weaker c.events_of_trips.result _ _
-    (λ t h. subst (AreEvents (length c.args.stops.now)) (sym h.1) (are_events (length c.args.stops.now) _ c.read_records-read.new.table.items is.total is.few is.sound h.0))
+    (λ t h. subst (AreEvents (length c.args.stops.now)) (sym h.1) (are_events (length c.args.stops.now) _ c.read_records-read.new.table.trips.items is.total is.few is.sound h.0))
     c.events_of_trips.ensures.good
 
 pub returns-clause-few : goal.returns-clause-few
 returns-clause-few c =
-    let all = c.read_records-read.new.table.items in
+    let all = c.read_records-read.new.table.trips.items in
     let size = c.in_ok-read.ensures.room.1 in
     IfOk-weaker c.events_of_trips.result _ _ (λ t h. let most = count_by-le-length is_aside all in omega (arith, h.2, most, size)) c.events_of_trips.ensures.good

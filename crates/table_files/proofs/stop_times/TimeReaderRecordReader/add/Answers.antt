@@ -20,7 +20,7 @@ returns-then-has-clause-fault c start before at is =
     let r : TimeRow = row_at c.args.self.now.columns (fields_of c.args.row.now) in
     let few : length before < 8000000 = omega (arith, at, c.if-at.false) in
     let (placed, of, stop, sequence) = c.in-Ok.ensures.good in
-    let same = has_same trips stops c.args.table.now.items before r is c.in-Ok.trip_stop.trip of c.in-Ok.ensures.inside.0 c.index_mut-trip_times.result.now c.index_mut-trip_times.ensures.value c.in-Ok.trip_stop.sequence in
+    let same = has_same trips stops c.args.table.now.trips.items before r is c.in-Ok.trip_stop.trip of c.in-Ok.ensures.inside.0 c.index_mut-trip_times.result.now c.index_mut-trip_times.ensures.value c.in-Ok.trip_stop.sequence in
     let again = sym (ap (λ (n : ℕ). has_number n (of_trip (trip_of trips r) (stop_times_of trips stops before))) sequence) ∙ sym same ∙ sym c.if-has.ensures in
     inr (rw (c.at-then-has.ensures, at) (tells_duplicate trips stops before r few placed again))
 
@@ -31,7 +31,7 @@ returns-in-Err-visit-clause-fault c start before at is =
     let r : TimeRow = row_at c.args.self.now.columns (fields_of c.args.row.now) in
     let few : length before < 8000000 = omega (arith, at, c.if-at.false) in
     let (placed, of, stop, sequence) = c.in-Ok.ensures.good in
-    let same = has_same trips stops c.args.table.now.items before r is c.in-Ok.trip_stop.trip of c.in-Ok.ensures.inside.0 c.index_mut-trip_times.result.now c.index_mut-trip_times.ensures.value c.in-Ok.trip_stop.sequence in
+    let same = has_same trips stops c.args.table.now.trips.items before r is c.in-Ok.trip_stop.trip of c.in-Ok.ensures.inside.0 c.index_mut-trip_times.result.now c.index_mut-trip_times.ensures.value c.in-Ok.trip_stop.sequence in
     let new = sym (ap (λ (n : ℕ). has_number n (of_trip (trip_of trips r) (stop_times_of trips stops before))) sequence) ∙ sym same ∙ sym c.if-has.ensures in
     inr (rw (c.at-in-Err-visit.ensures, at) (tells_visit trips stops before r few placed new c.in-Err-visit.what c.in-Err-visit.ensures.fault))
 
@@ -47,11 +47,11 @@ returns-clause-good c start before at is =
     let here = c.index_mut-trip_times.ensures.value in
     let old : List StopTime = c.index_mut-trip_times.result.now in
     let t : ℕ = c.in-Ok.trip_stop.trip in
-    let same = has_same trips stops c.args.table.now.items before r is t of within old here c.in-Ok.trip_stop.sequence in
+    let same = has_same trips stops c.args.table.now.trips.items before r is t of within old here c.in-Ok.trip_stop.sequence in
     let new = sym (ap (λ (n : ℕ). has_number n (of_trip (trip_of trips r) (stop_times_of trips stops before))) sequence) ∙ sym same ∙ sym c.if-has.ensures in
     let inside = subst (λ o. IfSome o (λ (n : ℕ). n < length stops)) stop c.in-Ok.ensures.inside.1 in (
       no_fault trips stops before r few placed new visited,
-      stop_times_more trips stops c.args.table.now.items before r is t of within old here _ _ c.requires.room.1 few
+      stop_times_more trips stops c.args.table.now.trips.items before r is t of within old here _ _ c.requires.room.1 few
           (λ k. record { sequence = sequence k; at = at k; stop = stop k; times = times k; board = board k; alight = alight k }) inside
-          (ap (set c.args.table.now.items t) c.in_ok-insert.ensures.put),
+          (ap (set c.args.table.now.trips.items t) c.in_ok-insert.ensures.put),
     )
