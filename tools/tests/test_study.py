@@ -333,9 +333,22 @@ def test_parts_are_cut_by_time_and_memory() -> None:
     tight = Costs(setup=0, each=0.01, network=10**9, row=10**6, free=8 * 10**9)
     made = shape_of(PartWish(), tight, 10_000, 4)
     assert (made.parts, made.at_once, made.threads) == (20, 4, 1)
-    # a network of 3 GB fits twice into 6.4 GB, so two run at once with two threads each
-    made = shape_of(PartWish(count=7), Costs(0, 1, 3 * 10**9, 10**6, 8 * 10**9), 10_000, 4)
-    assert (made.parts, made.at_once, made.threads) == (7, 2, 2)
+    # a network of 3 GB with 143 rows of 1 MB fits twice into 6.4 GB, so two run at once with two threads each
+    wide = Costs(0, 1, 3 * 10**9, 10**6, 8 * 10**9)
+    made = shape_of(PartWish(count=70), wide, 10_000, 4)
+    assert (made.parts, made.at_once, made.threads) == (70, 2, 2)
+    # with 1,429 rows, 4.4 GB, it fits once
+    made = shape_of(PartWish(count=7), wide, 10_000, 4)
+    assert (made.parts, made.at_once, made.threads) == (7, 1, 4)
+
+
+def test_more_processes_than_before_stay_within_the_memory() -> None:
+    # twenty parts of 500 rows of 1 MB, 1.5 GB with the network, were cut for four at once: 6.4 GB hold four of them
+    costs = Costs(setup=0, each=0.01, network=10**9, row=10**6, free=8 * 10**9)
+    made = shape_of(PartWish(), costs, 10_000, 8, known=20)
+    assert (made.parts, made.at_once, made.threads) == (20, 4, 2)
+    made = shape_of(PartWish(memory=3000), costs, 10_000, 4, known=20)
+    assert (made.parts, made.at_once, made.threads) == (20, 2, 2)
 
 
 def test_arrays_name_the_parts_that_are_missing() -> None:

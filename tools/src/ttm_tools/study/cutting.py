@@ -142,18 +142,25 @@ def costs_of(inputs: Inputs, origins: Sequence[str], room: Path) -> Costs:
     return Costs(max(0.0, short - each), each, first.number("bytes taken at most"), row, free)
 
 
-def shape_of(wish: PartWish, costs: Costs, origins: int, workers: int) -> Shape:
+def fitting(memory: int, costs: Costs, rows: int, workers: int) -> int:
+    """How many parts of so many origins run at once in some memory; 0 bytes where it isn't known."""
+    each = costs.network + rows * costs.row
+    return max(1, min(workers, memory // each if memory and each else workers))
+
+
+def shape_of(wish: PartWish, costs: Costs, origins: int, workers: int, known: int | None = None) -> Shape:
     """Parts of about so many minutes, of which so many run at once as memory allows: where fewer do than there are
-    processors, each takes several.
+    processors, each takes several. Parts that are known, or counted by hand, stay so many.
     """
     memory = wish.memory * MB if wish.memory else int(OF_THE_FREE * costs.free)
-    least = costs.network + costs.row
-    at_once = max(1, min(workers, memory // least if memory and least else workers))
+    count = known or wish.count
+    if count is not None:
+        at_once = fitting(memory, costs, math.ceil(origins / count), workers)
+        return Shape(min(count, origins), at_once, max(1, workers // at_once))
+    at_once = fitting(memory, costs, 1, workers)
     threads = max(1, workers // at_once)
     by_memory = (memory // at_once - costs.network) // max(1, costs.row) if memory else origins
     by_time = threads * (60 * wish.minutes - costs.setup) / costs.each if costs.each else origins
-    if wish.count is not None:
-        return Shape(min(wish.count, origins), at_once, threads)
     largest = max(1, min(int(min(by_time, origins)), int(min(by_memory, origins))))
     parts = max(math.ceil(origins / largest), min(at_once, origins))
     if parts > at_once:
@@ -178,8 +185,7 @@ def cut_of(wish: PartWish, inputs: Inputs, key: str, workers: int, room: Path) -
         known, shape = False, None
     if shape is None or not known:
         costs = costs_of(inputs, origins, room)
-        made = shape_of(wish, costs, len(origins), workers)
-        shape = Shape(shape.parts if shape else made.parts, made.at_once, made.threads)
+        shape = shape_of(wish, costs, len(origins), workers, shape.parts if shape else None)
         noted = {"key": facts, "workers": workers, "shape": asdict(shape), "costs": asdict(costs)}
         write_settled(Path(CUT), as_text(noted))
     parts = parts_for(origins, shape.parts, key)
