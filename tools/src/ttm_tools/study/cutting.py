@@ -2,7 +2,6 @@
 
 import json
 import math
-import os
 import socket
 import time
 from dataclasses import asdict, dataclass, replace
@@ -167,10 +166,6 @@ def shape_of(wish: PartWish, costs: Costs, origins: int, workers: int, known: in
         parts = math.ceil(parts / at_once) * at_once
     parts = min(parts, origins, max(MOST_PARTS, math.ceil(origins / max(1, int(min(by_memory, origins))))))
     return Shape(parts, at_once, threads)
-
-
-def processors() -> int:
-    return len(os.sched_getaffinity(0))
 
 
 def cut_of(wish: PartWish, inputs: Inputs, key: str, workers: int, room: Path) -> tuple[list[Part], Shape]:
