@@ -71,7 +71,7 @@ class Part:
         self.scenarios: dict[str, Scenario] = {}
         self.shares: list[str] | None = None
         try:
-            with open(path, "rb") as file:
+            with open(path, "rb", buffering=BYTES_AT_ONCE) as file:
                 self.header = read_record(file)
                 self.read(file)
         except OSError as fault:
@@ -84,9 +84,10 @@ class Part:
             raise BadInput(self.path, "not a matrix" if layout is None else "cut short")
         begin, last, shares = file.tell(), ("", ""), list[str]()
         for record in records_of(file):
-            heads, first = head_of(content(record), layout.first_cell)
-            count = len(heads) + count_of_fields(content(record), first)
-            if count != layout.width or not record.endswith(b"\n"):
+            line = content(record)
+            heads, first = head_of(line, layout.first_cell)
+            count = len(heads) + count_of_fields(line, first)
+            if count != layout.width or len(line) == len(record):
                 raise BadInput(self.path, "cut short")
             place = (heads[0], heads[1])
             if place != last or not self.scenarios:
