@@ -253,3 +253,20 @@ def test_work_of_threads_comes_in_order_and_ends_with_the_first_fault() -> None:
     with pytest.raises(BadInput, match="thirty is lost"):
         list(in_order(work, range(1000), 3))
     assert max(begun) < 40  # few are ahead
+
+
+def test_a_chunk_that_is_damaged_is_told_and_other_forms_of_data_are_read(town: Town) -> None:
+    h5py = pytest.importorskip("h5py")
+    matrix = open_matrix(town.matrix(town_matrix(True)))
+    for name in ("plain.omx", "damaged.omx"):
+        write_open_matrix(matrix, town.path(name))
+    with h5py.File(town.path("plain.omx"), "r+") as file:
+        old = file["data/base_50"]
+        cells, facts = old[:], dict(old.attrs)
+        del file["data/base_50"]
+        file["data"].create_dataset("base_50", data=cells).attrs.update(facts)
+    assert whole(open_matrix(town.path("plain.omx"))) == whole(matrix)
+    with h5py.File(town.path("damaged.omx"), "r+") as file:
+        file["data/cut_50"].id.write_direct_chunk((0, 0), b"no chunk")
+    with pytest.raises(BadInput, match="damaged.omx: /data/cut_50: the piece that begins with row 1 can't be read"):
+        whole(open_matrix(town.path("damaged.omx")))

@@ -7,7 +7,6 @@ each matrix a row for each origin and a column for each limit, which the attribu
 seconds.
 """
 
-import zlib
 from pathlib import Path
 from typing import Any, Sequence
 
@@ -18,13 +17,13 @@ from .. import progress
 from ..faults import BadInput, needs
 from ..files import written_aside
 from ..threads import in_order, processors
+from .chunks import LEVEL, packed, rows_of
 from .layout import Layout
 from .lines import Seconds
 from .matrix import Matrix, Share, Sums, lacking
 
 SIGNATURE = b"\x89HDF\r\n\x1a\n"
 CELLS_OF_A_CHUNK = 1 << 18
-LEVEL = 1  # of the compression: higher ones take up to twice as long for some percent less
 
 
 def encoded(names: Sequence[str]) -> npt.NDArray[np.bytes_]:
@@ -95,23 +94,21 @@ def fill_data(made: Any, matrix: Matrix, key: tuple[str, Share], threads: int) -
     count, rows = made.shape[0], made.chunks[0]
     begins = range(0, count, rows)
 
-    def packed(begin: int) -> bytes:
-        return packed_rows(matrix, key, range(begin, min(begin + rows, count)), rows)
+    def chunk_from(begin: int) -> bytes:
+        return packed(padded(matrix, key, range(begin, min(begin + rows, count)), rows))
 
-    chunks = in_order(packed, begins, threads)
+    chunks = in_order(chunk_from, begins, threads)
     for begin, chunk in zip(begins, progress.told(chunks, len(begins), f"{key[0]} {key[1] or ''}", "blocks")):
         made.id.write_direct_chunk((begin, 0), chunk)
 
 
-def packed_rows(matrix: Matrix, key: tuple[str, Share], rows: range, room: int) -> bytes:
-    """Some rows as HDF5 keeps a chunk that has room for so many, zeros behind the last one: the first bytes of all
-    cells, then the second ones and so on, compressed.
-    """
-    cells = np.zeros((room, len(matrix.stops)), "<f4")
+def padded(matrix: Matrix, key: tuple[str, Share], rows: range, room: int) -> Seconds:
+    """Some rows of a scenario and a share, and zeros behind them up to so many."""
+    cells = np.zeros((room, len(matrix.stops)), np.float32)
     for first in rows[:: matrix.rows_at_once()]:
         last = min(first + matrix.rows_at_once(), rows.stop)
         cells[first - rows.start : last - rows.start] = matrix.rows(*key, first, last)
-    return zlib.compress(cells.view(np.uint8).reshape(-1, cells.itemsize).T.tobytes(), LEVEL)
+    return cells
 
 
 class OpenMatrix(Matrix):
@@ -158,8 +155,7 @@ class OpenMatrix(Matrix):
         return made
 
     def rows(self, scenario: str, share: Share, begin: int, end: int) -> Seconds:
-        made: Seconds = self.file["data"][self.names[scenario, share]][begin:end].astype(np.float32, copy=False)
-        return made
+        return rows_of(self.file["data"][self.names[scenario, share]], begin, end)
 
 
 def is_open_matrix(path: str) -> bool:
