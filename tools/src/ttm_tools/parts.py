@@ -27,6 +27,11 @@ def origins_in(path: str) -> list[str]:
     return list(named)
 
 
+def write_stops(file: BinaryIO, stops: Sequence[str]) -> None:
+    """Writes such a file."""
+    write_rows(file, ["stop_id"], [[stop] for stop in stops])
+
+
 def origins_of_feed(folder: str) -> list[str]:
     """The stops of a feed at which vehicles call, as `ttm` takes them where no file names origins."""
     found = rows(in_folder(folder, "stops.txt"), ["stop_id"], ["location_type"])
@@ -50,7 +55,7 @@ def write_parts(origins: Sequence[str], parts: int, folder: str) -> int:
             *((f"part_{number:04}.csv", part) for number, part in enumerate(cut, 1)),
         ]:
             with open(made / name, "wb") as file:
-                write_rows(file, ["stop_id"], [[stop] for stop in stops])
+                write_stops(file, stops)
     return len(cut)
 
 

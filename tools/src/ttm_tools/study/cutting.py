@@ -9,8 +9,7 @@ from pathlib import Path
 from typing import Any, Sequence
 
 from ..files import is_running, output, remove, sum_of
-from ..parts import origins_in, parts_of
-from ..records import write_rows
+from ..parts import origins_in, parts_of, write_stops
 from .inputs import ORIGINS, Inputs
 from .stages import as_text, key_of, settle, write_settled
 from .ttm import Report, report_of, with_origins
@@ -78,7 +77,7 @@ class Part:
             if not is_running(int(path.name.split(".")[2])):
                 remove(path)
         with output(str(self.origins_file)) as file:
-            write_rows(file, ["stop_id"], [[stop] for stop in self.origins])
+            write_stops(file, self.origins)
 
     def finish(self) -> None:
         """Notes that the matrix is whole."""
@@ -123,7 +122,7 @@ def trial(inputs: Inputs, origins: Sequence[str], room: Path) -> tuple[float, Re
     """How long a run of some origins takes, and what it reports."""
     path = room / "origins.csv"
     with open(path, "wb") as file:
-        write_rows(file, ["stop_id"], [[stop] for stop in origins])
+        write_stops(file, origins)
     begin = time.monotonic()
     report = report_of(with_origins(inputs.run, str(path), 1))
     return time.monotonic() - begin, report
