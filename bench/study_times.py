@@ -5,13 +5,15 @@
 
 All origins, the 120 departures from 07:00 on, at most 4 trips, three shares, the feed as it is and one scenario. The
 study's whole process group is killed (SIGKILL) when a quarter and when three quarters of its parts are done, and begun
-again. Told are wall time of each piece, the most memory of all its processes together (by /proc, each page once), the
-most disk, and the time of --verify. A metropolis takes some hours. It wants the built program (TTM_PROGRAM, or that of
-this clone), numpy, pandas, h5py and matplotlib.
+again. Told are wall time of each piece, processor time (without that of the parts that the kills cut off), the time of
+each stage, the most memory of all its processes together (by /proc, each page once), the most disk, and the time of
+--verify. It wants the built program (TTM_PROGRAM, or that of this clone), numpy, pandas, h5py and matplotlib.
 """
 import argparse
+import json
 import os
 import re
+import resource
 import signal
 import subprocess
 import sys
@@ -111,6 +113,20 @@ def run(words: list[str], folder: Path, until: float, most: Most) -> bool:
     return process.returncode == 0
 
 
+def processor_time() -> float:
+    """Seconds of all processes that were begun here and have ended, and of theirs."""
+    used = resource.getrusage(resource.RUSAGE_CHILDREN)
+    return used.ru_utime + used.ru_stime
+
+
+def tell_stages(folder: Path) -> None:
+    """Tells what the folder notes of its parts and stages; the matrix as the last of the commands made it."""
+    notes = json.loads(text_of(folder / "study.json"))
+    times = notes["times"]
+    print(f"parts: {notes['parts']}, in all {times['seconds_of_parts']:,.0f} s by their clocks")
+    print("stages: " + ", ".join(f"{name} {seconds:,.0f}" for name, seconds in times["seconds"].items()) + " s")
+
+
 def make_feed(size: str, folder: Path) -> None:
     if not (folder / "made").is_dir():
         subprocess.run([PYTHON, str(HERE / "feedgen.py"), size, str(folder / "made")], check=True)
@@ -135,14 +151,17 @@ def main() -> None:
     killed = sum(not run(named, out, until, most) for until in (0.25, 0.75))
     while not run(named, out, 2.0, most):
         pass
-    study = list(most.pieces)
+    pieces, used = list(most.pieces), processor_time()
     run(["--verify", str(out), "--workers", asked.workers], out, 2.0, most)
     print(f"{asked.size}, {asked.workers} processes, killed {killed} times")
-    print(f"pieces: {', '.join(f'{it:,.0f}' for it in study)} s, in all {sum(study):,.0f} s")
+    print(
+        f"pieces: {', '.join(f'{it:,.0f}' for it in pieces)} s, in all {sum(pieces):,.0f} s; processors {used:,.0f} s"
+    )
+    tell_stages(out)
     print(
         f"at most {most.memory / GB:.2f} GB of memory and {most.disk / GB:.2f} GB of disk; left {disk_of(out) / GB:.2f}"
     )
-    print(f"verification: {most.pieces[-1]:,.0f} s")
+    print(f"verification: {most.pieces[-1]:,.0f} s; processors {processor_time() - used:,.0f} s")
 
 
 if __name__ == "__main__":

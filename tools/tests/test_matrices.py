@@ -1,6 +1,7 @@
 """Matrices: their forms, what is chosen of them, their faults, and Open Matrix files."""
 
 import random
+from importlib import import_module
 from pathlib import Path
 from typing import Any, Callable
 
@@ -9,9 +10,10 @@ import pytest
 
 from helpers import TOWN, Cell, Town, town_matrix
 from ttm_tools.faults import BadInput
-from ttm_tools.matrices import Matrix, layout_of, open_matrix, pair_of
+from ttm_tools.matrices import Matrix, layout_of, open_matrix, pair_of, write_open_matrix
 from ttm_tools.matrices.layout import Layout
 from ttm_tools.matrices.lines import MOST, head_of, seconds_of
+from ttm_tools.threads import in_order
 
 BOTH_FORMS = pytest.mark.parametrize("second_form", [False, True])
 
@@ -211,3 +213,60 @@ def test_an_open_matrix_file_wants_one_list_of_origins(town: Town) -> None:
     Path(town.path("town.omx")).write_bytes(b"\x89HDF\r\n\x1a\n" + bytes(100))
     with pytest.raises(BadInput, match="town.omx: no whole HDF5 file"):
         open_matrix(town.path("town.omx"))
+
+
+def test_chunks_are_those_of_the_library_whichever_threads_make_them(
+    town: Town, monkeypatch: pytest.MonkeyPatch
+) -> None:
+    h5py = pytest.importorskip("h5py")
+    monkeypatch.setattr(import_module("ttm_tools.matrices.open_matrix"), "CELLS_OF_A_CHUNK", 8)  # two rows
+    monkeypatch.setattr(import_module("ttm_tools.matrices.matrix"), "CELLS_AT_ONCE", 4)  # one row
+    three: dict[str, list[Cell]] = {**TOWN["base"], "B": [700, 0, "", 60]}
+    matrix = open_matrix(town.matrix(town_matrix(True, {"base": three}, shares=(50, 100))))
+    files = []
+    for threads in (1, 3, None):
+        out = Path(town.path(f"{threads}.omx"))
+        write_open_matrix(matrix, str(out), threads)
+        files.append(out.read_bytes())
+        assert whole(open_matrix(str(out))) == whole(matrix)
+    assert files[0] == files[1] == files[2]
+    with h5py.File(town.path("1.omx")) as file, h5py.File(town.path("own.omx"), "w") as own:
+        data = file["data/base_50"]
+        how = {"chunks": data.chunks, "compression": "gzip", "compression_opts": 1, "shuffle": True}
+        again = own.create_dataset("same", data=data[:], **how)
+        assert (data.chunks, data.shape) == ((2, 4), (3, 4))  # the last chunk has room for one more
+        for number in range(data.id.get_num_chunks()):
+            place = data.id.get_chunk_info(number).chunk_offset
+            assert data.id.read_direct_chunk(place) == again.id.read_direct_chunk(place)
+
+
+def test_work_of_threads_comes_in_order_and_ends_with_the_first_fault() -> None:
+    begun = list[int]()
+
+    def work(number: int) -> int:
+        begun.append(number)
+        if number == 30:
+            raise BadInput("parts", "thirty is lost")
+        return number
+
+    assert list(in_order(work, range(30), 3)) == list(range(30))
+    with pytest.raises(BadInput, match="thirty is lost"):
+        list(in_order(work, range(1000), 3))
+    assert max(begun) < 40  # few are ahead
+
+
+def test_a_chunk_that_is_damaged_is_told_and_other_forms_of_data_are_read(town: Town) -> None:
+    h5py = pytest.importorskip("h5py")
+    matrix = open_matrix(town.matrix(town_matrix(True)))
+    for name in ("plain.omx", "damaged.omx"):
+        write_open_matrix(matrix, town.path(name))
+    with h5py.File(town.path("plain.omx"), "r+") as file:
+        old = file["data/base_50"]
+        cells, facts = old[:], dict(old.attrs)
+        del file["data/base_50"]
+        file["data"].create_dataset("base_50", data=cells).attrs.update(facts)
+    assert whole(open_matrix(town.path("plain.omx"))) == whole(matrix)
+    with h5py.File(town.path("damaged.omx"), "r+") as file:
+        file["data/cut_50"].id.write_direct_chunk((0, 0), b"no chunk")
+    with pytest.raises(BadInput, match="damaged.omx: /data/cut_50: the piece that begins with row 1 can't be read"):
+        whole(open_matrix(town.path("damaged.omx")))

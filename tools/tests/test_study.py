@@ -8,6 +8,7 @@ import signal
 import subprocess
 import time
 from pathlib import Path
+from types import SimpleNamespace
 from typing import Any, Callable
 
 import pytest
@@ -19,6 +20,7 @@ from ttm_tools.files import sum_of
 from ttm_tools.study.cluster import Means, ranges, write_task
 from ttm_tools.study.cutting import Costs, Part, parts_for, shape_of, study_key
 from ttm_tools.study.inputs import make_inputs
+from ttm_tools.study.running import shown
 from ttm_tools.study.stages import Folder
 from ttm_tools.study.study_file import read_study
 from ttm_tools.study.template import page, template
@@ -161,6 +163,21 @@ def test_the_matrix_is_that_of_one_run_and_every_result_is_there(place: Place, p
     assert {"access.csv", "equity.csv", "maps/access.png", "maps/access_cut.png", "matrix.omx"} < set(made)
     # who sets out from S0 after 08:00 reaches S1 on foot and nothing else today: 0.4 and 100.4 jobs
     assert made["access.csv"].splitlines()[1:3] == [b"base,S0,jobs,25,10,100.8", b"base,S0,jobs,25,30,100.8"]
+
+
+def test_the_notes_say_what_was_run_from_what_and_by_which_versions(place: Place, program: str) -> None:
+    make_study(read_study(place.lay_out()), place.folder / "nine", Means(2))
+    folder = place.folder / "nine"
+    notes = json.loads((folder / "study.json").read_text())
+    known = {name: was for stage in notes["stages"].values() for name, was in stage["files"].items()}
+    files = {str(it.relative_to(folder)) for it in folder.rglob("*") if it.is_file()}
+    assert {name for name in files if not name.startswith((".lock", "stages/", "study.json"))} == set(known)
+    assert known == {name: sum_of(folder / name) for name in known}
+    assert notes["sources"]["jobs.csv"] == sum_of(place.path("jobs.csv"))
+    assert [notes["versions"]["ttm"], notes["versions"]["toolchain"]] == version_of(program)
+    assert (notes["versions"]["ttm_sha256"], notes["parts"]) == (sum_of(program), 4)
+    assert notes["study_file"] == STUDY and notes["question"] == "Who loses if Q goes?"
+    assert set(notes["times"]["seconds"]) == set(notes["stages"])
 
 
 def test_parts_of_any_number_and_processes_give_the_same_results(place: Place) -> None:
@@ -333,9 +350,33 @@ def test_parts_are_cut_by_time_and_memory() -> None:
     tight = Costs(setup=0, each=0.01, network=10**9, row=10**6, free=8 * 10**9)
     made = shape_of(PartWish(), tight, 10_000, 4)
     assert (made.parts, made.at_once, made.threads) == (20, 4, 1)
-    # a network of 3 GB fits twice into 6.4 GB, so two run at once with two threads each
-    made = shape_of(PartWish(count=7), Costs(0, 1, 3 * 10**9, 10**6, 8 * 10**9), 10_000, 4)
-    assert (made.parts, made.at_once, made.threads) == (7, 2, 2)
+    # a network of 3 GB with 143 rows of 1 MB fits twice into 6.4 GB, so two run at once with two threads each
+    wide = Costs(0, 1, 3 * 10**9, 10**6, 8 * 10**9)
+    made = shape_of(PartWish(count=70), wide, 10_000, 4)
+    assert (made.parts, made.at_once, made.threads) == (70, 2, 2)
+    # with 1,429 rows, 4.4 GB, it fits once
+    made = shape_of(PartWish(count=7), wide, 10_000, 4)
+    assert (made.parts, made.at_once, made.threads) == (7, 1, 4)
+
+
+def test_more_processes_than_before_stay_within_the_memory() -> None:
+    # twenty parts of 500 rows of 1 MB, 1.5 GB with the network, were cut for four at once: 6.4 GB hold four of them
+    costs = Costs(setup=0, each=0.01, network=10**9, row=10**6, free=8 * 10**9)
+    made = shape_of(PartWish(), costs, 10_000, 8, known=20)
+    assert (made.parts, made.at_once, made.threads) == (20, 4, 2)
+    made = shape_of(PartWish(memory=3000), costs, 10_000, 4, known=20)
+    assert (made.parts, made.at_once, made.threads) == (20, 2, 2)
+
+
+def test_how_many_parts_are_done_is_told_with_the_time_that_is_left(
+    capsys: pytest.CaptureFixture[str], monkeypatch: pytest.MonkeyPatch
+) -> None:
+    # one ends in each 61 seconds of the clock; of the last one nothing is told
+    clock = iter([0.0, 61.0, 122.0, 183.0])
+    monkeypatch.setattr("ttm_tools.study.running.time", SimpleNamespace(monotonic=lambda: next(clock)))
+    assert list(shown(iter([None] * 3), 3)) == [None] * 3
+    told = ["parts: 1 of 3, about 0:02:02 more", "parts: 2 of 3, about 0:01:01 more"]
+    assert capsys.readouterr().err.splitlines() == told
 
 
 def test_arrays_name_the_parts_that_are_missing() -> None:

@@ -27,6 +27,11 @@ def origins_in(path: str) -> list[str]:
     return list(named)
 
 
+def write_stops(file: BinaryIO, stops: Sequence[str]) -> None:
+    """Writes such a file."""
+    write_rows(file, ["stop_id"], [[stop] for stop in stops])
+
+
 def origins_of_feed(folder: str) -> list[str]:
     """The stops of a feed at which vehicles call, as `ttm` takes them where no file names origins."""
     found = rows(in_folder(folder, "stops.txt"), ["stop_id"], ["location_type"])
@@ -50,7 +55,7 @@ def write_parts(origins: Sequence[str], parts: int, folder: str) -> int:
             *((f"part_{number:04}.csv", part) for number, part in enumerate(cut, 1)),
         ]:
             with open(made / name, "wb") as file:
-                write_rows(file, ["stop_id"], [[stop] for stop in stops])
+                write_stops(file, stops)
     return len(cut)
 
 
@@ -71,7 +76,7 @@ class Part:
         self.scenarios: dict[str, Scenario] = {}
         self.shares: list[str] | None = None
         try:
-            with open(path, "rb") as file:
+            with open(path, "rb", buffering=BYTES_AT_ONCE) as file:
                 self.header = read_record(file)
                 self.read(file)
         except OSError as fault:
@@ -84,9 +89,10 @@ class Part:
             raise BadInput(self.path, "not a matrix" if layout is None else "cut short")
         begin, last, shares = file.tell(), ("", ""), list[str]()
         for record in records_of(file):
-            heads, first = head_of(content(record), layout.first_cell)
-            count = len(heads) + count_of_fields(content(record), first)
-            if count != layout.width or not record.endswith(b"\n"):
+            line = content(record)
+            heads, first = head_of(line, layout.first_cell)
+            count = len(heads) + count_of_fields(line, first)
+            if count != layout.width or len(line) == len(record):
                 raise BadInput(self.path, "cut short")
             place = (heads[0], heads[1])
             if place != last or not self.scenarios:

@@ -61,9 +61,9 @@ def run(words: argparse.Namespace) -> int:
         sys.stdout.write(template())
         return 0
     from ..study.cluster import Means, one_part
-    from ..study.cutting import processors
     from ..study.study_file import read_study
     from ..study.work import make_study
+    from ..threads import processors
 
     if words.part is not None:
         one_part(Path(words.study), words.part)

@@ -26,6 +26,7 @@ from .lines import (
 )
 from .matrix import Matrix, Share, Sums
 
+BYTES_AT_ONCE = 1 << 20  # a line of a metropolis has a hundred thousand
 NO_MATRIX = "not a matrix: it begins neither with scenario,origin,access nor with scenario,origin,share,access_.."
 TRAVEL_TIMES = f"whole seconds up to {MOST}, or nothing"
 
@@ -57,7 +58,7 @@ class CsvMatrix(Matrix):
         self.path = path
         self.index: dict[tuple[str, Share], Index] = {}
         try:
-            with open(path, "rb") as file:
+            with open(path, "rb", buffering=BYTES_AT_ONCE) as file:
                 self.layout = self.read_layout(file)
                 self.read_lines(file)
         except OSError as fault:
@@ -79,20 +80,21 @@ class CsvMatrix(Matrix):
         begin, number = file.tell(), 1
         rows = os.fstat(file.fileno()).st_size // (5 * self.layout.width)
         for record in progress.told(records_of(file), rows, "reading", "rows"):
-            if content(record):
+            line = content(record)
+            if len(line) == len(record):
+                raise BadInput(self.path, "cut short: the last line has no end")
+            if line:
                 number += 1
-                self.read_line(record, number, begin)
+                self.read_line(line, number, begin)
             begin += len(record)
         self.scenarios = list(dict.fromkeys(scenario for scenario, _ in self.index))
         self.shares = sorted({share for _, share in self.index}, key=lambda share: share or 0)
 
-    def read_line(self, record: bytes, number: int, begin: int) -> None:
+    def read_line(self, line: bytes, number: int, begin: int) -> None:
         """Notes one line, which begins at a place in the file."""
-        layout, line = self.layout, content(record)
+        layout = self.layout
         heads, first = head_of(line, layout.first_cell)
         count = len(heads) + count_of_fields(line, first)
-        if not record.endswith(b"\n"):
-            raise BadInput(self.path, "cut short: the last line has no end")
         if count != layout.width:
             raise BadInput(self.path, f"{count} fields, and the header has {layout.width}", record=number)
         numbers = [self.number(number, name, text) for name, text in zip(layout.heads[2:], heads[2:])]

@@ -16,6 +16,8 @@ import numpy.typing as npt
 from .. import progress
 from ..faults import BadInput, needs
 from ..files import written_aside
+from ..threads import in_order, processors
+from .chunks import LEVEL, packed, rows_of
 from .layout import Layout
 from .lines import Seconds
 from .matrix import Matrix, Share, Sums, lacking
@@ -38,8 +40,10 @@ def name_of(scenario: str, share: Share) -> str:
     return (scenario.replace("/", "_") if share is None else f"{scenario.replace('/', '_')}_{share}").lstrip(".") or "_"
 
 
-def write_open_matrix(matrix: Matrix, path: str) -> None:
-    """Writes a matrix, a few rows at a time."""
+def write_open_matrix(matrix: Matrix, path: str, threads: int | None = None) -> None:
+    """Writes a matrix, a few rows at a time, which several threads read and compress: one on each processor where
+    their number isn't said.
+    """
     needs("h5py")
     import h5py
 
@@ -59,7 +63,8 @@ def write_open_matrix(matrix: Matrix, path: str) -> None:
         write_lookups(file.create_group("lookup"), first, matrix.stops)
         data, access = file.create_group("data"), file.create_group("access")
         for place, (scenario, share) in enumerate(layouts):
-            write_data(data, matrix, scenario, share, place)
+            made_data = make_data(data, matrix, scenario, share, place)
+            fill_data(made_data, matrix, (scenario, share), threads or processors())
             access.create_dataset(name_of(scenario, share), data=matrix.access(scenario, share))
 
 
@@ -69,24 +74,41 @@ def write_lookups(group: Any, origins: Sequence[str], stops: Sequence[str]) -> N
         group.create_dataset(f"{name}_number", data=np.arange(1, len(names) + 1, dtype=np.int32))
 
 
-def write_data(group: Any, matrix: Matrix, scenario: str, share: Share, place: int) -> None:
-    """Writes the travel times of a scenario and a share, whole chunks at a time."""
+def make_data(group: Any, matrix: Matrix, scenario: str, share: Share, place: int) -> Any:
+    """Makes the room for the travel times of a scenario and a share, in chunks of whole rows."""
     shape = (len(matrix.origins(scenario, share)), len(matrix.stops))
     rows = max(1, min(shape[0], CELLS_OF_A_CHUNK // max(1, shape[1])))
-    how = (
-        {"chunks": (rows, shape[1]), "compression": "gzip", "compression_opts": 1, "shuffle": True}
-        if all(shape)
-        else {}
-    )
-    made = group.create_dataset(name_of(scenario, share), shape=shape, dtype="<f4", **how)
+    how = {"chunks": (rows, shape[1]), "compression": "gzip", "compression_opts": LEVEL, "shuffle": True}
+    made = group.create_dataset(name_of(scenario, share), shape=shape, dtype="<f4", **(how if all(shape) else {}))
     made.attrs["place"] = place
     made.attrs["scenario"] = np.bytes_(scenario.encode("utf-8", "surrogateescape"))
     if share is not None:
         made.attrs["share"] = share
-    step = max(rows, matrix.rows_at_once() // rows * rows)
-    for begin in progress.told(range(0, shape[0], step), -(-shape[0] // step), f"{scenario} {share or ''}", "blocks"):
-        end = min(begin + step, shape[0])
-        made[begin:end] = matrix.rows(scenario, share, begin, end)
+    return made
+
+
+def fill_data(made: Any, matrix: Matrix, key: tuple[str, Share], threads: int) -> None:
+    """Writes the travel times of a scenario and a share, a chunk at a time."""
+    if made.chunks is None:
+        return
+    count, rows = made.shape[0], made.chunks[0]
+    begins = range(0, count, rows)
+
+    def chunk_from(begin: int) -> bytes:
+        return packed(padded(matrix, key, range(begin, min(begin + rows, count)), rows))
+
+    chunks = in_order(chunk_from, begins, threads)
+    for begin, chunk in zip(begins, progress.told(chunks, len(begins), f"{key[0]} {key[1] or ''}", "blocks")):
+        made.id.write_direct_chunk((begin, 0), chunk)
+
+
+def padded(matrix: Matrix, key: tuple[str, Share], rows: range, room: int) -> Seconds:
+    """Some rows of a scenario and a share, and zeros behind them up to so many."""
+    cells = np.zeros((room, len(matrix.stops)), np.float32)
+    for first in rows[:: matrix.rows_at_once()]:
+        last = min(first + matrix.rows_at_once(), rows.stop)
+        cells[first - rows.start : last - rows.start] = matrix.rows(*key, first, last)
+    return cells
 
 
 class OpenMatrix(Matrix):
@@ -133,8 +155,7 @@ class OpenMatrix(Matrix):
         return made
 
     def rows(self, scenario: str, share: Share, begin: int, end: int) -> Seconds:
-        made: Seconds = self.file["data"][self.names[scenario, share]][begin:end].astype(np.float32, copy=False)
-        return made
+        return rows_of(self.file["data"][self.names[scenario, share]], begin, end)
 
 
 def is_open_matrix(path: str) -> bool:

@@ -18,6 +18,7 @@ import numpy.typing as npt
 from ..faults import BadInput, some
 from ..feed import Stops, read_stops
 from ..files import is_free, many_written_aside
+from ..parts import write_stops
 from ..records import Rounded, places_of, records, shown, write_rows
 from ..walks import Walks, told as what_is_told
 from .table import Points, plain
@@ -239,7 +240,7 @@ def write_files(folder: Path, asked: Asked, study: Study, walks: Walks, rounded:
         write_rows(out, ["from_stop_id", "to_stop_id", "seconds"], walks.rows())
     for name, stops in ends.items():
         with open(folder / name, "wb") as out:
-            write_rows(out, ["stop_id"], [[stop] for stop in stops])
+            write_stops(out, stops)
     for column, name in zip(study.points.columns, file_names(study.points.columns)):
         with open(folder / name, "wb") as out:
             write_rows(out, ["stop_id", "opportunities"], opportunities(asked, study, column, rounded))

@@ -21,7 +21,8 @@ from ..engine import Run, program_at
 from ..faults import BadInput, Lacking, one_line
 from ..files import remove
 from ..parts import origins_in
-from .cutting import PARTS, Part, parts_for, processors
+from ..threads import processors
+from .cutting import PARTS, Part, parts_for
 from .running import Failed, shown
 from .stages import PACKAGE, TASK, as_text, say, write_settled
 from .ttm import Running, version_of, with_origins

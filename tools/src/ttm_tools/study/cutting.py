@@ -2,7 +2,6 @@
 
 import json
 import math
-import os
 import socket
 import time
 from dataclasses import asdict, dataclass, replace
@@ -10,8 +9,7 @@ from pathlib import Path
 from typing import Any, Sequence
 
 from ..files import is_running, output, remove, sum_of
-from ..parts import origins_in, parts_of
-from ..records import write_rows
+from ..parts import origins_in, parts_of, write_stops
 from .inputs import ORIGINS, Inputs
 from .stages import as_text, key_of, settle, write_settled
 from .ttm import Report, report_of, with_origins
@@ -79,7 +77,7 @@ class Part:
             if not is_running(int(path.name.split(".")[2])):
                 remove(path)
         with output(str(self.origins_file)) as file:
-            write_rows(file, ["stop_id"], [[stop] for stop in self.origins])
+            write_stops(file, self.origins)
 
     def finish(self) -> None:
         """Notes that the matrix is whole."""
@@ -124,7 +122,7 @@ def trial(inputs: Inputs, origins: Sequence[str], room: Path) -> tuple[float, Re
     """How long a run of some origins takes, and what it reports."""
     path = room / "origins.csv"
     with open(path, "wb") as file:
-        write_rows(file, ["stop_id"], [[stop] for stop in origins])
+        write_stops(file, origins)
     begin = time.monotonic()
     report = report_of(with_origins(inputs.run, str(path), 1))
     return time.monotonic() - begin, report
@@ -142,28 +140,31 @@ def costs_of(inputs: Inputs, origins: Sequence[str], room: Path) -> Costs:
     return Costs(max(0.0, short - each), each, first.number("bytes taken at most"), row, free)
 
 
-def shape_of(wish: PartWish, costs: Costs, origins: int, workers: int) -> Shape:
+def fitting(memory: int, costs: Costs, rows: int, workers: int) -> int:
+    """How many parts of so many origins run at once in some memory; 0 bytes where it isn't known."""
+    each = costs.network + rows * costs.row
+    return max(1, min(workers, memory // each if memory and each else workers))
+
+
+def shape_of(wish: PartWish, costs: Costs, origins: int, workers: int, known: int | None = None) -> Shape:
     """Parts of about so many minutes, of which so many run at once as memory allows: where fewer do than there are
-    processors, each takes several.
+    processors, each takes several. Parts that are known, or counted by hand, stay so many.
     """
     memory = wish.memory * MB if wish.memory else int(OF_THE_FREE * costs.free)
-    least = costs.network + costs.row
-    at_once = max(1, min(workers, memory // least if memory and least else workers))
+    count = known or wish.count
+    if count is not None:
+        at_once = fitting(memory, costs, math.ceil(origins / count), workers)
+        return Shape(min(count, origins), at_once, max(1, workers // at_once))
+    at_once = fitting(memory, costs, 1, workers)
     threads = max(1, workers // at_once)
     by_memory = (memory // at_once - costs.network) // max(1, costs.row) if memory else origins
     by_time = threads * (60 * wish.minutes - costs.setup) / costs.each if costs.each else origins
-    if wish.count is not None:
-        return Shape(min(wish.count, origins), at_once, threads)
     largest = max(1, min(int(min(by_time, origins)), int(min(by_memory, origins))))
     parts = max(math.ceil(origins / largest), min(at_once, origins))
     if parts > at_once:
         parts = math.ceil(parts / at_once) * at_once
     parts = min(parts, origins, max(MOST_PARTS, math.ceil(origins / max(1, int(min(by_memory, origins))))))
     return Shape(parts, at_once, threads)
-
-
-def processors() -> int:
-    return len(os.sched_getaffinity(0))
 
 
 def cut_of(wish: PartWish, inputs: Inputs, key: str, workers: int, room: Path) -> tuple[list[Part], Shape]:
@@ -178,8 +179,7 @@ def cut_of(wish: PartWish, inputs: Inputs, key: str, workers: int, room: Path) -
         known, shape = False, None
     if shape is None or not known:
         costs = costs_of(inputs, origins, room)
-        made = shape_of(wish, costs, len(origins), workers)
-        shape = Shape(shape.parts if shape else made.parts, made.at_once, made.threads)
+        shape = shape_of(wish, costs, len(origins), workers, shape.parts if shape else None)
         noted = {"key": facts, "workers": workers, "shape": asdict(shape), "costs": asdict(costs)}
         write_settled(Path(CUT), as_text(noted))
     parts = parts_for(origins, shape.parts, key)

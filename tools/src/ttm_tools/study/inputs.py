@@ -12,10 +12,10 @@ from typing import Any, Callable, Sequence
 from ..engine import Run
 from ..faults import BadInput
 from ..feed import Stops, read_stops
+from ..matrices import BASE, TODAY
 from ..measures.opportunities import OWN_NAME, Counts, called, columns_of, read_counts
-from ..parts import origins_in, origins_of_feed
+from ..parts import origins_in, origins_of_feed, write_stops
 from ..plans import make as plans
-from ..plans.scenario_files import TODAY
 from ..points import read_points, study as points
 from ..points.table import plain
 from ..prepare.clip import Clip
@@ -28,7 +28,6 @@ FEED, PLANNED, POINTS = "inputs/feed", "inputs/planned", "inputs/points"
 FOOTPATHS, ORIGINS, OPPORTUNITIES = "inputs/footpaths.csv", "inputs/origins.csv", "inputs/opportunities.csv"
 SCENARIOS = "inputs/scenarios"
 COUNTED, PEOPLE = "inputs/counted/opportunities.csv", "inputs/people.csv"
-BASE = "base"  # what `ttm` calls the feed as it is
 
 
 @dataclass(frozen=True)
@@ -288,7 +287,7 @@ def origins_stage(maker: Maker) -> Stage:
         if lost is not None:
             raise BadInput(given or feed, f"{shown(lost[1])} is no stop of the feed", record=lost[0])
         with open(ORIGINS, "wb") as file:
-            write_rows(file, ["stop_id"], [[stop] for stop in origins])
+            write_stops(file, origins)
         return [f"{ORIGINS}: {len(origins):,} origins"]
 
     return Stage("origins", {"stops": maker.stops_sum, "inputs": sums_of([given] if given else [])}, [ORIGINS], make)

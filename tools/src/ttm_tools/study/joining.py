@@ -11,6 +11,7 @@ from ..matrices import Matrix, Seconds, Share, Sums, write_open_matrix
 from ..matrices.chosen import Chosen
 from ..matrices.csv_matrix import CsvMatrix
 from ..parts import Part as CsvPart, write_whole
+from ..threads import in_order
 from .cutting import Part
 
 MATRIX, CSV = "matrix.omx", "matrix.csv"
@@ -56,17 +57,24 @@ class Joined(Matrix):
         return np.concatenate(found)
 
 
-def join_parts(parts: Sequence[Part], with_csv: bool, left_out: Sequence[str], shown: Sequence[str]) -> list[str]:
+def refuse_changed(parts: Sequence[Part], threads: int) -> None:
+    """Tells the first part whose bytes aren't those that were made, and has it be computed again."""
+    for part, is_whole in zip(parts, in_order(Part.is_whole, parts, threads)):
+        if not is_whole:
+            remove(part.folder / "key")
+            raise BadInput(part.matrix, "changed since it was made; the same command computes it again")
+
+
+def join_parts(
+    parts: Sequence[Part], with_csv: bool, left_out: Sequence[str], shown: Sequence[str], threads: int
+) -> list[str]:
     """Writes the matrix of all parts, which are looked at once more, without some scenarios; with those columns alone
     that are to be shown, where there are any.
     """
-    for part in parts:
-        if not part.is_whole():
-            remove(part.folder / "key")
-            raise BadInput(part.matrix, "changed since it was made; the same command computes it again")
+    refuse_changed(parts, threads)
     joined = Joined(parts, left_out)
     matrix = Chosen(joined, shown) if shown else joined
-    write_open_matrix(matrix, MATRIX)
+    write_open_matrix(matrix, MATRIX, threads)
     told = [f"{MATRIX}: {joined.begins[-1]:,} origins, {len(matrix.stops):,} {'points' if shown else 'stops'}"]
     if with_csv:
         with output(CSV) as file:

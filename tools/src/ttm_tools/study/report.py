@@ -9,7 +9,6 @@ from typing import Iterator, Sequence
 from ..measures.access_table import read_access
 from ..records import records as records_in, shown
 from .document import Document
-
 from .maps import maps_of
 from .page import PAGE
 from .results import ACCESS_TABLE, EQUITY_TABLE, Whole

@@ -15,8 +15,8 @@ from ..faults import BadInput
 from ..files import sum_of
 from ..matrices import Matrix, open_matrix
 from ..matrices.csv_matrix import CsvMatrix
-from ..parts import origins_in, parts_of
-from ..records import shown, write_rows
+from ..parts import origins_in, parts_of, write_stops
+from ..records import shown
 from .joining import CSV, MATRIX
 from .notes import NOTES, read_notes
 from .stages import held, room, say
@@ -61,7 +61,7 @@ def compare_again(run: Run, origins: Sequence[str], kept: Sequence[Matrix]) -> N
     with room() as made:
         path, out = made / "origins.csv", made / "matrix.csv"
         with open(path, "wb") as file:
-            write_rows(file, ["stop_id"], [[stop] for stop in origins])
+            write_stops(file, origins)
         run_ttm(replace(run, files={**run.files, "origins": str(path)}), out)
         again = CsvMatrix(str(out))
         for matrix in kept:
