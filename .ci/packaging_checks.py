@@ -4,7 +4,7 @@ runs the worked example of README.
 
     packaging_checks.py PROGRAM
 
-The package is installed by `dpkg` into an empty room, and into a Debian 12 of its own where debootstrap and a mirror
+The package is installed by `dpkg` into an empty room, and into a Debian 12 of its own where mmdebstrap and a mirror
 can be had: else that is skipped, and so is what wants root, or `man`. Where root runs this on Debian, both are
 installed first. The last line is 'N passed, M failed', with ', K skipped' behind it where something was.
 """
@@ -25,7 +25,7 @@ PACKAGING = ROOT / "packaging"
 NO_ROOM = 75
 SECONDS = 1800
 COMMANDS = ("ttm", "ttm-tools")
-NEEDED = {"debootstrap": "debootstrap", "man": "man-db"}  # packages by the command that they have
+NEEDED = {"mmdebstrap": "mmdebstrap", "man": "man-db"}  # packages by the command that they have
 PATH = os.environ["PATH"] + ":/usr/sbin"
 BASH = """source "$1"; COMP_WORDS=("${@:3}"); COMP_CWORD=$(($# - 3)); "$2"; echo "${COMPREPLY[*]}" """
 
@@ -181,8 +181,8 @@ def installed_by_dpkg(of: Packages) -> None:
 
 def installed_in_debian(of: Packages) -> None:
     """installed in a Debian 12 of its own, it gives the worked example, and is removed whole"""
-    if not shutil.which("debootstrap", path=PATH):
-        raise Skipped("no debootstrap on this machine")
+    if not any(shutil.which(it, path=PATH) for it in ("mmdebstrap", "debootstrap")):
+        raise Skipped("neither mmdebstrap nor debootstrap on this machine")
     of.install("debian")
 
 
