@@ -5,6 +5,7 @@ from pathlib import Path
 import pytest
 
 import feedgen
+import goals
 import ratios
 import shared
 
@@ -65,6 +66,47 @@ def test_a_programs_times_are_read_in_milliseconds() -> None:
         ["printf", "durations, origin 1, us: 1500\ndurations, checksum: 7\n"], {"durations": "ttm"}
     )
     assert program.run([]) == ({"ttm": [1.5]}, {"ttm": "7"})
+
+
+def goals_of(*more: str) -> goals.Asked:
+    return goals.asked_of(["--town", "t", "--city", "c", "--metropolis", "m", *more])
+
+
+def test_a_goal_is_met_from_its_least_or_up_to_its_most() -> None:
+    assert goals.Figure("x", "city", 1.7, 1.7, aim=2.0).cells() == ["x", "city", "1.70", "at least 1.7, aim 2", "yes"]
+    assert goals.Figure("x", "city", 1.69, 1.7).cells()[2:] == ["1.69", "at least 1.7", "no"]
+    assert goals.Figure("x", "city", 0.1, 0.1, False).cells()[2:] == ["0.10", "at most 0.1", "yes"]
+    assert goals.Figure("x", "city", 62, 60, False).cells()[-1] == "no"
+
+
+def test_goals_are_measured_over_so_many_origins_of_each_feed() -> None:
+    assert goals_of().parts == list(goals.PARTS) and goals_of("--parts", "days,cells").parts == ["days", "cells"]
+    assert goals_of().of("city").first == 200 and goals_of("--origins", "7").of("metropolis").first == 7
+    assert goals_of("--origins", "90").of("metropolis", minutes=4).minutes == 4
+    with pytest.raises(SystemExit):
+        goals_of("--parts", "cell")
+
+
+def test_nothing_is_measured_beside_what_is_not_given() -> None:
+    assert not list(goals.peers(goals_of())) and not list(goals.windows(goals_of()))
+
+
+def test_a_feed_gets_a_change_time_at_each_stop(tmp_path: Path) -> None:
+    feed = tmp_path / "feed"
+    feed.mkdir()
+    write_stops(feed, "stops.txt", "G,1", "A,0", "B,")
+    write_stops(feed, "transfers.txt")
+    made = Path(goals.with_changes(str(feed), str(tmp_path), 90))
+    rows = (made / "transfers.txt").read_text().splitlines()
+    assert rows == ["from_stop_id,to_stop_id,transfer_type,min_transfer_time", "A,A,2,90", "B,B,2,90"]
+    assert (made / "stops.txt").read_bytes() == (feed / "stops.txt").read_bytes()
+
+
+def test_figures_are_read_by_their_words() -> None:
+    assert goals.printed(["printf", "read_feed, ms: 12\\nno figure: x\\nrows: 3\\n"]) == {
+        "read_feed, ms": 12,
+        "rows": 3,
+    }
 
 
 def test_the_words_of_a_study_name_footpaths_that_are_there(tmp_path: Path) -> None:
