@@ -69,6 +69,15 @@ def counted(status: int, lines: list[str]) -> Count:
     return Count(passed, max(failed, 1 if status else 0), skipped)
 
 
+def ended(started: subprocess.Popen[str]) -> tuple[int, float]:
+    """The status of a command that says no more, and the seconds of processor time that it took with all that it
+    started.
+    """
+    _, status, used = os.wait4(started.pid, 0)
+    started.returncode = os.waitstatus_to_exitcode(status)
+    return started.returncode, used.ru_utime + used.ru_stime
+
+
 def prove(room: Path) -> Count:
     """Proves every crate and its tests from nothing, and runs each test and program; what it says is printed as it
     comes.
@@ -88,7 +97,9 @@ def prove(room: Path) -> Count:
         for line in started.stdout:
             print(line, end="", flush=True)
             lines.append(line.rstrip("\n"))
-    return counted(started.returncode, lines)
+        status, seconds = ended(started)
+    print(f"== rt ci: {seconds:.0f} s of processor time", flush=True)
+    return counted(status, lines)
 
 
 def scripts(room: Path) -> list[list[str]]:
@@ -112,7 +123,7 @@ def scripts(room: Path) -> list[list[str]]:
 def run_script(room: Path, words: list[str], environment: dict[str, str]) -> Count:
     """Runs a script of the repository, and prints what it said once it has ended."""
     began = time.monotonic()
-    ran = subprocess.run(
+    with subprocess.Popen(
         [sys.executable, *words],
         cwd=room,
         env=environment,
@@ -121,9 +132,13 @@ def run_script(room: Path, words: list[str], environment: dict[str, str]) -> Cou
         stderr=subprocess.STDOUT,
         text=True,
         errors="replace",
-    )
-    print(f"== {words[0]} ({time.monotonic() - began:.0f} s)\n{ran.stdout}", end="", flush=True)
-    return counted(ran.returncode, ran.stdout.splitlines())
+    ) as started:
+        assert started.stdout
+        said = started.stdout.read()
+        status, seconds = ended(started)
+    took = f"{time.monotonic() - began:.0f} s, {seconds:.0f} s of processor time"
+    print(f"== {words[0]} ({took})\n{said}", end="", flush=True)
+    return counted(status, said.splitlines())
 
 
 def run_scripts(root: Path, room: Path) -> Count:

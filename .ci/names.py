@@ -3,8 +3,9 @@
 
 Each function and law that README's list of promises and ARCHITECTURE's table name exists in its crate; each promise of
 README names a function that has a contract; the program's `main` comes to each function that the table has 'on the
-program's way', by a walk over the sources that goes by names (`calls.py` says what it misses); and each spec that the
-table and DEFINITIONS name is a file. The last line is 'N passed, M failed'. Standard library only.
+program's way', by a walk over the sources that goes by names (`calls.py` says what it misses); each spec that the
+table and DEFINITIONS name is a file; and so is each must-fail edit that ASSURANCE names, whose functions, types and
+constants are there, too. The last line is 'N passed, M failed'. Standard library only.
 """
 
 from __future__ import annotations
@@ -22,6 +23,7 @@ ROOT = Path(__file__).resolve().parent.parent
 PROGRAM = "ttm"
 NAME = re.compile(r"`((?:\w+::)*[A-Za-z]\w*)`")
 ITEM = re.compile(r"\d+\. \*\*(.+?)\*\*(.*)", re.DOTALL)
+EDIT = re.compile(r"`(\w+)/(\w+\.\w+\.\w+)`")
 SPEC = re.compile(r"(?:\b(\w+)/)?\b([A-Z]\w*)\b")
 FUNCTION = r"(?m)^( *)(?:pub(?:\([a-z]+\))? )?(?:(?:const|unsafe|final) )*fn {}\b"
 OTHER = r"(?m)^(?:pub(?:\([a-z]+\))? )?(?:struct|enum|trait|type|const) {}\b"
@@ -135,6 +137,22 @@ def specs_of_definitions(definitions: str, crates: list[str]) -> list[Claim]:
     return claims
 
 
+def judged_assurance(root: Path, sources: Sources) -> Iterator[tuple[str, bool]]:
+    """What ASSURANCE names: edits, and functions, types, constants, crates, files and words of specs of any crate."""
+    page = root / "docs/ASSURANCE.md"
+    text = page.read_text() if page.is_file() else ""
+    for crate, edit in EDIT.findall(text):
+        yield f"ASSURANCE: {crate} has no edit {edit}", (root / f"crates/{crate}/must-fail/{edit}.edit").is_file()
+    files = {it.stem for crate in sources.names for it in repository.files_of(root / f"crates/{crate}/src")}
+    specs = "\n".join(it.read_text() for it in sorted((root / "crates").glob("*/specs/*.antt")))
+    libraries = {it for crate in repository.crates_of(root).values() for it in crate.line.split(":")[1].split()}
+    known = {*sources.names, *files, *libraries}
+    for name in dict.fromkeys(NAME.findall(text)):
+        there = any(sources.has(Claim("ASSURANCE", crate, name)) for crate in sources.names)
+        word = re.search(rf"(?m)^(?:\w+ )*{re.escape(name)}\b", specs)
+        yield f"ASSURANCE: nothing is called {name}", name in known or there or bool(word)
+
+
 def judged(root: Path) -> Iterator[tuple[str, bool]]:
     """Each thing that is looked at, and whether it is as it should be."""
     sources = Sources(root)
@@ -152,6 +170,7 @@ def judged(root: Path) -> Iterator[tuple[str, bool]]:
     specs = specs_of_definitions((root / "docs/DEFINITIONS.md").read_text(), sources.names)
     for claim in specs_of_table(architecture, sources.names) + specs:
         yield f"{claim.page}: {claim.crate} has no spec {claim.name}", sources.has_spec(claim)
+    yield from judged_assurance(root, sources)
 
 
 def main() -> int:

@@ -4,9 +4,9 @@ runs the worked example of README.
 
     packaging_checks.py PROGRAM
 
-The package is installed by `dpkg` into an empty room, and into a Debian 12 of its own where debootstrap and a mirror
-can be had: else that is skipped, and so is what wants root, or `man`. The last line is 'N passed, M failed', with
-', K skipped' behind it where something was.
+The package is installed by `dpkg` into an empty room, and into a Debian 12 of its own where mmdebstrap and a mirror
+can be had: else that is skipped, and so is what wants root, or `man`. Where root runs this on Debian, both are
+installed first. The last line is 'N passed, M failed', with ', K skipped' behind it where something was.
 """
 import gzip
 import os
@@ -18,11 +18,15 @@ import tempfile
 from pathlib import Path
 from typing import Callable, Iterator
 
+from installing import install
+
 ROOT = Path(__file__).resolve().parent.parent
 PACKAGING = ROOT / "packaging"
 NO_ROOM = 75
 SECONDS = 1800
 COMMANDS = ("ttm", "ttm-tools")
+NEEDED = {"mmdebstrap": "mmdebstrap", "man": "man-db"}  # packages by the command that they have
+PATH = os.environ["PATH"] + ":/usr/sbin"
 BASH = """source "$1"; COMP_WORDS=("${@:3}"); COMP_CWORD=$(($# - 3)); "$2"; echo "${COMPREPLY[*]}" """
 
 
@@ -177,8 +181,8 @@ def installed_by_dpkg(of: Packages) -> None:
 
 def installed_in_debian(of: Packages) -> None:
     """installed in a Debian 12 of its own, it gives the worked example, and is removed whole"""
-    if not shutil.which("debootstrap", path=os.environ["PATH"] + ":/usr/sbin"):
-        raise Skipped("no debootstrap on this machine")
+    if not any(shutil.which(it, path=PATH) for it in ("mmdebstrap", "debootstrap")):
+        raise Skipped("neither mmdebstrap nor debootstrap on this machine")
     of.install("debian")
 
 
@@ -218,6 +222,7 @@ def results(program: Path) -> Iterator[str]:
 def main() -> int:
     if len(sys.argv) != 2:
         sys.exit("usage: packaging_checks.py PROGRAM")
+    install([package for command, package in NEEDED.items() if not shutil.which(command, path=PATH)])
     try:
         ended = list(results(Path(sys.argv[1]).resolve()))
     except (AssertionError, OSError, subprocess.SubprocessError) as fault:

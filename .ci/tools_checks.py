@@ -13,9 +13,10 @@ import re
 import shutil
 import subprocess
 import sys
-import time
 from dataclasses import dataclass
 from pathlib import Path
+
+from installing import install
 
 ROOT = Path(__file__).resolve().parent.parent
 PYTHON = "/usr/bin/python3"  # that of Debian's packages
@@ -39,7 +40,6 @@ PACKAGES = {
 }
 BROWSER = {"selenium": "python3-selenium", "chromium": "chromium", "chromedriver": "chromium-driver"}  # large: the last
 LEAFLET = Path("/usr/share/javascript/leaflet/leaflet.min.js"), "libjs-leaflet"
-SECONDS_TO_INSTALL = 300
 
 
 @dataclass
@@ -66,20 +66,6 @@ def lacking_browser() -> list[str]:
     """The Debian packages of the browser that aren't there."""
     found = subprocess.run([PYTHON, "-c", "import selenium"], stderr=subprocess.DEVNULL).returncode == 0
     return [package for name, package in BROWSER.items() if not (found if name == "selenium" else shutil.which(name))]
-
-
-def install() -> None:
-    """Installs what is lacking, where this is Debian and root runs it."""
-    if not lacking() + lacking_browser() or os.geteuid() != 0 or shutil.which("apt-get") is None:
-        return
-    environment, end = {**os.environ, "DEBIAN_FRONTEND": "noninteractive"}, time.monotonic() + SECONDS_TO_INSTALL
-    some = ["install", "-q", "-y", "--no-install-recommends"]
-    for words in (["update", "-q"], [*some, *lacking()], [*some, *lacking_browser()]):
-        try:
-            left = max(1.0, end - time.monotonic())
-            subprocess.run(["apt-get", *words], env=environment, timeout=left, capture_output=True)
-        except subprocess.TimeoutExpired:
-            print(f"apt-get {words[0]}: not done in {SECONDS_TO_INSTALL} seconds", flush=True)
 
 
 def run(words: list[str], folder: Path) -> tuple[int, str]:
@@ -152,7 +138,7 @@ def test(counts: Counts, program: str | None) -> None:
 
 
 def main() -> int:
-    install()
+    install(lacking(), lacking_browser())
     missing, counts = lacking() + lacking_browser(), Counts()
     if missing:
         print(f"what needs {', '.join(missing)} is skipped: apt-get can't install that here")

@@ -2,7 +2,7 @@
 # Installs a Debian package of build.sh into a room of its own, runs the worked example of README there, and removes the
 # package again, which must leave none of its files.
 # usage: packaging/try.sh [--room debian|dpkg|analysts] DEB
-#   debian    a Debian 12 that debootstrap makes: wants root, debootstrap and a mirror; its address may stand in MIRROR
+#   debian    a Debian 12 that mmdebstrap or debootstrap makes: wants root and a mirror; its address may stand in MIRROR
 #   dpkg      an empty one by `dpkg --root`, over this machine's libraries: wants root
 #   analysts  a Debian 12 where apt installs the package with all that it recommends (some minutes); the commands of
 #             docs/ANALYSTS.md, all but those for many machines, run there, and print what the page says
@@ -27,17 +27,24 @@ trap 'umount "$room/debian/proc" "$room/debian/sys" 2> /dev/null || true; rm -rf
 trap 'exit 1' HUP INT TERM
 
 make_debian() {
-    mkdir "$room/debian"
-    # shellcheck disable=SC2086
-    timeout $SECONDS_FOR_A_ROOM debootstrap --variant=minbase --include=python3-minimal,libpython3-stdlib \
-        bookworm "$room/debian" ${MIRROR:-} > "$room/log" 2>&1
+    # mmdebstrap takes a third of the processor time, and leaves no lists of packages, by which analysts' are installed
+    for maker in mmdebstrap debootstrap; do
+        command -v $maker > /dev/null || continue
+        [ "$maker" = debootstrap ] || [ "$kind" != analysts ] || continue
+        rm -rf --one-file-system "$room/debian"
+        mkdir "$room/debian"
+        # shellcheck disable=SC2086
+        timeout $SECONDS_FOR_A_ROOM $maker --variant=minbase --include=python3-minimal,libpython3-stdlib \
+            bookworm "$room/debian" ${MIRROR:-} > "$room/log" 2>&1 && return
+    done
+    return 1
 }
 make_dpkg() {
     mkdir -p "$room/dpkg/var/lib/dpkg/info" "$room/dpkg/var/lib/dpkg/updates" "$room/dpkg/var/log"
     touch "$room/dpkg/var/lib/dpkg/status"
 }
 case $kind in
-    debian | analysts) make_debian || { tail -n 3 "$room/log" >&2; exit $NO_ROOM; } ;;
+    debian | analysts) make_debian || { tail -n 3 "$room/log" >&2 || true; exit $NO_ROOM; } ;;
     dpkg) make_dpkg ;;
     '') if make_debian; then kind=debian; else kind=dpkg; make_dpkg; fi ;;
     *) echo "$0: no such room: $kind" >&2; exit 2 ;;

@@ -10,3 +10,4 @@ pub mod Falling
 pub mod Choosing
 pub mod Lining
 pub mod RowLanes
+pub mod Parts

@@ -89,6 +89,9 @@ module _ (w : Width) (n : ℕ) where
   pub smaller_at : (xs ys : List ℕ) (l : ℕ) → l < n → length xs ≡ n → length ys ≡ n → get_or (chosen w ltb xs ys xs ys) l 0 ≡ min (get_or xs l 0) (get_or ys l 0)
   smaller_at xs ys l h xl yl = sel_at ltb xs ys xs ys l h xl yl xl yl ∙ min_if (get_or xs l 0) (get_or ys l 0)
 
+  pub higher_at : (xs ys : List ℕ) (l : ℕ) → l < n → length xs ≡ n → length ys ≡ n → get_or (chosen w ltb xs ys ys xs) l 0 ≡ max (get_or xs l 0) (get_or ys l 0)
+  higher_at xs ys l h xl yl = sel_at ltb xs ys ys xs l h xl yl yl xl ∙ max_if (get_or xs l 0) (get_or ys l 0)
+
   -- the smaller of a lane, and of the larger of its bar and a number
   pub alights_at : (old bar : List ℕ) (arrive l : ℕ) → l < n → length old ≡ n → length bar ≡ n
       → get_or (chosen w ltb old (chosen w ltb bar (replicate n arrive) (replicate n arrive) bar) old (chosen w ltb bar (replicate n arrive) (replicate n arrive) bar)) l 0 ≡ min (get_or old l 0) (max (get_or bar l 0) arrive)

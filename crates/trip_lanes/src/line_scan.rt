@@ -150,24 +150,6 @@ fn forth(column: Column<'_>, time: u32, start: usize) -> usize
     first
 }
 
-/// The rank after the last that somebody can newly catch, where the first is known.
-fn end_of(column: Column<'_>, first: usize, fall: Fall) -> usize
-    requires column { IsColumn column }
-    requires first { first ≤ column.trips }
-    ensures from { first ≤ result }
-    ensures within { result ≤ column.entry.trips }
-    ensures last { (result ≡ column.entry.trips) ⊎ ((fall.top ≤ departs column.entry result) ⊎ ((q : ℕ) × (q + 1 ≡ result) × (first ≤ q) × (fall.high ≤ departs column.entry q))) }
-{
-    let mut end = first;
-    while end < column.trips
-        && departure(column, end) < fall.top
-        && (end == first || departure(column, end - 1) < fall.high)
-    {
-        end += 1;
-    }
-    end
-}
-
 /// Takes the lanes aboard at a place that newly catch a trip there: of all trips from the first on that somebody
 /// catches.
 fn board_place<R: Row>(column: Column<'_>, first: usize, fall: Fall, ready: R, run: R) -> R
@@ -184,5 +166,16 @@ fn board_place<R: Row>(column: Column<'_>, first: usize, fall: Fall, ready: R, r
     ensures kept { (l r : ℕ) → l < R.LANES → Rides R.NEVER (R.labels run) l r → RidesBy R.NEVER (R.labels result) l r }
     ensures caught { (l r before : ℕ) → l < R.LANES → Ascend (departs column.entry) column.entry.trips → HasFallen before (slice_index (R.labels ready) l) fall → r < column.entry.trips → Catches before (slice_index (R.labels ready) l) (departs column.entry r) → RidesBy R.NEVER (R.labels result) l r }
 {
-    board(column, first, end_of(column, first, fall), ready, run)
+    let mut riding = run;
+    for rank in first..column.trips {
+        let depart = departure(column, rank);
+        if depart >= fall.top {
+            return riding;
+        }
+        riding = board(depart, rank, ready, riding);
+        if depart >= fall.high {
+            return riding;
+        }
+    }
+    riding
 }

@@ -1,5 +1,5 @@
 //! Narrow rows: thirty-two labels of 16 bits, which reach 65,535 seconds, some eighteen hours, from where they count.
-ghost use Rattle.std.specs.Prelude.{◌≡◌, ◌≢◌, ℕ, ◌+◌, ◌*◌, ◌<◌, ◌≤◌, ◌⊎◌, slice_index};
+ghost use Rattle.std.specs.Prelude.{◌≡◌, ◌≢◌, ℕ, ◌+◌, ◌*◌, ◌<◌, ◌≤◌, ◌⊎◌, min, max, slice_index};
 ghost use Rattle.std.proofs.Common.{rules};
 
 use crate::falls::Fall;
@@ -7,7 +7,7 @@ use crate::lanes::{LANES, Lanes};
 use crate::ranks::Span;
 use crate::rows::Row;
 use std::simd::prelude::*;
-use std::simd::{u16x32, u32x16};
+use std::simd::{u16x8, u16x16, u16x32, u32x16};
 use timetable::NEVER;
 
 /// How many narrow labels stand side by side: they take as much room as sixteen wide ones.
@@ -18,6 +18,9 @@ const FAR: u16 = 65_535;
 
 /// The labels of one stop for thirty-two departures, in seconds from some time on.
 pub type Narrow = [u16; NARROW_LANES];
+
+/// Eight labels: what one register of every x86-64 processor holds.
+type Eight = [u16; 8];
 
 impl Row for Narrow {
     ghost LANES = { 32 };
@@ -139,11 +142,9 @@ fn widened(row: Narrow, part: usize) -> Lanes
     requires { 16 * part + 16 ≤ 32 }
     ensures { (l : ℕ) → l < 16 → slice_index result l ≡ slice_index row (16 * part + l) }
 {
-    let mut labels = [0; LANES];
-    for l in 0..LANES {
-        labels[l] = row[LANES * part + l] as u32;
-    }
-    labels
+    let from = LANES * part;
+    let labels: u32x16 = u16x16::from_slice(&row[from..from + LANES]).cast();
+    labels.to_array()
 }
 
 /// The ranks of the lanes that ride a trip, and 0 in the others.
@@ -171,16 +172,49 @@ fn of_fallen(before: Narrow, ready: Narrow, labels: Narrow, other: u16) -> Narro
         .to_array()
 }
 
+/// Eight of the labels, from eight times a part on.
+#[inline(always)]
+fn eight_of(labels: Narrow, part: usize) -> Eight
+    requires { 8 * part + 8 ≤ 32 }
+    ensures { (l : ℕ) → l < 8 → slice_index result l ≡ slice_index labels (8 * part + l) }
+{
+    let from = 8 * part;
+    u16x8::from_slice(&labels[from..from + 8]).to_array()
+}
+
+/// The lower of both, in each lane.
+#[inline(always)]
+fn lower_eight(one: Eight, other: Eight) -> Eight
+    ensures { (l : ℕ) → l < 8 → slice_index result l ≡ min (slice_index one l) (slice_index other l) }
+{
+    u16x8::from_array(one)
+        .simd_min(u16x8::from_array(other))
+        .to_array()
+}
+
+/// The higher of both, in each lane.
+#[inline(always)]
+fn higher_eight(one: Eight, other: Eight) -> Eight
+    ensures { (l : ℕ) → l < 8 → slice_index result l ≡ max (slice_index one l) (slice_index other l) }
+{
+    u16x8::from_array(one)
+        .simd_max(u16x8::from_array(other))
+        .to_array()
+}
+
 /// The least of some labels.
 #[inline(always)]
 fn least(labels: Narrow) -> u32
     ensures below { (l : ℕ) → l < 32 → result ≤ slice_index labels l }
     ensures some { (result ≡ 65535) ⊎ ((l : ℕ) × (l < 32) × (slice_index labels l ≡ result)) }
 {
+    let early = lower_eight(eight_of(labels, 0), eight_of(labels, 1));
+    let late = lower_eight(eight_of(labels, 2), eight_of(labels, 3));
+    let row = lower_eight(early, late);
     let mut low = FAR;
-    for l in 0..NARROW_LANES {
-        if labels[l] < low {
-            low = labels[l];
+    for l in 0..8 {
+        if row[l] < low {
+            low = row[l];
         }
     }
     low as u32
@@ -192,10 +226,13 @@ fn greatest(labels: Narrow) -> u32
     ensures above { (l : ℕ) → l < 32 → slice_index labels l ≤ result }
     ensures some { (result ≡ 0) ⊎ ((l : ℕ) × (l < 32) × (slice_index labels l ≡ result)) }
 {
+    let early = higher_eight(eight_of(labels, 0), eight_of(labels, 1));
+    let late = higher_eight(eight_of(labels, 2), eight_of(labels, 3));
+    let row = higher_eight(early, late);
     let mut high = 0;
-    for l in 0..NARROW_LANES {
-        if high < labels[l] {
-            high = labels[l];
+    for l in 0..8 {
+        if high < row[l] {
+            high = row[l];
         }
     }
     high as u32

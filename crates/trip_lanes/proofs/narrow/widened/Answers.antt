@@ -1,20 +1,10 @@
-use Rattle.std.proofs.Common.{◌≡◌, ◌+◌, ◌*◌, ◌<◌, inl, inr, ℕ, List, set, slice_index, length, arith, ◌∙◌}
-use Rattle.std.proofs.lemmas.List.{length-set, get_or-set_same, get_or-set_other}
+use Rattle.std.proofs.Common.{◌+◌, ◌*◌, ◌-◌, take, drop, arith, ◌∙◌}
+use Rattle.std.proofs.lemmas.List.{get_or-map}
+use Rattle.trip_lanes.proofs.Parts.{lane_of}
 use Rattle.trip_lanes.proofs.narrow.widened.Goals as goal
-use Rattle.std.proofs.lemmas.Bool.{cases_eq}
+use lib.Lanes.{chunk}
 
--- a list after its next place was filled
-filled : (xs ys : List ℕ) (from n : ℕ) → n < length xs → ((k : ℕ) → k < n → slice_index xs k ≡ slice_index ys (from + k))
-    → (k : ℕ) → k < n + 1 → slice_index (set xs n (slice_index ys (from + n))) k ≡ slice_index ys (from + k)
-filled xs ys from n inside before k below =
-    elim (cases_eq k n) [
-      | inl here ↦ rw here (get_or-set_same xs n (slice_index ys (from + n)) 0 inside)
-      | inr other ↦ get_or-set_other xs n k (slice_index ys (from + n)) 0 other ∙ before k (omega (arith, other))
-    ]
-
-pub loop-l-preserved : goal.loop-l-preserved
-loop-l-preserved c =
-    record {
-      done = filled c.loop-l.labels c.args.row (16 * c.args.part) c.loop-l.l (omega arith) c.loop-l.invariant.done;
-      whole = length-set c.loop-l.labels c.loop-l.l _ ∙ c.loop-l.invariant.whole;
-    }
+pub returns : goal.returns
+returns c l h =
+    let here = lane_of 16 c.args.row (16 * c.args.part) l (omega (arith, c.requires)) h in
+    get_or-map _ (chunk 0 16 (take (16 * c.args.part + 16 - 16 * c.args.part) (drop (16 * c.args.part) c.args.row))) l 0 0 here.1 ∙ here.0

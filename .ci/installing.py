@@ -1,0 +1,36 @@
+"""Debian packages that scripts of the gate need, installed where root runs them on Debian."""
+
+from __future__ import annotations
+
+import fcntl
+import os
+import shutil
+import subprocess
+import tempfile
+import time
+from collections.abc import Sequence
+from pathlib import Path
+
+SECONDS = 300
+LOCK = Path(tempfile.gettempdir()) / "ttm-installing.lock"
+
+
+def install(*groups: Sequence[str]) -> None:
+    """Installs packages, one group after another; what can't be had in five minutes stays away.
+
+    Scripts run side by side, and one at a time installs. Where nothing is lacking nothing is asked of the network.
+    """
+    wanted = [list(it) for it in groups if it]
+    if not wanted or os.geteuid() != 0 or shutil.which("apt-get") is None:
+        return
+    environment = {**os.environ, "DEBIAN_FRONTEND": "noninteractive"}
+    calls = [["update", "-q"], *(["install", "-q", "-y", "--no-install-recommends", *it] for it in wanted)]
+    with LOCK.open("w") as lock:
+        fcntl.flock(lock, fcntl.LOCK_EX)
+        end = time.monotonic() + SECONDS
+        for words in calls:
+            try:
+                left = max(1.0, end - time.monotonic())
+                subprocess.run(["apt-get", *words], env=environment, timeout=left, capture_output=True)
+            except subprocess.TimeoutExpired:
+                print(f"apt-get {words[0]}: not done in {SECONDS} seconds", flush=True)
