@@ -19,6 +19,7 @@ import subprocess
 import sys
 import time
 from dataclasses import dataclass, field
+from itertools import count
 from pathlib import Path
 
 HERE = Path(__file__).resolve().parent
@@ -48,6 +49,7 @@ keep = false
 memory = {memory}
 """
 SECONDS_BETWEEN_LOOKS = 1.0
+LOOKS_A_SUM = 5  # memory is summed up so often: each sum takes a tenth of a second of a processor
 GB = 1e9
 
 
@@ -87,8 +89,8 @@ def disk_of(folder: Path) -> int:
 def parts_done(folder: Path) -> float:
     """Which share of the parts is done."""
     there = list((folder / "parts").glob("[0-9]*"))
-    count = re.search(r'"parts": ([0-9]+)', text_of(folder / "stages" / "cut.json"))
-    return sum((it / "key").is_file() for it in there) / int(count[1]) if count else 0.0
+    cut = re.search(r'"parts": ([0-9]+)', text_of(folder / "stages" / "cut.json"))
+    return sum((it / "key").is_file() for it in there) / int(cut[1]) if cut else 0.0
 
 
 def text_of(path: Path) -> str:
@@ -99,9 +101,12 @@ def run(words: list[str], folder: Path, until: float, most: Most) -> bool:
     """Runs a command until it ends, or until so many of the parts are done; whether it ended."""
     begin = time.monotonic()
     process = subprocess.Popen([PYTHON, TOOLS, "study", *words], start_new_session=True)
-    while process.poll() is None:
-        most.memory = max(most.memory, memory_of(process.pid))
-        most.disk = max(most.disk, disk_of(folder))
+    for look in count():
+        if process.poll() is not None:
+            break
+        if look % LOOKS_A_SUM == 0:
+            most.memory = max(most.memory, memory_of(process.pid))
+            most.disk = max(most.disk, disk_of(folder))
         if parts_done(folder) >= until:
             os.killpg(process.pid, signal.SIGKILL)
             process.wait()
