@@ -509,8 +509,9 @@ For more information, try '--help'.
 
 
 def wrong_word(program: str) -> tuple[object, object]:
-    """Words that aren't the program's are told on the standard error."""
-    return left_by(program, ["--nothing"]), ("", NO_OPTION, 2)
+    """Words that aren't the program's are told on the standard error, with the name that the program was called by."""
+    called = NO_OPTION.replace("Usage: ttm ", f"Usage: {os.path.basename(program)} ")
+    return left_by(program, ["--nothing"]), ("", called, 2)
 
 
 FEW = 6  # files that may be open at once: three are before the first is read
