@@ -223,7 +223,7 @@ def past_a_gibibyte(room: Path) -> Run:
     small(room)
     os.truncate(room / "feed/stops.txt", 1024 * MIB + 1)
     words = ["--feed", "feed", *ASKED, "--origins", "a.csv"]
-    return Run("a file of 2^30 + 1 bytes", words, "", "ttm: stops.txt: too long\n", 2)
+    return Run("a file of 2^30 + 1 bytes", words, "", "ttm: feed/stops.txt: too long\n", 2)
 
 
 def walks(room: Path, count: int, footpaths: Iterator[str], origin: int, walk: int) -> list[str]:
