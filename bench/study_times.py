@@ -61,7 +61,7 @@ GB = 1e9
 
 @dataclass
 class Piece:
-    """What a command took until it ended or was killed. One that goes on when this script begins was cut off with it."""
+    """What a command took until it ended, or was killed. One that still goes on was cut off with this script."""
 
     began: str
     program: str  # the sum of ttm, by its beginning
