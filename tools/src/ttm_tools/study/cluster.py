@@ -25,7 +25,7 @@ from ..threads import processors
 from .cutting import PARTS, Part, parts_for
 from .running import Failed, shown
 from .stages import PACKAGE, TASK, as_text, say, write_settled
-from .ttm import Running, version_of, with_origins
+from .ttm import Running, facts_of, version_of, with_origins
 
 SCRIPT, JOB = f"{PARTS}/one_part.sh", f"{PARTS}/job"
 SECONDS_BETWEEN_LOOKS = 2.0
@@ -49,7 +49,12 @@ class Means:
     @property
     def at_once(self) -> int:
         """How many parts share this machine's memory."""
-        return 1 if self.is_elsewhere else self.workers or processors()
+        return 1 if self.is_elsewhere else self.threads
+
+    @property
+    def threads(self) -> int:
+        """How many threads of this machine put the parts together, wherever they were computed."""
+        return self.workers or processors()
 
 
 def words_of(options: Sequence[str]) -> list[str]:
@@ -93,8 +98,7 @@ def wait(missing: Sequence[Part], is_over: Callable[[], bool]) -> None:
 
 def write_task(run: Run, parts: int, key: str, version: Sequence[str]) -> None:
     """Writes what a part's machine has to know."""
-    facts = {**vars(run), "files": {name: str(path) for name, path in run.files.items()}}
-    known = {"run": facts, "parts": parts, "key": key, "version": list(version)}
+    known = {"run": facts_of(run), "parts": parts, "key": key, "version": list(version)}
     write_settled(Path(TASK), as_text(known))
     names = {"PYTHONPATH": str(PACKAGE.parent), "TTM_PROGRAM": os.path.abspath(program_at(None))}
     own = " ".join(f"{name}={shlex.quote(value)}" for name, value in names.items())

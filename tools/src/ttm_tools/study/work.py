@@ -129,7 +129,7 @@ def matrix_stage(study: Study, inputs: Inputs, key: str, version: list[str], mea
         else:
             failed = run_parts(inputs.run, parts, shape.at_once, shape.threads)
         refuse_failed(failed, len(parts))
-        return join_parts(parts, with_csv, inputs.left_out, inputs.destinations, means.at_once)
+        return join_parts(parts, with_csv, inputs.left_out, inputs.destinations, means.threads)
 
     depends = {"study": key, "origins": inputs.records["origins"].outputs, "csv": with_csv}
     depends |= {"shown": inputs.destinations, "left_out": inputs.left_out, "form": FORM}
