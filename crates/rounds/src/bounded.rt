@@ -1,5 +1,5 @@
 //! Departures side by side, each round bounded by the labels of a later departure.
-ghost use Rattle.std.specs.Prelude.{◌≡◌, ◌≢◌, ℕ, ◌+◌, ◌<◌, ◌≤◌, length, map, slice_index, All};
+ghost use Rattle.std.specs.Prelude.{◌≡◌, ◌≢◌, ℕ, ◌+◌, ◌<◌, ◌≤◌, length, map, replicate, slice_index, All};
 ghost use Rattle.timetable.specs.Steps.{Lowers};
 ghost use Rattle.timetable.specs.declared.least.TheConstants.{NEVER as NEVER_VALUE};
 ghost use Rattle.trip_lanes.specs.Cut.{cut};
@@ -21,6 +21,15 @@ pub(crate) const MOST_KEPT: u32 = 8;
 
 /// One time for each number of rides, in seconds on the axis, or `NEVER`.
 pub(crate) type Kept = [u32; 9];
+
+/// Makes all bounds NEVER.
+pub(crate) fn clear_kept(labels: &mut [Kept])
+    ensures { labels.new ≡ replicate (length labels.old) (replicate 9 NEVER_VALUE) }
+{
+    for stop in 0..labels.len() {
+        labels[stop] = [NEVER; 9];
+    }
+}
 
 /// The label of a bound in each lane.
 fn bound_of<R: Row>(bound: u32, base: u32) -> R
