@@ -181,7 +181,7 @@ fn settle_once<G: Gate>(
     Ok(())
 }
 
-/// The same with two rows and two settles. Where the first settle keeps the job, both rows are held.
+/// The same twice, one after the other. At most the first settle keeps the job.
 fn settle_twice<G: Gate>(
     alloc: Global,
     search: &mut Search,
@@ -207,19 +207,6 @@ fn settle_twice<G: Gate>(
     ensures known { KnowsAsMuch (seen_by seat.old) (seen_by seat.new) }
     ensures settled { IfOk result (λ _. knows (seen_by seat.new) lease.job ≡ true) }
 {
-    let row = row_of_job(alloc, search, study, lease.job)?;
-    let again = row_of_job(alloc, search, study, lease.job)?;
-    rows.reserve(2)?;
-    let first = board.settle(seat, lease);
-    gate.after(&lease, first);
-    let second = board.settle(seat, lease);
-    gate.after(&lease, second);
-    match first {
-        Settled::Kept => {
-            rows.push_reserved(row);
-            rows.push_reserved(again);
-        }
-        Settled::Double => {}
-    }
-    Ok(())
+    settle_once(alloc, search, study, board, seat, gate, lease, rows)?;
+    settle_once(alloc, search, study, board, seat, gate, lease, rows)
 }
