@@ -1,6 +1,6 @@
 //! Identifiers, numbered from 0 in the order in which they first came.
 
-ghost use Rattle.std.specs.Prelude.{◌≡◌, ◌<◌, ◌^◌, ◌∷◌, ◌++◌, ◌↔◌, [], Some, not, length, position, slice_get, option_map, IfOk, IsTrue, OnErr, if◌then◌else◌};
+ghost use Rattle.std.specs.Prelude.{◌≡◌, ◌<◌, ◌^◌, ◌∷◌, ◌++◌, ◌↔◌, [], Some, false, not, length, position, slice_get, option_map, IfOk, IsTrue, OnErr, if◌then◌else◌};
 ghost use Rattle.std.specs.List.{list_any};
 ghost use Rattle.std.specs.Str.{bytes_eq};
 
@@ -55,12 +55,17 @@ impl Identifiers {
         self.set.get_index_of(id)
     }
 
-    /// The number of an identifier, if it is here: the same as [`Identifiers::number`], found soonest where it is `guess`.
+    /// The number of an identifier, if it is here: the same as [`Identifiers::number`], found soonest where it is `guess` or
+    /// the one after it.
     pub fn number_near(&self, id: &[u8], guess: usize) -> Option<usize>
         ensures { result ≡ position (bytes_eq id.now) self.now }
     {
         if self.has_at(id, guess) {
             return Some(guess);
+        }
+        let after = guess.saturating_add(1);
+        if self.has_at(id, after) {
+            return Some(after);
         }
         self.number(id)
     }
@@ -85,16 +90,17 @@ impl Identifiers {
 
     /// Puts an identifier last unless it is here already, and says whether it was new.
     ///
-    /// Only a new identifier takes memory.
+    /// Only for a new identifier is want of memory told.
     pub fn push(&mut self, alloc: Global, id: &[u8]) -> Result<bool, AllocError>
         ensures added { IfOk result (λ added. added ≡ not (list_any (bytes_eq id.now) self.old)) }
         ensures ids { IfOk result (λ added. self.new ≡ (if added then self.old ++ id.now ∷ [] else self.old)) }
         ensures err { OnErr result (self.new ≡ self.old) }
+        ensures absent { OnErr result (list_any (bytes_eq id.now) self.old ≡ false) }
     {
-        if self.set.contains(id) {
-            return Ok(false);
+        match Vec::from_slice(alloc, id) {
+            Ok(copy) => Ok(self.set.insert(copy)?),
+            Err(_) if self.set.contains(id) => Ok(false),
+            Err(error) => Err(error),
         }
-        let id = Vec::from_slice(alloc, id)?;
-        Ok(self.set.insert(id)?)
     }
 }
