@@ -15,3 +15,4 @@ pub mod LocationFacts
 pub mod EndFacts
 pub mod TransferFacts
 pub mod RowFacts
+pub mod RuleFacts

@@ -1,8 +1,10 @@
 //! The weekdays on which services run: `calendar.txt`.
 
-ghost use Rattle.std.specs.Prelude.{◌≡◌, ◌≤◌, [], length, IfOk, IfErr};
+ghost use Rattle.std.specs.Prelude.{◌≡◌, ◌≤◌, [], length, map, IfOk, IfErr};
 ghost use Rattle.csv.specs.Records.{fields_of};
+ghost use Rattle.table_records.specs.Checks.{Explains};
 ghost use Rattle.table_records.specs.Faults.{Tells};
+ghost use Rattle.table_files.specs.Calendar as spec;
 ghost use Rattle.table_files.specs.Calendar.{IsCalendar, calendar_faults, columns_of, days_of, row_at, service_rows};
 
 use crate::days::read_flag;
@@ -10,8 +12,8 @@ use csv::ByteRecord;
 use jiff::civil::Date;
 use std::alloc::Global;
 use table_records::{
-    FeedFault, FileName, Identifiers, RecordReader, What, column, field, open_table, read_date,
-    read_records,
+    Check, Checks, FeedFault, FileName, Identifiers, RecordReader, Rule, What, column, field,
+    open_table, read_date, read_records,
 };
 
 /// A row of `calendar.txt`: a service runs on some weekdays, from its first date to its last, both included.
@@ -30,6 +32,42 @@ pub struct CalendarRow {
 pub struct Calendar {
     pub services: Identifiers,
     pub rows: Vec<CalendarRow>,
+}
+
+const CHECKS: Checks = Checks {
+    required: &[
+        b"service_id",
+        b"monday",
+        b"tuesday",
+        b"wednesday",
+        b"thursday",
+        b"friday",
+        b"saturday",
+        b"sunday",
+        b"start_date",
+        b"end_date",
+    ],
+    fields: &[
+        Check(b"service_id", Rule::Filled, What::EmptyId),
+        Check(b"service_id", Rule::Once, What::DuplicateId),
+        Check(b"monday", Rule::Flag, What::BadNumber),
+        Check(b"tuesday", Rule::Flag, What::BadNumber),
+        Check(b"wednesday", Rule::Flag, What::BadNumber),
+        Check(b"thursday", Rule::Flag, What::BadNumber),
+        Check(b"friday", Rule::Flag, What::BadNumber),
+        Check(b"saturday", Rule::Flag, What::BadNumber),
+        Check(b"sunday", Rule::Flag, What::BadNumber),
+        Check(b"start_date", Rule::Date, What::BadDate),
+        Check(b"end_date", Rule::Date, What::BadDate),
+    ],
+};
+
+/// What is checked of `calendar.txt`: each fault of a record is that of a check.
+pub fn calendar_checks() -> Checks
+    ensures required { map (λ name. name.now) result.required.now ≡ spec.required }
+    ensures explains { Explains result.fields.now spec.row_of spec.checks }
+{
+    CHECKS
 }
 
 /// The columns of `calendar.txt` that are read.
@@ -144,23 +182,7 @@ pub fn read_calendar(alloc: Global, bytes: &[u8]) -> Result<Calendar, FeedFault>
     ensures few { IfOk result (λ c. length c.services ≤ 1073741824) }
     ensures fault { IfErr result (λ e. Tells e (calendar_faults bytes.now)) }
 {
-    let mut file = open_table(
-        alloc,
-        bytes,
-        FileName::Calendar,
-        &[
-            b"service_id",
-            b"monday",
-            b"tuesday",
-            b"wednesday",
-            b"thursday",
-            b"friday",
-            b"saturday",
-            b"sunday",
-            b"start_date",
-            b"end_date",
-        ],
-    )?;
+    let mut file = open_table(alloc, bytes, FileName::Calendar, CHECKS.required)?;
     let mut calendar = Calendar {
         services: Identifiers::new(alloc),
         rows: Vec::new(alloc),

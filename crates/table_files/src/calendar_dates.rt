@@ -1,8 +1,10 @@
 //! The dates that are added to services or removed from them: `calendar_dates.txt`.
 
-ghost use Rattle.std.specs.Prelude.{◌≡◌, ◌≤◌, ◌+◌, [], length, IfOk, IfErr};
+ghost use Rattle.std.specs.Prelude.{◌≡◌, ◌≤◌, ◌+◌, [], length, map, IfOk, IfErr};
 ghost use Rattle.csv.specs.Records.{fields_of};
+ghost use Rattle.table_records.specs.Checks.{Explains};
 ghost use Rattle.table_records.specs.Faults.{Tells};
+ghost use Rattle.table_files.specs.CalendarDates as spec;
 ghost use Rattle.table_files.specs.CalendarDates.{AreExceptions, columns_of, date_rows, exception_faults};
 
 use crate::days::read_adds;
@@ -11,8 +13,8 @@ use csv::ByteRecord;
 use jiff::civil::Date;
 use std::alloc::Global;
 use table_records::{
-    FeedFault, FileName, Identifiers, RecordReader, What, column, field, open_table, read_date,
-    read_records,
+    Check, Checks, FeedFault, FileName, Identifiers, RecordReader, Rule, What, column, field,
+    open_table, read_date, read_records,
 };
 
 /// A row of `calendar_dates.txt`: a date is added to a service, or removed from it.
@@ -30,6 +32,23 @@ pub struct ExceptionRow {
 pub struct CalendarDates {
     pub services: Identifiers,
     pub rows: Vec<ExceptionRow>,
+}
+
+const CHECKS: Checks = Checks {
+    required: &[b"service_id", b"date", b"exception_type"],
+    fields: &[
+        Check(b"service_id", Rule::Filled, What::EmptyId),
+        Check(b"date", Rule::Date, What::BadDate),
+        Check(b"exception_type", Rule::Added, What::BadNumber),
+    ],
+};
+
+/// What is checked of `calendar_dates.txt`: each fault of a record is that of a check.
+pub fn calendar_date_checks() -> Checks
+    ensures required { map (λ name. name.now) result.required.now ≡ spec.required }
+    ensures explains { Explains result.fields.now spec.row_of spec.checks }
+{
+    CHECKS
 }
 
 /// The columns of `calendar_dates.txt`.
@@ -111,12 +130,7 @@ pub fn read_calendar_dates(
     ensures few { IfOk result (λ d. length d.services ≤ 2147483650) }
     ensures fault { IfErr result (λ e. Tells e (exception_faults bytes.now)) }
 {
-    let mut file = open_table(
-        alloc,
-        bytes,
-        FileName::CalendarDates,
-        &[b"service_id", b"date", b"exception_type"],
-    )?;
+    let mut file = open_table(alloc, bytes, FileName::CalendarDates, CHECKS.required)?;
     let mut dates = CalendarDates {
         services,
         rows: Vec::new(alloc),

@@ -1,15 +1,18 @@
 //! The trips of a feed, with their routes and services: `trips.txt`.
 
-ghost use Rattle.std.specs.Prelude.{◌≡◌, ◌≤◌, [], length, IfOk, IfErr};
+ghost use Rattle.std.specs.Prelude.{◌≡◌, ◌≤◌, ℕ, List, [], length, map, IfOk, IfErr};
 ghost use Rattle.csv.specs.Records.{fields_of};
+ghost use Rattle.table_records.specs.Checks.{Explains};
 ghost use Rattle.table_records.specs.Faults.{Tells};
+ghost use Rattle.table_files.specs.FeedTrips as spec;
 ghost use Rattle.table_files.specs.FeedTrips.{AreTrips, columns_of, trip_faults, trip_rows};
 
 use crate::services::number_service;
 use csv::ByteRecord;
 use std::alloc::Global;
 use table_records::{
-    FeedFault, FileName, Identifiers, RecordReader, What, column, field, open_table, read_records,
+    Check, Checks, FeedFault, FileName, Identifiers, RecordReader, Rule, What, column, field,
+    open_table, read_records,
 };
 use timetable::MOST_TRIPS;
 
@@ -28,6 +31,25 @@ pub struct FeedTrips {
     pub ids: Identifiers,
     pub services: Identifiers,
     pub numbers: Vec<TripNumbers>,
+}
+
+const CHECKS: Checks = Checks {
+    required: &[b"route_id", b"service_id", b"trip_id"],
+    fields: &[
+        Check(b"route_id", Rule::Filled, What::EmptyId),
+        Check(b"route_id", Rule::Route, What::UnknownRoute),
+        Check(b"service_id", Rule::Filled, What::EmptyId),
+        Check(b"trip_id", Rule::Filled, What::EmptyId),
+        Check(b"trip_id", Rule::Once, What::DuplicateId),
+    ],
+};
+
+/// What is checked of `trips.txt`, beside its limit: each fault of a record is that of a check.
+pub fn feed_trip_checks() -> Checks
+    ensures required { map (λ name. name.now) result.required.now ≡ spec.required }
+    ensures explains { (routes : List (List ℕ)) → Explains result.fields.now spec.row_of (spec.checks routes) }
+{
+    CHECKS
 }
 
 /// The columns of `trips.txt` that are read.
@@ -138,12 +160,7 @@ pub fn read_feed_trips(
     ensures good { IfOk result (λ t. (trip_faults routes.now bytes.now ≡ []) × AreTrips routes.now services t (trip_rows bytes.now)) }
     ensures fault { IfErr result (λ e. Tells e (trip_faults routes.now bytes.now)) }
 {
-    let mut file = open_table(
-        alloc,
-        bytes,
-        FileName::Trips,
-        &[b"route_id", b"service_id", b"trip_id"],
-    )?;
+    let mut file = open_table(alloc, bytes, FileName::Trips, CHECKS.required)?;
     let mut trips = FeedTrips {
         ids: Identifiers::new(alloc),
         services,

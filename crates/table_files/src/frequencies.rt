@@ -1,19 +1,21 @@
 //! The trips that run at a headway: `frequencies.txt`.
 
-ghost use Rattle.std.specs.Prelude.{◌≡◌, ◌≤◌, ◌<◌, ◌∷◌, ◌++◌, ℕ, [], length, map, slice_index_or, slice_set, IfOk, IfErr};
+ghost use Rattle.std.specs.Prelude.{◌≡◌, ◌≤◌, ◌<◌, ◌∷◌, ◌++◌, ℕ, List, [], length, map, slice_index_or, slice_set, IfOk, IfErr};
 ghost use Rattle.std.specs.declared.vec.Vec.{Vec};
 ghost use Rattle.std.specs.declared.alloc.Global.{Global};
 ghost use Rattle.csv.specs.Records.{fields_of};
+ghost use Rattle.table_records.specs.Checks.{Explains};
 ghost use Rattle.table_records.specs.Faults.{Tells};
 ghost use Rattle.table_records.specs.Fields.{trimmed};
 ghost use Rattle.table_files.specs.declared.frequencies.Departures.{Departures};
+ghost use Rattle.table_files.specs.Frequencies as spec;
 ghost use Rattle.table_files.specs.Frequencies.{columns_of, departures_by_trip, frequency_faults, frequency_rows, headway_of};
 
 use csv::ByteRecord;
 use std::alloc::{AllocError, Global};
 use table_records::{
-    FeedFault, FileName, Identifiers, RecordReader, What, column, field, number, open_table,
-    read_records, read_time, trim,
+    Check, Checks, FeedFault, FileName, Identifiers, RecordReader, Rule, What, column, field,
+    number, open_table, read_records, read_time, trim,
 };
 
 /// A row of `frequencies.txt`: a trip departs at its start and every headway after it, as long as that is before its end.
@@ -24,6 +26,25 @@ pub struct Departures {
     pub start: u32,
     pub end: u32,
     pub headway: u32,
+}
+
+const CHECKS: Checks = Checks {
+    required: &[b"trip_id", b"start_time", b"end_time", b"headway_secs"],
+    fields: &[
+        Check(b"trip_id", Rule::Filled, What::EmptyId),
+        Check(b"trip_id", Rule::Trip, What::UnknownTrip),
+        Check(b"start_time", Rule::Time, What::BadTime),
+        Check(b"end_time", Rule::Time, What::BadTime),
+        Check(b"headway_secs", Rule::Headway, What::BadNumber),
+    ],
+};
+
+/// What is checked of `frequencies.txt`: each fault of a record is that of a check.
+pub fn frequency_checks() -> Checks
+    ensures required { map (λ name. name.now) result.required.now ≡ spec.required }
+    ensures explains { (trips : List (List ℕ)) → Explains result.fields.now spec.row_of (spec.checks trips) }
+{
+    CHECKS
 }
 
 /// The columns of `frequencies.txt` that are read.
@@ -158,12 +179,7 @@ pub fn read_frequencies(
     ensures fault { IfErr result (λ e. Tells e (frequency_faults trips.now bytes.now)) }
 {
     let mut departures = no_departures(alloc, trips.len())?;
-    let mut file = open_table(
-        alloc,
-        bytes,
-        FileName::Frequencies,
-        &[b"trip_id", b"start_time", b"end_time", b"headway_secs"],
-    )?;
+    let mut file = open_table(alloc, bytes, FileName::Frequencies, CHECKS.required)?;
     let reader = FrequencyReader {
         columns: columns_in(&file.header),
         trips,

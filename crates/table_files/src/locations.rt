@@ -4,6 +4,7 @@ ghost use Rattle.std.specs.Prelude.{◌<◌, Some, slice_get, ◌≡◌, ◌≤�
 ghost use Rattle.timetable.specs.declared.limits.TheConstants.{MOST_STOPS};
 ghost use Rattle.std.specs.Str.{bytes_eq};
 ghost use Rattle.csv.specs.Records.{fields_of};
+ghost use Rattle.table_records.specs.Checks.{Explains};
 ghost use Rattle.table_records.specs.Faults.{Tells};
 ghost use Rattle.table_files.specs.Children as children_spec;
 ghost use Rattle.table_files.specs.Ends as ends_spec;
@@ -16,8 +17,8 @@ use csv::ByteRecord;
 use std::alloc::{AllocError, Global};
 use std::marker::Model;
 use table_records::{
-    FeedFault, FileName, Identifiers, RecordReader, What, column, field, number, open_table,
-    read_records, trim,
+    Check, Checks, FeedFault, FileName, Identifiers, RecordReader, Rule, What, column, field,
+    number, open_table, read_records, trim,
 };
 use timetable::{MOST_STOPS, StopNo};
 
@@ -89,6 +90,23 @@ impl Locations {
     {
         stops_at(place, &self.children)
     }
+}
+
+const CHECKS: Checks = Checks {
+    required: &[b"stop_id"],
+    fields: &[
+        Check(b"stop_id", Rule::Filled, What::EmptyId),
+        Check(b"stop_id", Rule::Once, What::DuplicateId),
+        Check(b"location_type", Rule::OpenNumber, What::BadNumber),
+    ],
+};
+
+/// What is checked of `stops.txt`, beside its limit: each fault of a record is that of a check.
+pub fn location_checks() -> Checks
+    ensures required { map (λ name. name.now) result.required.now ≡ spec.required }
+    ensures explains { Explains result.fields.now spec.row_of spec.checks }
+{
+    CHECKS
 }
 
 /// The columns of `stops.txt` that are read.
@@ -253,7 +271,7 @@ pub fn read_locations(alloc: Global, bytes: &[u8]) -> Result<Locations, FeedFaul
     ensures good { IfOk result (λ p. (spec.stop_faults bytes.now ≡ []) × (p ≡ spec.locations_in (spec.location_records bytes.now))) }
     ensures fault { IfErr result (λ e. Tells e (spec.stop_faults bytes.now)) }
 {
-    let mut file = open_table(alloc, bytes, FileName::Stops, &[b"stop_id"])?;
+    let mut file = open_table(alloc, bytes, FileName::Stops, CHECKS.required)?;
     let mut list = LocationList::new(alloc);
     let read = read_records(alloc, &columns_in(&file.header), &mut list, &mut file.rows);
     drop(file);

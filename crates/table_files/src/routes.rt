@@ -1,15 +1,34 @@
 //! The routes of a feed: `routes.txt`.
 
-ghost use Rattle.std.specs.Prelude.{◌≡◌, ◌≤◌, [], length, IfOk, IfErr};
+ghost use Rattle.std.specs.Prelude.{◌≡◌, ◌≤◌, [], length, map, IfOk, IfErr};
 ghost use Rattle.csv.specs.Records.{fields_of};
+ghost use Rattle.table_records.specs.Checks.{Explains};
 ghost use Rattle.table_records.specs.Faults.{Tells};
+ghost use Rattle.table_files.specs.Routes as spec;
 ghost use Rattle.table_files.specs.Routes.{columns_of, route_faults, route_ids};
 
 use csv::ByteRecord;
 use std::alloc::Global;
 use table_records::{
-    FeedFault, FileName, Identifiers, RecordReader, What, column, field, open_table, read_records,
+    Check, Checks, FeedFault, FileName, Identifiers, RecordReader, Rule, What, column, field,
+    open_table, read_records,
 };
+
+const CHECKS: Checks = Checks {
+    required: &[b"route_id"],
+    fields: &[
+        Check(b"route_id", Rule::Filled, What::EmptyId),
+        Check(b"route_id", Rule::Once, What::DuplicateId),
+    ],
+};
+
+/// What is checked of `routes.txt`: each fault of a record is that of a check.
+pub fn route_checks() -> Checks
+    ensures required { map (λ name. name.now) result.required.now ≡ spec.required }
+    ensures explains { Explains result.fields.now spec.row_of spec.checks }
+{
+    CHECKS
+}
 
 /// The columns of `routes.txt` that are read.
 #[derive(Clone, Copy)]
@@ -71,7 +90,7 @@ pub fn read_routes(alloc: Global, bytes: &[u8]) -> Result<Identifiers, FeedFault
     ensures few { IfOk result (λ ids. length ids ≤ 1073741824) }
     ensures fault { IfErr result (λ e. Tells e (route_faults bytes.now)) }
 {
-    let mut file = open_table(alloc, bytes, FileName::Routes, &[b"route_id"])?;
+    let mut file = open_table(alloc, bytes, FileName::Routes, CHECKS.required)?;
     let mut ids = Identifiers::new(alloc);
     let read = read_records(alloc, &columns_in(&file.header), &mut ids, &mut file.rows);
     drop(file);

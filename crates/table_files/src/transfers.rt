@@ -1,7 +1,8 @@
 //! Walks between stops and stations, and change times: `transfers.txt`.
 
-ghost use Rattle.std.specs.Prelude.{◌≡◌, ◌≤◌, ◌<◌, ◌+◌, ◌^◌, ◌∷◌, ◌++◌, [], All, Some, length, map, IfOk, IfErr};
+ghost use Rattle.std.specs.Prelude.{◌≡◌, ◌≤◌, ◌<◌, ◌+◌, ◌^◌, ◌∷◌, ◌++◌, ℕ, List, [], All, Some, length, map, IfOk, IfErr};
 ghost use Rattle.csv.specs.Records.{fields_of};
+ghost use Rattle.table_records.specs.Checks.{Explains};
 ghost use Rattle.table_records.specs.Columns as columns_spec;
 ghost use Rattle.table_records.specs.Fields.{is_empty};
 ghost use Rattle.table_records.specs.Faults.{IsFirst, Tells};
@@ -14,8 +15,8 @@ use crate::place::Place;
 use csv::ByteRecord;
 use std::alloc::{AllocError, Global};
 use table_records::{
-    FeedFault, FileName, OpenTable, RecordReader, Rows, What, column, field, number, read_records,
-    trim,
+    Check, Checks, FeedFault, FileName, OpenTable, RecordReader, Rows, Rule, What, column, field,
+    number, read_records, trim,
 };
 
 /// A walk from one place to another, as a row of `transfers.txt` states it. A station stands for all its stops.
@@ -37,6 +38,24 @@ pub struct Link {
 pub struct Transfers {
     pub links: Vec<Link>,
     pub unused: u32,
+}
+
+const CHECKS: Checks = Checks {
+    required: &[],
+    fields: &[
+        Check(b"transfer_type", Rule::OpenNumber, What::BadNumber),
+        Check(b"from_stop_id", Rule::Place, What::UnknownStop),
+        Check(b"to_stop_id", Rule::Place, What::UnknownStop),
+        Check(b"min_transfer_time", Rule::Number, What::BadNumber),
+    ],
+};
+
+/// What is checked of `transfers.txt`: each fault of a record is that of a check.
+pub fn transfer_checks() -> Checks
+    ensures required { map (λ name. name.now) result.required.now ≡ [] }
+    ensures explains { (names : List (List ℕ)) → Explains result.fields.now spec.row_of (spec.checks names) }
+{
+    CHECKS
 }
 
 /// The columns of `transfers.txt` that are read.

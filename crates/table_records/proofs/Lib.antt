@@ -8,3 +8,4 @@ pub mod ReadingFacts
 pub mod TableFacts
 pub mod Near
 pub mod PlainTimes
+pub mod CheckFacts

@@ -4,3 +4,4 @@ pub mod Fields
 pub mod Columns
 pub mod Faults
 pub mod Reading
+pub mod Checks

@@ -16,6 +16,7 @@
 //! definitions are in `specs/`, one file per module; `specs/Faults.antt` has the order of faults.
 #![tactic(auto)]
 
+mod checks;
 mod columns;
 mod fault;
 mod fields;
@@ -23,6 +24,7 @@ mod identifiers;
 mod reading;
 mod rows;
 
+pub use checks::{Check, Checks, Rule};
 pub use columns::{column, field};
 pub use fault::{FeedFault, FileName, HeaderFault, What};
 pub use fields::{number, read_date, read_time, trim};
