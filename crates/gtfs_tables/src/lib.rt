@@ -28,9 +28,13 @@ mod trip;
 
 pub use feed::Feed;
 pub use feed_bytes::{FeedBytes, MOST_BYTES, file_fits};
-pub use opportunities::read_opportunities;
-pub use origins::read_origins;
+pub use opportunities::{opportunity_checks, read_opportunities};
+pub use origins::{origin_checks, read_origins};
 pub use read::read_feed;
-pub use table_files::{CalendarRow, Departures, Ends, ExceptionRow, Link, Place};
-pub use table_records::{FeedFault, FileName, What, read_date, read_time};
+pub use table_files::{
+    CalendarRow, Departures, Ends, ExceptionRow, Link, Place, calendar_checks,
+    calendar_date_checks, feed_trip_checks, frequency_checks, location_checks, route_checks,
+    stop_time_checks, transfer_checks,
+};
+pub use table_records::{Check, Checks, FeedFault, FileName, Rule, What, read_date, read_time};
 pub use trip::{DepartureList, FeedTrip, TripId};

@@ -1,7 +1,8 @@
 //! The opportunities file: how many opportunities, as jobs or shops, are at each stop.
 
-ghost use Rattle.std.specs.Prelude.{◌≡◌, ◌≤◌, [], length, map, replicate, IfOk, IfErr};
+ghost use Rattle.std.specs.Prelude.{◌≡◌, ◌≤◌, ℕ, List, [], length, map, replicate, IfOk, IfErr};
 ghost use Rattle.csv.specs.Records.{fields_of};
+ghost use Rattle.table_records.specs.Checks.{Explains};
 ghost use Rattle.table_records.specs.Faults.{Tells};
 ghost use Rattle.gtfs_tables.specs.Files.{IsWithinLimit, bytes_of};
 ghost use Rattle.gtfs_tables.specs.Opportunities as spec;
@@ -11,8 +12,27 @@ use crate::named_stops::NamedStops;
 use csv::ByteRecord;
 use std::alloc::{AllocError, Global};
 use table_records::{
-    FeedFault, FileName, RecordReader, What, column, field, number, open_table, read_records, trim,
+    Check, Checks, FeedFault, FileName, RecordReader, Rule, What, column, field, number,
+    open_table, read_records, trim,
 };
+
+const CHECKS: Checks = Checks {
+    required: &[b"stop_id", b"opportunities"],
+    fields: &[
+        Check(b"stop_id", Rule::Filled, What::EmptyId),
+        Check(b"stop_id", Rule::Stop, What::UnknownStop),
+        Check(b"stop_id", Rule::Once, What::DuplicateId),
+        Check(b"opportunities", Rule::Number, What::BadNumber),
+    ],
+};
+
+/// What is checked of the opportunities file: each fault of a record is that of a check.
+pub fn opportunity_checks() -> Checks
+    ensures required { map (λ name. name.now) result.required.now ≡ spec.required }
+    ensures explains { (stops : List (List ℕ)) → Explains result.fields.now spec.row_of (spec.checks stops) }
+{
+    CHECKS
+}
 
 /// The columns of the opportunities file that are read.
 #[derive(Clone, Copy)]
@@ -125,12 +145,7 @@ fn named_opportunities(alloc: Global, bytes: &[u8], feed: &Feed) -> Result<Vec<u
         named: NamedStops::none(alloc, feed.stop_count())?,
         counts: at_each(alloc, feed, 0)?,
     };
-    let mut file = open_table(
-        alloc,
-        bytes,
-        FileName::Opportunities,
-        &[b"stop_id", b"opportunities"],
-    )?;
+    let mut file = open_table(alloc, bytes, FileName::Opportunities, CHECKS.required)?;
     let reader = OpportunityReader {
         columns: columns_in(&file.header),
         feed,

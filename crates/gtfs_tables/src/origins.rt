@@ -1,8 +1,9 @@
 //! The origins file: the stops at which journeys begin.
 
-ghost use Rattle.std.specs.Prelude.{◌≡◌, ◌<◌, ◌≤◌, [], length, map, All, IfOk, IfErr};
+ghost use Rattle.std.specs.Prelude.{◌≡◌, ◌<◌, ◌≤◌, ℕ, List, [], length, map, All, IfOk, IfErr};
 ghost use Rattle.std.specs.List.{range_with_len};
 ghost use Rattle.csv.specs.Records.{fields_of};
+ghost use Rattle.table_records.specs.Checks.{Explains};
 ghost use Rattle.table_records.specs.Faults.{Tells};
 ghost use Rattle.gtfs_tables.specs.Files.{IsWithinLimit, bytes_of};
 ghost use Rattle.gtfs_tables.specs.Origins as spec;
@@ -11,8 +12,28 @@ use crate::feed::Feed;
 use crate::named_stops::NamedStops;
 use csv::ByteRecord;
 use std::alloc::{AllocError, Global};
-use table_records::{FeedFault, FileName, RecordReader, column, field, open_table, read_records};
+use table_records::{
+    Check, Checks, FeedFault, FileName, RecordReader, Rule, What, column, field, open_table,
+    read_records,
+};
 use timetable::StopNo;
+
+const CHECKS: Checks = Checks {
+    required: &[b"stop_id"],
+    fields: &[
+        Check(b"stop_id", Rule::Filled, What::EmptyId),
+        Check(b"stop_id", Rule::Stop, What::UnknownStop),
+        Check(b"stop_id", Rule::Once, What::DuplicateId),
+    ],
+};
+
+/// What is checked of the origins file: each fault of a record is that of a check.
+pub fn origin_checks() -> Checks
+    ensures required { map (λ name. name.now) result.required.now ≡ spec.required }
+    ensures explains { (stops : List (List ℕ)) → Explains result.fields.now spec.row_of (spec.checks stops) }
+{
+    CHECKS
+}
 
 /// The columns of the origins file that are read.
 #[derive(Clone, Copy)]
@@ -117,7 +138,7 @@ fn named_origins(alloc: Global, bytes: &[u8], feed: &Feed) -> Result<Vec<StopNo>
         named: NamedStops::none(alloc, feed.stop_count())?,
         stops: Vec::new(alloc),
     };
-    let mut file = open_table(alloc, bytes, FileName::Origins, &[b"stop_id"])?;
+    let mut file = open_table(alloc, bytes, FileName::Origins, CHECKS.required)?;
     let reader = OriginReader {
         columns: columns_in(&file.header),
         feed,

@@ -1,5 +1,5 @@
 -- What a reader's definition refuses, the rule of its check refuses.
-use Rattle.std.proofs.Common.{◌≡◌, ◌==◌, ◌&&◌, ◌+ℤ◌, ℕ, zero, suc, Bool, true, false, List, [], ◌∷◌, Option, Some, None, nat_le, arith, refl, if◌then◌else◌}
+use Rattle.std.proofs.Common.{◌≡◌, ◌==◌, ◌&&◌, ℕ, zero, suc, Bool, true, false, List, [], ◌∷◌, Option, Some, None, nat_le, arith, refl, if◌then◌else◌}
 use Rattle.std.specs.Prelude.{is_none, not, option_and_then, option_map}
 use Rattle.std.proofs.lemmas.Bool.{le-leb}
 use Rattle.table_records.specs.Checks.{is_neither, is_no_headway}

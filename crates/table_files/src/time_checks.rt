@@ -22,8 +22,8 @@ const CHECKS: Checks = Checks {
     ],
 };
 
-/// What is checked of `stop_times.txt`, beside its limit: each fault of a record is that of a check. The last is that of a whole trip,
-/// which is looked at after all records.
+/// What is checked of `stop_times.txt`, beside its limit: each fault of a record is that of a check. The last is that of
+/// a whole trip, which is looked at after all records.
 pub fn stop_time_checks() -> Checks
     ensures required { map (λ name. name.now) result.required.now ≡ spec.required }
     ensures explains { (trips stops : List (List ℕ)) → Explains result.fields.now spec.row_of (spec.checks trips stops) }

@@ -52,5 +52,7 @@ pub record AreExplained (table : List Check) (header fields : List (List ℕ)) (
   pub each : All (IsExplained table header fields) faults
 
 -- so of each fault of each record of a file, as its reader's definition states them
-abbrev pub Explains : {R : Type 0} → List Check → (List (List ℕ) → List (List ℕ) → R) → (List R → R → List What) → Type 0
-Explains {R = R} table row_of checks = (before : List R) (header fields : List (List ℕ)) → AreExplained table header fields (checks before (row_of header fields))
+abbrev pub Explains : {R : Type 0} → List Check → (List (List ℕ) → List (List ℕ) → R) → (List R → R → List What)
+    → Type 0
+Explains {R = R} table row_of checks =
+    (before : List R) (header fields : List (List ℕ)) → AreExplained table header fields (checks before (row_of header fields))
