@@ -280,6 +280,16 @@ def test_verification_computes_rows_again_and_tells_what_was_changed(place: Plac
     assert place.ran("study", "--verify", folder) == ("", told, 1)
 
 
+def test_verification_removes_what_one_that_was_killed_left_aside(place: Place) -> None:
+    make_study(read_study(place.lay_out(NO_MAPS)), place.folder / "nine", Means(2))
+    ended = subprocess.Popen(["true"])
+    ended.wait()
+    left, own = (place.folder / "nine" / f".part.{it}.room" for it in (ended.pid, os.getpid()))
+    left.mkdir()
+    assert place.ran("study", "--verify", place.path("nine"))[2] == 0
+    assert not left.exists() and not own.exists()
+
+
 def test_verification_finds_a_row_that_ttm_does_not_compute(place: Place) -> None:
     make_study(read_study(place.lay_out(NO_MAPS)), place.folder / "nine", Means(2))
     notes = json.loads((place.folder / "nine/study.json").read_text())
