@@ -17,12 +17,14 @@ from helpers import CALENDAR, STOP_TIMES, Room
 from ttm_tools.engine import Run
 from ttm_tools.faults import BadInput
 from ttm_tools.files import sum_of
-from ttm_tools.study.cluster import Means, ranges, write_task
 from ttm_tools.study.cutting import Costs, Part, costs_of, parts_for, shape_of, study_key
+from ttm_tools.study.elsewhere import Means
 from ttm_tools.study.inputs import make_inputs
 from ttm_tools.study.running import shown
+from ttm_tools.study.slurm import ranges
 from ttm_tools.study.stages import Folder
 from ttm_tools.study.study_file import read_study
+from ttm_tools.study.task import write_task
 from ttm_tools.study.template import page, template
 from ttm_tools.study.ttm import fault_of, version_of
 from ttm_tools.study.wishes import PartWish

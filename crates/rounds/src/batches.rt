@@ -50,8 +50,7 @@ fn is_near<R: Row>(time: u32, base: u32) -> bool
 fn are_told<R: Row>(ride: &[R], ready: &[R], departs: R, base: u32, last: &[u32]) -> bool
     requires same { length ride.now ≡ length ready.now }
     requires last { length last.now ≡ length ready.now }
-    ensures told { IsTrue result → (l p : ℕ) → l < R.LANES → p < length ready.now → slice_index (R.labels departs) l ≢ R.NEVER → arrival (lane l (labels_in R.labels ride.now)) (lane l (labels_in R.labels ready.now)) p ≡ R.NEVER → slice_index last.now p < base + R.NEVER }
-    ensures early { ((p : ℕ) → p < length ready.now → slice_index last.now p < base + R.NEVER) → IsTrue result }
+    ensures told { IsTrue result ↔ ((l p : ℕ) → l < R.LANES → p < length ready.now → slice_index (R.labels departs) l ≢ R.NEVER → arrival (lane l (labels_in R.labels ride.now)) (lane l (labels_in R.labels ready.now)) p ≡ R.NEVER → slice_index last.now p < base + R.NEVER) }
 {
     for stop in 0..ready.len() {
         if !is_near::<R>(last[stop], base)

@@ -1,6 +1,6 @@
 //! Identifiers, numbered from 0 in the order in which they first came.
 
-ghost use Rattle.std.specs.Prelude.{◌≡◌, ◌<◌, ◌^◌, ◌∷◌, ◌++◌, ◌↔◌, [], Some, false, not, length, position, slice_get, option_map, IfOk, IsTrue, OnErr, if◌then◌else◌};
+ghost use Rattle.std.specs.Prelude.{◌≡◌, ◌<◌, ◌^◌, ◌∷◌, ◌++◌, ◌↔◌, ◌-◌, ◌+◌, ◌≤◌, [], Some, drop, false, not, length, position, slice_get, option_map, IfOk, IsTrue, OnErr, if◌then◌else◌};
 ghost use Rattle.std.specs.List.{list_any};
 ghost use Rattle.std.specs.Str.{bytes_eq};
 
@@ -75,7 +75,7 @@ impl Identifiers {
         ensures { IsTrue result → position (bytes_eq id.now) self.now ≡ Some number }
     {
         let ids = self.set.as_slice();
-        number < ids.len() && ids[number].as_slice() == id
+        number < ids.len() && are_equal(ids[number].as_slice(), id)
     }
 
     /// The identifier that has this number, if there are so many.
@@ -102,5 +102,44 @@ impl Identifiers {
             Err(_) if self.set.contains(id) => Ok(false),
             Err(error) => Err(error),
         }
+    }
+}
+
+// Whether two identifiers are equal. Nearly all have 4 to 16 bytes, which their first and their last ones tell in two steps.
+fn are_equal(a: &[u8], b: &[u8]) -> bool
+    ensures { IsTrue result → a.now ≡ b.now }
+{
+    if a.len() != b.len() {
+        return false;
+    }
+    match a.len() {
+        4..=8 => ends_are_equal::<4>(a, b),
+        9..=16 => ends_are_equal::<8>(a, b),
+        _ => a == b,
+    }
+}
+
+// Whether the first and the last bytes of two texts of one length are equal, so many that they are all.
+fn ends_are_equal<const N: usize>(a: &[u8], b: &[u8]) -> bool
+    requires few { N ≤ 8 }
+    requires same { length a.now ≡ length b.now }
+    requires all { length a.now ≤ N + N }
+    ensures { IsTrue result → a.now ≡ b.now }
+{
+    match (a.split_first_chunk::<N>(), b.split_first_chunk::<N>()) {
+        (Some((a_first, _)), Some((b_first, _))) => a_first == b_first && last_are_equal::<N>(a, b),
+        _ => a == b,
+    }
+}
+
+// Whether the last bytes of two texts of one length are equal.
+fn last_are_equal<const N: usize>(a: &[u8], b: &[u8]) -> bool
+    requires few { N ≤ 8 }
+    requires same { length a.now ≡ length b.now }
+    ensures { IsTrue result → drop (length a.now - N) a.now ≡ drop (length b.now - N) b.now }
+{
+    match (a.split_last_chunk::<N>(), b.split_last_chunk::<N>()) {
+        (Some((_, a_last)), Some((_, b_last))) => a_last == b_last,
+        _ => a == b,
     }
 }

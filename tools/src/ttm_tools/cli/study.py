@@ -64,8 +64,9 @@ def run(words: argparse.Namespace) -> int:
 
         sys.stdout.write(template())
         return 0
-    from ..study.cluster import Means, one_part
+    from ..study.elsewhere import Means
     from ..study.study_file import read_study
+    from ..study.task import one_part
     from ..study.work import make_study
     from ..threads import processors
 

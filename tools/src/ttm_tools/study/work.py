@@ -14,8 +14,8 @@ from ..files import is_running, remove
 from ..matrices import open_matrix
 from ..parts import origins_in
 from ..views.page.document import LEAFLET, leaflet_files
-from .cluster import Means, run_elsewhere
 from .cutting import PARTS, cut_of, parts_noted, study_key, trial
+from .elsewhere import Means, run_elsewhere
 from .inputs import Inputs, make_inputs
 from .joining import CSV, MATRIX, join_parts
 from .maps import make_maps
