@@ -100,22 +100,24 @@ impl<'a> RecordReader for TimeReader<'a> {
             Err(what) => return Err(FeedFault::at(FileName::StopTimes, at, what)),
         };
         table.likely.note(trip_stop.trip, trip_stop.stop);
+        let count = table.likely.count();
         let trip_times = &mut table.trips[trip_stop.trip];
-        if trip_times.has(trip_stop.sequence) {
+        let Some(place) = trip_times.place_of(trip_stop.sequence) else {
             return Err(FeedFault::at(FileName::StopTimes, at, What::DuplicateId));
-        }
+        };
         let visit = match self.visit(row) {
             Ok(visit) => visit,
             Err(what) => return Err(FeedFault::at(FileName::StopTimes, at, what)),
         };
-        trip_times.insert(StopTime {
+        let stop_time = StopTime {
             sequence: trip_stop.sequence,
             at: at as u32,
             stop: trip_stop.stop,
             times: visit.times,
             board: visit.board,
             alight: visit.alight,
-        })?;
+        };
+        trip_times.insert(place, stop_time, count)?;
         Ok(())
     }
 }
