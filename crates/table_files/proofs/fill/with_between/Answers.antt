@@ -4,8 +4,8 @@ use Rattle.timetable.specs.declared.trips.Event.{Event}
 use Rattle.table_files.specs.Fill.{nearest}
 use Rattle.table_files.specs.declared.trip_times.StopTime.{StopTime}
 use Rattle.table_files.proofs.FillFacts.{approached_near, filled_is, near_within, nearest_near, none_left}
-use Rattle.table_files.proofs.fill.filled.Goals as goal
-use Rattle.table_files.proofs.fill.filled.Goals.{in-Some, in-None}
+use Rattle.table_files.proofs.fill.with_between.Goals as goal
+use Rattle.table_files.proofs.fill.with_between.Goals.{in-Some, in-None}
 
 pub event_at-requires-clause-after : goal.event_at-requires-clause-after
 event_at-requires-clause-after c =

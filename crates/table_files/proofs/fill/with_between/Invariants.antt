@@ -2,7 +2,7 @@ use Rattle.std.proofs.Common.{◌≡◌, ◌≤◌, ◌++◌, drop, None}
 use Rattle.std.specs.Prelude.{IfSome}
 use Rattle.table_files.specs.Fill.{nearest}
 use Rattle.table_files.proofs.FillFacts.{filled_on}
-use Rattle.table_files.proofs.fill.filled.Given as goal
+use Rattle.table_files.proofs.fill.with_between.Given as goal
 
 abbrev pub invariant-loop-i : goal.invariant-loop-i
 invariant-loop-i l =
