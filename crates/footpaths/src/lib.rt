@@ -3,7 +3,8 @@
 //! A walk is one leg of a journey, so chains are closed here once and never again in the rounds.
 //!
 //! - `direct_list`: [`Direct`], the direct footpaths in the order of their rows, and the change time of each stop.
-//! - `walks`: [`direct`], the direct footpaths of a feed and of a file of footpaths, or the first fault.
+//! - `walks`: [`direct`], the direct footpaths of a feed and of a file of footpaths, or the first fault; [`footpath_checks`],
+//!   what is checked of that file.
 //! - `changes`: the change times of a feed's stops.
 //! - `pairs`: the pairs of stops that the two ends of a walk give.
 //! - `closure`: [`close`], and [`limit_fits`] for its limit.
@@ -29,4 +30,4 @@ pub use closure::{close, limit_fits};
 pub use direct_list::Direct;
 pub use faults::FootFault;
 pub use laws::{closures_are_unique, too_many_have_no_closure};
-pub use walks::direct;
+pub use walks::{direct, footpath_checks};

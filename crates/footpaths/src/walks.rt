@@ -1,9 +1,11 @@
 //! The direct footpaths of a feed: those of the walks in `transfers.txt`, and those of a file of footpaths.
 
-ghost use Rattle.std.specs.Prelude.{◌≡◌, ◌≤◌, [], length, OnOk, IfOk, IfErr};
+ghost use Rattle.std.specs.Prelude.{◌≡◌, ◌≤◌, [], length, map, OnOk, IfOk, IfErr};
 ghost use Rattle.csv.specs.Records.{fields_of};
+ghost use Rattle.gtfs_tables.specs.Feed.{FeedData};
 ghost use Rattle.gtfs_tables.specs.Files.{IsWithinLimit, bytes_of};
 ghost use Rattle.table_files.specs.Children.{IsPlace};
+ghost use Rattle.table_records.specs.Checks.{Explains};
 ghost use Rattle.table_records.specs.Faults.{Tells};
 ghost use Rattle.footpaths.specs.Pairs.{IsRefusal, with_more};
 ghost use Rattle.footpaths.specs.Walks as spec;
@@ -15,7 +17,8 @@ use csv::ByteRecord;
 use gtfs_tables::{Feed, Place};
 use std::alloc::Global;
 use table_records::{
-    FeedFault, FileName, RecordReader, What, column, field, number, open_table, read_records, trim,
+    Check, Checks, FeedFault, FileName, RecordReader, Rule, What, column, field, number,
+    open_table, read_records, trim,
 };
 
 /// A walk from one place to another. A station stands for all its stops.
@@ -25,6 +28,25 @@ pub(crate) struct Walk {
     pub target: Place,
     /// How long the walk takes.
     pub seconds: u32,
+}
+
+const CHECKS: Checks = Checks {
+    required: &[b"from_stop_id", b"to_stop_id", b"seconds"],
+    fields: &[
+        Check(b"from_stop_id", Rule::Filled, What::EmptyId),
+        Check(b"to_stop_id", Rule::Filled, What::EmptyId),
+        Check(b"from_stop_id", Rule::Place, What::UnknownStop),
+        Check(b"to_stop_id", Rule::Place, What::UnknownStop),
+        Check(b"seconds", Rule::Number, What::BadNumber),
+    ],
+};
+
+/// What is checked of the file of footpaths, beside the limit: each fault of a record is that of a check.
+pub fn footpath_checks() -> Checks
+    ensures required { map (λ name. name.now) result.required.now ≡ spec.required }
+    ensures explains { (feed : FeedData) → Explains result.fields.now spec.row_of (spec.checks feed) }
+{
+    CHECKS
 }
 
 /// The columns of the file of footpaths that are read.
@@ -94,12 +116,7 @@ fn add_walks(alloc: Global, direct: &mut Direct, feed: &Feed, bytes: &[u8]) -> R
         × (direct.new ≡ spec.lists_with feed.now (spec.walk_rows bytes.now))) }
     ensures fault { IfErr result (λ e. Tells e (spec.walk_faults feed.now bytes.now)) }
 {
-    let mut file = open_table(
-        alloc,
-        bytes,
-        FileName::Footpaths,
-        &[b"from_stop_id", b"to_stop_id", b"seconds"],
-    )?;
+    let mut file = open_table(alloc, bytes, FileName::Footpaths, CHECKS.required)?;
     let reader = WalkReader {
         columns: columns_in(&file.header),
         feed,

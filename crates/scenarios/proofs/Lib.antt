@@ -9,3 +9,4 @@ mod RowRanges
 mod TripRanges
 mod LastShifts
 mod FileFacts
+mod CheckFacts

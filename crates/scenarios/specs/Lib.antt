@@ -7,3 +7,4 @@ pub mod Faults
 pub mod EditRows
 pub mod ShiftedTimes
 pub mod Files
+pub mod Checks

@@ -7,6 +7,7 @@ ghost use Rattle.scenarios.specs.declared.faults.ScenarioWhat.TheVariants.{Memor
 ghost use Rattle.scenarios.specs.Faults.{Tells};
 ghost use Rattle.scenarios.specs.Files.{edits_of, missing_column, required, rows_in, scenario_faults, scenario_in};
 
+use crate::checks::CHECKS;
 use crate::edit_rows::{EditColumns, columns_in, edit_in};
 use crate::faults::ScenarioFault;
 use crate::scenario::Scenario;
@@ -71,7 +72,7 @@ fn open_file<'a>(alloc: Global, bytes: &'a [u8]) -> Result<OpenTable<'a>, Scenar
     ensures fault { IfErr result (λ e. (e.what ≡ Memory)
         ⊎ ((lacks_column required (records_of bytes.now) ≡ true) × (e ≡ missing_column))) }
 {
-    match open_records(alloc, bytes, &[b"action", b"id"]) {
+    match open_records(alloc, bytes, CHECKS.required) {
         Ok(file) => Ok(file),
         Err(HeaderFault::MissingColumn) => Err(ScenarioFault::missing_column()),
         Err(HeaderFault::Memory) => Err(ScenarioFault::from(AllocError)),

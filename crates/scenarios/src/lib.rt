@@ -7,12 +7,13 @@
 //! - `moving`: the events of a trip, moved.
 //! - `edits`: how many records a scenario may have, and how far they may shift times; `trip_list` and `places` keep them by trip and
 //!   by route, and `name` the scenario's name.
-//! - `faults`: why a scenario file is refused.
+//! - `faults`: why a scenario file is refused; `checks`: what is checked of its fields, as data.
 //!
 //! `specs/Edits` says what the rows of a scenario do to a trip, `specs/Networks` which network they make of runs, and
 //! `specs/Files` which edits a file says, with all its faults.
 #![tactic(auto)]
 
+mod checks;
 mod edit_rows;
 mod edits;
 mod faults;
@@ -25,6 +26,7 @@ mod scenario;
 mod shifted_times;
 mod trip_list;
 
+pub use checks::{EditCheck, EditChecks, EditRule, edit_checks};
 pub use edits::{END_OF_TIMES, MOST_EDITS, MOST_SHIFT, limits_are_as_stated};
 pub use faults::{ScenarioFault, ScenarioWhat};
 pub use files::read_scenario;
