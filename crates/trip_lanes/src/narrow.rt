@@ -1,6 +1,7 @@
 //! Narrow rows: thirty-two labels of 16 bits, which reach 65,535 seconds, some eighteen hours, from where they count.
 ghost use Rattle.std.specs.Prelude.{◌≡◌, ◌≢◌, ℕ, ◌+◌, ◌*◌, ◌<◌, ◌≤◌, ◌⊎◌, min, max, slice_index};
 ghost use Rattle.std.proofs.Common.{rules};
+ghost use Rattle.trip_lanes.specs.declared.lanes.TheConstants.{LANES as SIXTEEN};
 
 use crate::falls::Fall;
 use crate::lanes::{LANES, Lanes};
@@ -139,8 +140,8 @@ impl Row for Narrow {
 /// A sixteenfold part of the labels, in 32 bits.
 #[inline(always)]
 fn widened(row: Narrow, part: usize) -> Lanes
-    requires { 16 * part + 16 ≤ 32 }
-    ensures { (l : ℕ) → l < 16 → slice_index result l ≡ slice_index row (16 * part + l) }
+    requires { SIXTEEN * part + SIXTEEN ≤ 32 }
+    ensures { (l : ℕ) → l < SIXTEEN → slice_index result l ≡ slice_index row (SIXTEEN * part + l) }
 {
     let from = LANES * part;
     let labels: u32x16 = u16x16::from_slice(&row[from..from + LANES]).cast();

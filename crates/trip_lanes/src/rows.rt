@@ -87,9 +87,9 @@ pub trait Row: Copy + Drop {
         ensures { (l : ℕ) → l < SIXTEEN → IsSinceTo NEVER (slice_index (labels departs) (SIXTEEN * part + l)) (slice_index (labels self) (SIXTEEN * part + l)) (slice_index result l) };
 
     /// The lanes are some, in parts of sixteen, and few enough for one word of a bit each.
-    ghost some: { 16 ≤ LANES };
+    ghost some: { SIXTEEN ≤ LANES };
 
-    ghost sixteens: { 16 * (LANES / 16) ≡ LANES };
+    ghost sixteens: { SIXTEEN * (LANES / SIXTEEN) ≡ LANES };
 
     ghost few: { LANES ≤ 64 };
 
