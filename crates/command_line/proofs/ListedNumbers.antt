@@ -7,6 +7,7 @@ use Rattle.std.proofs.lemmas.Option.{none-some, same_Some}
 use Rattle.std.specs.List.Sorted.{IsStrictlyIncreasing}
 use Rattle.table_records.specs.Fields.{number_of}
 use Rattle.command_line.specs.Numbers.{Lists, ascend, numbers_of, parts_of, written_by}
+use Rattle.command_line.specs.declared.numbers.TheConstants.{MOST_NUMBERS}
 
 -- numbers that are read, and before them those that were read already
 abbrev pub onto : List ℕ → Option (List ℕ) → Option (List ℕ)
@@ -90,7 +91,7 @@ some_numbers text ns e =
 
 -- ---- what a text lists
 
-pub listed : (text ns : List ℕ) → written_by (parts_of text) ≡ Some ns → (length ns ≤ 8) × IsStrictlyIncreasing ns → Lists text ns
+pub listed : (text ns : List ℕ) → written_by (parts_of text) ≡ Some ns → (length ns ≤ MOST_NUMBERS) × IsStrictlyIncreasing ns → Lists text ns
 listed text ns is fit =
     let written = each_writes (parts_of text) ns is in
     record { written = written; some = some_numbers text ns written; few = fit.0; ascending = fit.1 }
@@ -98,22 +99,22 @@ listed text ns is fit =
 pub no_number : (text : List ℕ) → written_by (parts_of text) ≡ None → (numbers : List ℕ) → Lists text numbers → ⊥
 no_number text none numbers lists = none-some numbers (sym none ∙ all_written (parts_of text) numbers lists.written)
 
-pub no_list : (text ns : List ℕ) → written_by (parts_of text) ≡ Some ns → ((length ns ≤ 8) × IsStrictlyIncreasing ns → ⊥)
+pub no_list : (text ns : List ℕ) → written_by (parts_of text) ≡ Some ns → ((length ns ≤ MOST_NUMBERS) × IsStrictlyIncreasing ns → ⊥)
     → (numbers : List ℕ) → Lists text numbers → ⊥
 no_list text ns is unfit numbers lists =
     let same : numbers ≡ ns = same_Some numbers ns (sym (all_written (parts_of text) numbers lists.written) ∙ is) in
-    unfit (subst (λ (them : List ℕ). (length them ≤ 8) × IsStrictlyIncreasing them) same (lists.few, lists.ascending))
+    unfit (subst (λ (them : List ℕ). (length them ≤ MOST_NUMBERS) × IsStrictlyIncreasing them) same (lists.few, lists.ascending))
 
-pub taken : (text ns : List ℕ) → written_by (parts_of text) ≡ Some ns → (length ns ≤ 8) × IsStrictlyIncreasing ns → Some ns ≡ numbers_of text
+pub taken : (text ns : List ℕ) → written_by (parts_of text) ≡ Some ns → (length ns ≤ MOST_NUMBERS) × IsStrictlyIncreasing ns → Some ns ≡ numbers_of text
 taken text ns is fit =
-    let few : nat_le (length ns) 8 ≡ true = le-leb (length ns) 8 fit.0 in
+    let few : nat_le (length ns) MOST_NUMBERS ≡ true = le-leb (length ns) MOST_NUMBERS fit.0 in
     let up : ascend ns ≡ true = is_ascending ns fit.1 in
     rw (is, few, up) refl
 
-pub not_taken : (text ns : List ℕ) → written_by (parts_of text) ≡ Some ns → ((length ns ≤ 8) × IsStrictlyIncreasing ns → ⊥) → None ≡ numbers_of text
-not_taken text ns is unfit = go (nat_le (length ns) 8) (ascend ns) refl refl
+pub not_taken : (text ns : List ℕ) → written_by (parts_of text) ≡ Some ns → ((length ns ≤ MOST_NUMBERS) × IsStrictlyIncreasing ns → ⊥) → None ≡ numbers_of text
+not_taken text ns is unfit = go (nat_le (length ns) MOST_NUMBERS) (ascend ns) refl refl
   where
-    go : (few up : Bool) → nat_le (length ns) 8 ≡ few → ascend ns ≡ up → None ≡ numbers_of text
-    go true true f u = absurd (unfit (leb-true (length ns) 8 f, rises ns u))
+    go : (few up : Bool) → nat_le (length ns) MOST_NUMBERS ≡ few → ascend ns ≡ up → None ≡ numbers_of text
+    go true true f u = absurd (unfit (leb-true (length ns) MOST_NUMBERS f, rises ns u))
     go true false f u = rw (is, f, u) refl
     go false up f u = rw (is, f) refl

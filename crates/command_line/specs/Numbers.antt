@@ -5,6 +5,7 @@ use Rattle.std.specs.Prelude.{◌≡◌, ◌≤◌, ◌==◌, ◌&&◌, nat_le, 
 use Rattle.std.specs.List.{slice_split}
 use Rattle.std.specs.List.Sorted.{IsStrictlyIncreasing}
 use Rattle.table_records.specs.Fields.{number_of}
+use Rattle.command_line.specs.declared.numbers.TheConstants.{MOST_NUMBERS}
 
 -- the texts before, between and after the commas of a text
 abbrev pub parts_of : List ℕ → List (List ℕ)
@@ -14,7 +15,7 @@ parts_of text = slice_split (λ b. b == 44) text
 pub record Lists (text numbers : List ℕ) : Type 0 where
   pub written : map number_of (parts_of text) ≡ map Some numbers
   pub some : 1 ≤ length numbers
-  pub few : length numbers ≤ 8
+  pub few : length numbers ≤ MOST_NUMBERS
   pub ascending : IsStrictlyIncreasing numbers
 
 -- ---- the same as a value
@@ -32,4 +33,4 @@ ascend (n ∷ m ∷ ns) = nat_lt n m && ascend (m ∷ ns)
 
 -- the numbers that a text lists, if it lists any
 abbrev pub numbers_of : List ℕ → Option (List ℕ)
-numbers_of text = option_and_then (λ ns. if nat_le (length ns) 8 && ascend ns then Some ns else None) (written_by (parts_of text))
+numbers_of text = option_and_then (λ ns. if nat_le (length ns) MOST_NUMBERS && ascend ns then Some ns else None) (written_by (parts_of text))

@@ -17,7 +17,12 @@ use Rattle.table_records.specs.Faults.{IsFirst}
 use Rattle.command_line.specs.Numbers.{numbers_of}
 use Rattle.command_line.specs.Window.{window_between}
 use Rattle.command_line.specs.declared.statuses.TheConstants.{DONE, NO_ROOM, REFUSED}
+use Rattle.studies.specs.declared.limits.TheConstants.{MOST_DAYS, MOST_WORKERS}
 use Rattle.studies.specs.declared.settings.Settings.{Settings}
+use Rattle.timetable.specs.declared.limits.TheConstants.{MOST_FOOT_SECONDS}
+use Rattle.work_book.specs.declared.limits.TheConstants.{MOST_TRIES}
+use Rattle.workers.specs.Study.{is_share}
+use Rattle.workers.specs.declared.study.TheConstants.{MOST_RIDES}
 use Rattle.command_line.specs.declared.option_text.OptionText.{OptionText}
 use Rattle.command_line.specs.declared.task.Opt.{Opt}
 use Rattle.command_line.specs.declared.task.Opt.TheVariants as opt
@@ -105,10 +110,6 @@ number_in low high text =
 abbrev pub list_in : Option Text → Option (List ℕ)
 list_in text = option_and_then (λ t. numbers_of t) text
 
--- a share is of a hundred minutes
-abbrev pub is_share : ℕ → Bool
-is_share n = nat_le 1 n && nat_le n 100
-
 -- the shares that a text lists
 abbrev pub shares_in : Option Text → Option (List ℕ)
 shares_in text = option_and_then (λ shares. if list_all is_share shares then Some shares else None) (list_in text)
@@ -126,10 +127,10 @@ abbrev pub window_of : List Row → Option (ℕ × ℕ)
 window_of rows = window_in (text_at rows (codes "from")) (text_at rows (codes "to"))
 
 abbrev pub trips_of : List Row → Option ℕ
-trips_of rows = number_in 1 8 (text_at rows (codes "trips"))
+trips_of rows = number_in 1 MOST_RIDES (text_at rows (codes "trips"))
 
 abbrev pub walk_of : List Row → Option ℕ
-walk_of rows = number_in 0 7200 (text_at rows (codes "walk"))
+walk_of rows = number_in 0 MOST_FOOT_SECONDS (text_at rows (codes "walk"))
 
 abbrev pub shares_of : List Row → Option (List ℕ)
 shares_of rows = shares_in (text_at rows (codes "share"))
@@ -138,16 +139,16 @@ abbrev pub withins_of : List Row → Option (List ℕ)
 withins_of rows = list_in (text_at rows (codes "within"))
 
 abbrev pub workers_of : List Row → Option ℕ
-workers_of rows = number_in 1 64 (text_at rows (codes "workers"))
+workers_of rows = number_in 1 MOST_WORKERS (text_at rows (codes "workers"))
 
 abbrev pub tries_of : List Row → Option ℕ
-tries_of rows = number_in 1 8 (text_at rows (codes "tries"))
+tries_of rows = number_in 1 MOST_TRIES (text_at rows (codes "tries"))
 
 abbrev pub back_of : List Row → Option ℕ
-back_of rows = number_in 0 6 (or_one (text_at rows (codes "back")))
+back_of rows = number_in 0 MOST_DAYS (or_one (text_at rows (codes "back")))
 
 abbrev pub ahead_of : List Row → Option ℕ
-ahead_of rows = number_in 0 6 (or_one (text_at rows (codes "ahead")))
+ahead_of rows = number_in 0 MOST_DAYS (or_one (text_at rows (codes "ahead")))
 
 -- each setting is the value of its text
 pub record IsAsked (rows : List Row) (s : Settings) : Type 0 where

@@ -24,7 +24,7 @@ mod words;
 
 pub use files::{ReadFault, read_all};
 pub use lines::{bad_line, fault_line, path_line, path_status, status};
-pub use numbers::numbers_of;
+pub use numbers::{MOST_NUMBERS, lists_are_of_shares_or_limits, numbers_of};
 pub use paths::{path_in, scenario_of};
 pub use statuses::{DONE, NO_ROOM, NOT_MOVED, REFUSED, UNFINISHED, statuses_are_as_stated};
 pub use task::{Opt, Task, WordFault};

@@ -2,13 +2,22 @@
 
 ghost use Rattle.std.specs.Prelude.{◌≡◌, ◌≤◌, ◌↔◌, ℕ, List, map, IfNone, IfOk, IfSome, IsTrue, length, option_map};
 ghost use Rattle.std.specs.List.Sorted.{IsStrictlyIncreasing};
+ghost use Rattle.workers.specs.declared.study.TheConstants as limit;
 ghost use Rattle.command_line.specs.Numbers as spec;
+ghost use Rattle.command_line.specs.declared.numbers.TheConstants.{MOST_NUMBERS};
 
 use std::alloc::{AllocError, Global};
 use table_records::number;
+use workers::are_rising;
 
 /// The most numbers of a list.
-const MOST_NUMBERS: usize = 8;
+pub const MOST_NUMBERS: usize = 8;
+
+/// A law: a list may have as many numbers as there may be shares, or limits of access.
+pub fn lists_are_of_shares_or_limits()
+    ensures shares { MOST_NUMBERS ≡ limit.MOST_SHARES }
+    ensures limits { MOST_NUMBERS ≡ limit.MOST_LIMITS }
+{}
 
 /// The numbers that a text lists: 1 to 8 numbers parted by single commas, each greater than the one before it.
 ///
@@ -60,7 +69,7 @@ fn written_by(alloc: Global, texts: &[&[u8]]) -> Result<Option<Vec<u32>>, AllocE
 
 /// Whether there are at most as many numbers as a list may have, each greater than the one before it.
 fn are_few_and_ascend(numbers: &[u32]) -> bool
-    ensures { IsTrue result ↔ ((length numbers.now ≤ 8) × IsStrictlyIncreasing numbers.now) }
+    ensures { IsTrue result ↔ ((length numbers.now ≤ MOST_NUMBERS) × IsStrictlyIncreasing numbers.now) }
 {
-    numbers.len() <= MOST_NUMBERS && numbers.windows(2).all(|pair| pair[0] < pair[1])
+    numbers.len() <= MOST_NUMBERS && are_rising(numbers)
 }

@@ -1,5 +1,6 @@
 //! What the words of the command line ask for, or what is wrong with them.
 
+use std::alloc::AllocError;
 use studies::Settings;
 
 /// The options whose texts have a kind and limits, in the order in which they are looked at.
@@ -43,4 +44,15 @@ pub enum WordFault {
     Bad(Opt),
     /// Out of memory.
     Memory,
+}
+
+impl From<AllocError> for WordFault {
+    ghost use Rattle.std.specs.Prelude.{◌≡◌};
+    ghost use Rattle.command_line.specs.declared.task.WordFault.TheVariants.{Memory};
+
+    ghost from_gives = { λ _ fault. fault ≡ Memory };
+
+    fn from(_: AllocError) -> WordFault {
+        WordFault::Memory
+    }
 }

@@ -4,11 +4,11 @@
 //! of a report, which has none; and the words that belong to no option are scenario files. What the texts say is read here.
 
 ghost use Rattle.std.specs.Prelude.{◌≡◌, ◌≤◌, ◌+◌, ℕ, [], ◌∷◌, All, map, Some, None, is_some, IfOk, IfErr, IfSome, IsTrue, option_map, string_bytes, codes, true, false};
-ghost use Rattle.std.specs.List.{list_all};
 ghost use Rattle.clap.specs.Words.{found_of, rows_of, fault_of};
 ghost use Rattle.jiff.specs.Words.{epoch_day};
 ghost use Rattle.table_records.specs.Faults.{IsFirst};
 ghost use Rattle.studies.specs.Settings.{SettingsFit};
+ghost use Rattle.studies.specs.declared.limits.TheConstants.{MOST_DAYS};
 ghost use Rattle.workers.specs.Study.{LimitsFit, SharesFit};
 ghost use Rattle.command_line.specs.Words as spec;
 
@@ -21,8 +21,11 @@ use clap::ArgMatches;
 use clap::error::ErrorKind;
 use jiff::civil::Date;
 use std::alloc::{AllocError, Global};
-use studies::Settings;
+use studies::{MOST_DAYS, MOST_WORKERS, Settings};
 use table_records::{number, read_date, trim};
+use timetable::MOST_FOOT_SECONDS;
+use work_book::MOST_TRIES;
+use workers::{MOST_RIDES, are_shares};
 
 /// The study that the words ask for; the first word is the program's name.
 ///
@@ -57,10 +60,7 @@ pub fn text_of(alloc: Global, words: &[String], id: &str) -> Result<Option<Strin
     ensures fault { IfErr result (λ fault. spec.Tells fault (map string_bytes words.now)) }
 {
     let matches = matched(alloc, words)?;
-    match copy_at(alloc, &matches, id) {
-        Ok(text) => Ok(text),
-        Err(_) => Err(WordFault::Memory),
-    }
+    Ok(copy_at(alloc, &matches, id)?)
 }
 
 /// The exit status where the words ask for no study; help and the version are no fault.
@@ -84,10 +84,7 @@ fn matched<'a>(alloc: Global, words: &'a [String]) -> Result<ArgMatches<'a>, Wor
     ensures taken { IfOk result (λ _. fault_of spec.study_app (map string_bytes words.now) ≡ []) }
     ensures fault { IfErr result (λ fault. spec.Tells fault (map string_bytes words.now)) }
 {
-    let command = match command(alloc) {
-        Ok(command) => command,
-        Err(_) => return Err(WordFault::Memory),
-    };
+    let command = command(alloc)?;
     match command.try_get_matches_from(words) {
         Ok(matches) => Ok(matches),
         Err(error) => match error.kind() {
@@ -164,28 +161,20 @@ fn number_at(matches: &ArgMatches<'_>, opt: Opt, id: &str, low: u32, high: u32) 
     }
 }
 
-/// The number of service days of an option, at most 6; it is one where the option isn't given.
+/// The number of service days of an option; it is one where the option isn't given.
 fn days_at(matches: &ArgMatches<'_>, opt: Opt, id: &str) -> Result<u32, Opt>
-    ensures ok { IfOk result (λ n. spec.number_in 0 6 (spec.or_one (spec.text_at (rows_of (found_of matches.now)) id.now)) ≡ Some n) }
-    ensures limits { IfOk result (λ n. n ≤ 6) }
-    ensures bad { IfErr result (λ o. (o ≡ opt) × (spec.number_in 0 6 (spec.or_one (spec.text_at (rows_of (found_of matches.now)) id.now)) ≡ None)) }
+    ensures ok { IfOk result (λ n. spec.number_in 0 MOST_DAYS (spec.or_one (spec.text_at (rows_of (found_of matches.now)) id.now)) ≡ Some n) }
+    ensures limits { IfOk result (λ n. n ≤ MOST_DAYS) }
+    ensures bad { IfErr result (λ o. (o ≡ opt) × (spec.number_in 0 MOST_DAYS (spec.or_one (spec.text_at (rows_of (found_of matches.now)) id.now)) ≡ None)) }
 {
     let text = match text_at(matches, id) {
         Some(text) => text,
         None => "1",
     };
-    match within(0, 6, text) {
+    match within(0, MOST_DAYS, text) {
         Some(number) => Ok(number),
         None => Err(opt),
     }
-}
-
-/// Whether each number is one of a hundred parts, 1 to 100.
-fn are_shares(numbers: &[u32]) -> bool
-    ensures value { result ≡ list_all spec.is_share numbers.now }
-    ensures limits { IsTrue result → All (λ share. (1 ≤ share) × (share ≤ 100)) numbers.now }
-{
-    numbers.iter().all(|share| 1 <= *share && *share <= 100)
 }
 
 /// The shares that their option lists, if its text lists some.
@@ -244,16 +233,16 @@ fn settings_with(
 {
     let date = date_at(matches)?;
     let (first, minutes) = window_at(matches)?;
-    let rides = number_at(matches, Opt::Trips, "trips", 1, 8)?;
-    let walk = number_at(matches, Opt::Walk, "walk", 0, 7200)?;
+    let rides = number_at(matches, Opt::Trips, "trips", 1, MOST_RIDES)?;
+    let walk = number_at(matches, Opt::Walk, "walk", 0, MOST_FOOT_SECONDS)?;
     let Some(shares) = shares else {
         return Err(Opt::Share);
     };
     let Some(withins) = withins else {
         return Err(Opt::Within);
     };
-    let workers = number_at(matches, Opt::Workers, "workers", 1, 64)?;
-    let tries = number_at(matches, Opt::Tries, "tries", 1, 8)?;
+    let workers = number_at(matches, Opt::Workers, "workers", 1, MOST_WORKERS)?;
+    let tries = number_at(matches, Opt::Tries, "tries", 1, MOST_TRIES)?;
     let back = days_at(matches, Opt::Back, "back")?;
     let ahead = days_at(matches, Opt::Ahead, "ahead")?;
     Ok(Settings {
