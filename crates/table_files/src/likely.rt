@@ -37,8 +37,8 @@ impl Likely {
         self.trip
     }
 
-    /// How many records the trip has: as many as stood together of the trip before. So all that is expected of a file's trips
-    /// together is no more than the file has.
+    /// How many records the trip has, as many as stood together of the trip before: so all that is expected of a file's
+    /// trips together is no more than the file has.
     pub fn count(&self) -> usize {
         self.run_before
     }
