@@ -1,6 +1,9 @@
 #!/usr/bin/env python3
 """The merge gate: every proof from nothing, every test, every program; and then, while time is left, must-fail edits.
 
+A test promises nothing, so crates that have tests alone are built and run, with checks of each access, by `rt try`,
+beside the proofs of all others; `--all` proves these crates too.
+
 A crate's edits are tried where something that their refusal rests on changed since they were last refused: a file of
 the crate, a definition or contract of a crate below it, or the toolchain. Two more crates are tried each time, drawn by
 the commit's name. What changed comes first. What was refused stands in .ci/refused.txt, which this script alone writes.
@@ -15,7 +18,6 @@ from __future__ import annotations
 import argparse
 import os
 import re
-import shutil
 import subprocess
 import sys
 import tempfile
@@ -33,7 +35,9 @@ from refused import Refusals
 MEMORY_OF_A_CHECK = 4_000_000  # kilobytes
 MINUTES = 100
 USED = 0.98  # of a budget, until edits are cut off: the rest is for clearing away
+SECONDS_OF_TESTS = 900  # that those of a crate may take together
 CLOSING = re.compile(r"(\d+) passed, (\d+) failed(?:, (\d+) skipped)?")
+CLOSING_OF_TESTS = re.compile(r"test result: \w+\. (\d+) passed; (\d+) failed()\b.*")
 
 
 @dataclass(frozen=True)
@@ -63,9 +67,9 @@ def jobs() -> int:
     return max(1, min(len(os.sched_getaffinity(0)), memory // MEMORY_OF_A_CHECK))
 
 
-def counted(status: int, lines: list[str]) -> Count:
+def counted(status: int, lines: list[str], closing: re.Pattern[str] = CLOSING) -> Count:
     """What a closing line counts; a run that fails without one counts as one failure."""
-    found = [it for it in map(CLOSING.fullmatch, lines) if it]
+    found = [it for it in map(closing.fullmatch, lines) if it]
     passed, failed, skipped = (int(it or 0) for it in found[-1].groups()) if found else (0, 0, 0)
     return Count(passed, max(failed, 1 if status else 0), skipped)
 
@@ -83,12 +87,10 @@ def prove(room: Path) -> Count:
     """Proves every crate and its tests from nothing, and runs each test and program; what it says is printed as it
     comes.
     """
-    environment = {**os.environ, "RT_JOBS": str(jobs())}
     lines = []
     with subprocess.Popen(
         ["rt", "ci"],
         cwd=room,
-        env=environment,
         stdout=subprocess.PIPE,
         stderr=subprocess.STDOUT,
         text=True,
@@ -121,12 +123,12 @@ def scripts(room: Path) -> list[list[str]]:
     return [it for it in every if (room / it[0]).is_file()]
 
 
-def run_script(room: Path, words: list[str], environment: dict[str, str]) -> Count:
-    """Runs a script of the repository, and prints what it said once it has ended."""
+def run_told(folder: Path, words: list[str], title: str, environment: dict[str, str]) -> tuple[int, list[str]]:
+    """Runs a command, and prints what it said once it has ended; its status and its lines."""
     began = time.monotonic()
     with subprocess.Popen(
-        [sys.executable, *words],
-        cwd=room,
+        words,
+        cwd=folder,
         env=environment,
         stdin=subprocess.DEVNULL,
         stdout=subprocess.PIPE,
@@ -138,8 +140,23 @@ def run_script(room: Path, words: list[str], environment: dict[str, str]) -> Cou
         said = started.stdout.read()
         status, seconds = ended(started)
     took = f"{time.monotonic() - began:.0f} s, {seconds:.0f} s of processor time"
-    print(f"== {words[0]} ({took})\n{said}", end="", flush=True)
-    return counted(status, said.splitlines())
+    print(f"== {title} ({took})\n{said}", end="", flush=True)
+    return status, said.splitlines()
+
+
+def run_script(room: Path, words: list[str], environment: dict[str, str]) -> Count:
+    """Runs a script of the repository."""
+    return counted(*run_told(room, [sys.executable, *words], words[0], environment))
+
+
+def run_tests(room: Path, names: list[str]) -> Count:
+    """Runs the tests of these crates, one crate after another, before any proof."""
+    words = ["rt", "try", "--test", "--seconds", str(SECONDS_OF_TESTS)]
+    count = Count()
+    for name in names:
+        told = run_told(room / "crates" / name, words, f"tests of {name}", dict(os.environ))
+        count += counted(*told, CLOSING_OF_TESTS)
+    return count
 
 
 def run_scripts(root: Path, room: Path) -> Count:
@@ -166,20 +183,25 @@ def try_edits(room: Path, names: list[str], refusals: Refusals, clock: Clock) ->
     return count
 
 
-def gate(root: Path, chosen: list[str], refusals: Refusals, clock: Clock) -> Count:
+def prove_and_test(proved: Path, tried: Path, aside: Path, tests: list[str]) -> Count:
+    """Proves and runs all but crates of tests; meanwhile their tests run in the other copy."""
+    with ThreadPoolExecutor(1) as beside:
+        tested = beside.submit(run_tests, tried, tests)
+        # rt ci would try edits one by one; scripts look for those that ASSURANCE names, so they come back
+        with repository.set_aside(proved, aside, tests):
+            count = prove(proved)
+        return count + tested.result()
+
+
+def gate(root: Path, all_of_them: bool, chosen: list[str], refusals: Refusals, clock: Clock) -> Count:
     """Proves, runs and tries all, and returns how many passed, failed and were skipped."""
     with tempfile.TemporaryDirectory(prefix="ttm-gate-") as made:
-        proved, tried = Path(made) / "proved", Path(made) / "tried"
+        proved, tried, aside = (Path(made) / name for name in ("proved", "tried", "aside"))
         for room in (proved, tried):
             room.mkdir()
             repository.copy_files(root, room)
-        # rt ci would try each by itself, so it is shown none; scripts look for those that ASSURANCE names
-        edits_apart = [edit for name in repository.crates_of(proved) for edit in repository.edits_of(proved, name)]
-        for edit in edits_apart:
-            edit.unlink()
-        count = prove(proved)
-        for edit in edits_apart:
-            shutil.copy(tried / edit.relative_to(proved), edit)
+        tests = [] if all_of_them else repository.tests_of(repository.crates_of(root))
+        count = prove_and_test(proved, tried, aside, tests)
         count += run_scripts(root, proved)
         return count + try_edits(tried, chosen, refusals, clock)
 
@@ -197,7 +219,9 @@ def options_of(words: list[str]) -> argparse.Namespace:
         help=f"end within this: checks of edits are cut off shortly before (default: {MINUTES}); "
         "proofs, tests and programs always run to their end",
     )
-    budget.add_argument("--all", action="store_true", help="try the edits of all crates, however long it takes")
+    budget.add_argument(
+        "--all", action="store_true", help="try all edits, and prove the crates of tests, however long it takes"
+    )
     asked.add_argument(
         "--edits",
         nargs="+",
@@ -225,7 +249,7 @@ def run(root: Path, words: list[str], now: Callable[[], float] = time.monotonic)
         print(f"edits of {name}: {told}", flush=True)
     if options.list:
         return 0
-    count = gate(root, list(chosen), refusals, clock)
+    count = gate(root, options.all, list(chosen), refusals, clock)
     print(count)
     return 1 if count.failed else 0
 

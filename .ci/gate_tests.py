@@ -34,7 +34,17 @@ case $1 in
 version) echo "kit of a test" ;;
 ci)
     echo "rt ci sees $(ls crates/*/must-fail/*.edit 2>/dev/null | wc -l) edits"
+    echo "rt ci sees $(ls crates | tr '\\n' ' ')and lists $(cut -d: -f1 crates.txt | tr '\\n' ' ')"
     echo "1 passed, 0 failed" ;;
+try)
+    echo "try $crate" >> "$RT_LOG"
+    if grep -q 'count + 1' src/lib.rt; then
+        echo "test result: ok. 3 passed; 0 failed; 0 ignored; 0 filtered out"
+        echo "run=ended status=0 runners=1 races=unchecked proved=no"
+    else
+        echo "test result: FAILED. 1 passed; 2 failed; 0 ignored; 0 filtered out"
+        exit 4
+    fi ;;
 check)
     echo "check $crate" >> "$RT_LOG"
     if grep -q 'count + [2-9]' src/lib.rt; then
@@ -239,6 +249,38 @@ class Choice(WithStandIn):
 
     def test_rt_ci_is_shown_no_edits(self) -> None:
         self.assertIn("rt ci sees 0 edits", self.repository.gate()[1])
+
+
+class CratesOfTests(WithStandIn):
+    """What becomes of a crate that has tests alone."""
+
+    def setUp(self) -> None:
+        super().setUp()
+        self.repository.write("crates.txt", "lower:\nupper: lower\none:\ntwo:\nlower_tests: lower\n")
+        self.repository.write("crates/lower_tests/src/lib.rt", LOWER)
+
+    def test_its_tests_run_unproved_and_are_counted(self) -> None:
+        status, said, _ = self.repository.gate()
+        self.assertEqual((status, said[-1]), (0, "8 passed, 0 failed"), said)
+        self.assertIn("rt ci sees lower one two upper and lists lower upper one two ", said)
+        self.assertEqual([it for it in self.calls() if it.startswith("try ")], ["try lower_tests"])
+
+    def test_one_that_fails_fails_the_gate(self) -> None:
+        self.change("count + 1", "count", "crates/lower_tests/src/lib.rt")
+        status, said, _ = self.repository.gate()
+        self.assertEqual((status, said[-1]), (1, "6 passed, 2 failed"), said)
+
+    def test_it_is_proved_where_all_is_asked_for(self) -> None:
+        said = self.repository.gate("--all")[1]
+        self.assertIn("rt ci sees lower lower_tests one two upper and lists lower upper one two lower_tests ", said)
+        self.assertEqual([it for it in self.calls() if it.startswith("try ")], [])
+
+    def test_scripts_find_it_again(self) -> None:
+        self.repository.write(".ci/names.py", "import os\nprint(f'{len(os.listdir(\"crates\"))} passed, 0 failed')\n")
+        self.assertEqual(self.repository.gate()[1][-1], "13 passed, 0 failed")
+
+    def test_a_run_of_tests_without_a_closing_line_fails(self) -> None:
+        self.assertEqual(gate.counted(2, ["no answer"], gate.CLOSING_OF_TESTS), gate.Count(0, 1))
 
 
 class Time(WithStandIn):

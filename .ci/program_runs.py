@@ -23,6 +23,9 @@ from dataclasses import dataclass
 from pathlib import Path
 from typing import IO, Any, Union
 
+sys.path.insert(0, str(Path(__file__).resolve().parent.parent / "bench"))
+import small  # noqa: E402
+
 NOBODY = 65534
 SECONDS = 120
 
@@ -30,25 +33,13 @@ Left = tuple[str, str, int]  # both outputs and the status
 Words = Sequence[Union[str, bytes]]
 Output = Union[int, IO[bytes]]
 
-FEED = {
-    "stops.txt": "stop_id,stop_name\nA,Alpha\nB,Beta\nC,Gamma\n",
-    "routes.txt": "route_id\nR1\nR2\n",
-    "calendar.txt": "service_id,monday,tuesday,wednesday,thursday,friday,saturday,sunday,start_date,end_date\n"
-    "MON,1,0,0,0,0,0,0,20260504,20260531\n",
-    "trips.txt": "route_id,service_id,trip_id\nR1,MON,T1\nR2,MON,T2\n",
-    "stop_times.txt": "trip_id,arrival_time,departure_time,stop_id,stop_sequence\n"
-    "T1,08:00:00,08:00:00,A,1\nT1,08:10:00,08:10:00,B,2\nT2,08:15:00,08:15:00,B,1\nT2,08:30:00,08:30:00,C,2\n",
-}
+FEED = small.FEED
 OWN = {
-    "walks.csv": "from_stop_id,to_stop_id,seconds\nC,B,120\n",
-    "chances.csv": "stop_id,opportunities\nB,10\nC,5\n",
-    "origins.csv": "stop_id\nC\nA\n",
+    **small.OWN,
     "to.csv": "stop_id\nC\nA\n",
     "none_named.csv": "stop_id\n",
     "b.csv": "stop_id\nB\n",
     "a.csv": "stop_id\nA\n",
-    "cut.csv": "action,id,seconds\nremove_route,R2,\n",
-    "late.csv": "action,id,seconds\nshift_trip,T1,300\n",
 }
 ASKED = "--date 20260504 --from 08:00 --to 08:00 --trips 2 --share 50 --within 1800 --workers 1 --tries 1 --walk"
 FOUR = "--feed feed --date 20260504 --from 07:58 --to 08:01 --trips 2 --walk 0 --workers 2 --tries 1 --origins a.csv"

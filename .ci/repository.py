@@ -7,10 +7,12 @@ import re
 import shutil
 import subprocess
 from collections.abc import Iterator
+from contextlib import contextmanager
 from dataclasses import dataclass
 from pathlib import Path
 
 PARTS = ("src", "specs", "proofs", "must-fail")
+OF_TESTS = "_tests"  # how the name of a crate ends that has tests alone
 FUNCTION = re.compile(r"( *)(pub(?:\([a-z]+\))? )?(?:(?:const|unsafe|final) )*fn ")
 OF_A_TRAIT = re.compile(r"(pub )?trait |impl\b.* for ")
 
@@ -27,11 +29,15 @@ class Crate:
 Crates = dict[str, Crate]
 
 
+def name_in(line: str) -> str:
+    """The crate that a line of crates.txt lists; of a comment or an empty line none."""
+    words = line.split("#")[0].split(":")[0].split()
+    return words[0] if words else ""
+
+
 def crates_of(root: Path) -> Crates:
-    lines = {}
-    for line in (root / "crates.txt").read_text().splitlines():
-        if line.strip() and not line.startswith("#"):
-            lines[line.split(":")[0].split()[0]] = line
+    listed = (root / "crates.txt").read_text().splitlines()
+    lines = {name_in(line): line for line in listed if name_in(line)}
     return {
         name: Crate(name, line, tuple(it for it in line.split(":")[1].split() if it in lines))
         for name, line in lines.items()
@@ -48,6 +54,11 @@ def below(crates: Crates, name: str) -> list[str]:
             found.add(crate)
             left += crates[crate].right_below
     return sorted(found)
+
+
+def tests_of(crates: Crates) -> list[str]:
+    """The crates that have tests alone: no crate stands on them, and no promise is theirs."""
+    return [name for name in crates if name.endswith(OF_TESTS)]
 
 
 def edits_of(root: Path, name: str) -> list[Path]:
@@ -138,3 +149,26 @@ def copy_files(root: Path, room: Path) -> None:
         if name and (root / name).is_file():
             (room / name).parent.mkdir(parents=True, exist_ok=True)
             shutil.copy(root / name, room / name)
+
+
+@contextmanager
+def set_aside(room: Path, aside: Path, names: list[str]) -> Iterator[None]:
+    """Takes all must-fail edits and these crates out of a copy of the repository, and puts them back at the end."""
+    listed = (room / "crates.txt").read_text()
+    kept = [line for line in listed.splitlines(keepends=True) if name_in(line) not in names]
+    taken = [edit for name in crates_of(room) for edit in edits_of(room, name)]
+    taken += [room / "crates" / name for name in names]
+    for path in taken:
+        move(path, aside / path.relative_to(room))
+    (room / "crates.txt").write_text("".join(kept))
+    try:
+        yield
+    finally:
+        for path in reversed(taken):
+            move(aside / path.relative_to(room), path)
+        (room / "crates.txt").write_text(listed)
+
+
+def move(path: Path, to: Path) -> None:
+    to.parent.mkdir(parents=True, exist_ok=True)
+    path.rename(to)

@@ -27,6 +27,8 @@ MIB = 1 << 20
 ASKED = (
     "--date 20260504 --from 08:00 --to 08:00 --trips 2 --walk 0 --share 50 --within 1800 --workers 2 --tries 1".split()
 )
+HUB = 2_000  # stops around a hub, with a footpath of 60 s from and to it each
+NEAR = 600  # footpaths of 60 s from each of 2,000 stops in a ring, to those that follow it
 RING = 63  # stops of the first ring of footpaths in the greatest feed
 GREATEST = Path(__file__).resolve().parent.parent / "bench/greatest.py"
 
@@ -216,6 +218,49 @@ def sixty_thousand_stops(room: Path) -> Run:
     return stops(room, 60_001)
 
 
+def past_a_gibibyte(room: Path) -> Run:
+    """A file of one byte more than a file may have."""
+    small(room)
+    os.truncate(room / "feed/stops.txt", 1024 * MIB + 1)
+    words = ["--feed", "feed", *ASKED, "--origins", "a.csv"]
+    return Run("a file of 2^30 + 1 bytes", words, "", "ttm: feed/stops.txt: too long\n", 2)
+
+
+def walks(room: Path, count: int, footpaths: Iterator[str], origin: int, walk: int) -> list[str]:
+    """Writes so many stops, footpaths between them and an origin that no trip leaves in time; gives the words."""
+    line_of_stops(room, count)
+    (room / "footpaths.csv").write_text("from_stop_id,to_stop_id,seconds\n" + "".join(footpaths))
+    (room / "o.csv").write_text(f"stop_id\n{origin}\n")
+    words = ["--feed", "feed", *ASKED, "--footpaths", "footpaths.csv", "--origins", "o.csv"]
+    words[words.index("--walk") + 1] = str(walk)
+    return words
+
+
+def row_of(origin: int, times: list[str]) -> str:
+    """The matrix of one row, of which each time is within the limit of access."""
+    head = ",".join(["scenario,origin,share,access_1800", *map(str, range(len(times)))])
+    return f"{head}\nbase,{origin},50,{sum(map(bool, times))},{','.join(times)}\n"
+
+
+def around_a_hub() -> Iterator[str]:
+    return (f"0,{stop},60\n{stop},0,60\n" for stop in range(1, HUB + 1))
+
+
+def hub_within_a_limit(room: Path) -> Run:
+    words = walks(room, HUB + 1, around_a_hub(), 5, 119)
+    times = ["60", "", "", "", "", "0", *[""] * (HUB - 5)]
+    return Run("a hub where no chain of two footpaths is within the limit", words, row_of(5, times))
+
+
+def ring_of_a_million(room: Path) -> Run:
+    """From the last stop to the 600 that follow it: those from stop 0 on."""
+    count = 2_000
+    near = (f"{stop},{(stop + step) % count},60\n" for stop in range(count) for step in range(1, NEAR + 1))
+    words = walks(room, count, near, count - 1, 60)
+    times = ["60"] * NEAR + [""] * (count - 1 - NEAR) + ["0"]
+    return Run("1,200,000 direct footpaths", words, row_of(count - 1, times))
+
+
 RUNS = [
     all_options,
     many_rows,
@@ -227,6 +272,9 @@ RUNS = [
     long_line,
     past_a_mebibyte,
     past_500_megabytes,
+    past_a_gibibyte,
+    hub_within_a_limit,
+    ring_of_a_million,
     forty_one_thousand_stops,
     sixty_thousand_stops,
 ]

@@ -11,10 +11,10 @@ The parts, which are all measured unless --parts names some:
 
     peers     durations beside textbook RAPTOR `a`, range RAPTOR `b` (--peers) and another `measure` (--beside)
     windows   durations of 1, 4 and 16 departures in the city beside another `measure`
-    days      rows of the city with three service days in the network, over one day
+    days      rows of the city with three service days in the network, over one day (text left out)
     changes   durations in the city with a change time at each stop, over none
     workers   rows of the metropolis by four workers beside one, and the memory of each worker more
-    cells     what cells and text of the metropolis' rows take, over its durations
+    cells     what cells, access and text of the metropolis' rows take, over the durations of the same
     reading   `read_feed` over the `csv` crate's own pass, in the metropolis
 
 A part that lacks what it is measured beside is left out. --origins says how many origins a feed has at most: else the
@@ -35,6 +35,7 @@ from shared import write_origins
 FILES = {"town": ("origins100.csv", 100), "city": ("origins500.csv", 200), "metropolis": ("origins1000.csv", 60)}
 CHANGE = 90  # seconds
 FROM_ON = ["07:00:00", "120", "4", "600"]
+DURATIONS, CELLS = "rows' durations, us", "rows' cells and access, us"  # as `measure` calls them
 
 
 @dataclass(frozen=True)
@@ -156,10 +157,25 @@ def rows_of(asked: Asked, size: str, studies: Sequence[tuple[Study, int]]) -> li
     return [Rows(a - b, most) for a, b, most in zip(whole, rest, peak)]
 
 
+def printed(words: Sequence[str]) -> dict[str, int]:
+    """The figures that a program prints, by the words before each colon."""
+    text = subprocess.run(words, stdout=subprocess.PIPE, text=True, check=True).stdout
+    return {what: int(figure) for what, figure in re.findall(r"^(.*): (\d+)$", text, re.M)}
+
+
+def apart(asked: Asked, size: str, kinds: Sequence[str]) -> list[dict[str, int]]:
+    """The least of each figure of `measure`'s kinds of rows, each kind in turns."""
+    folder = asked.folders[size]
+    feed = ratios.linked(folder, asked.origins_of(size), asked.place, False)
+    words = [feed, DATE, *FROM_ON, *(there(folder, "footpaths.csv") or ["-"]), os.path.join(feed, "origins.csv")]
+    runs = [[printed([built("measure"), kind, *words]) for kind in kinds] for _ in range(asked.times)]
+    return [{what: min(run[what] for run in of_kind) for what in of_kind[0]} for of_kind in zip(*runs)]
+
+
 def days(asked: Asked) -> Iterator[Figure]:
     """Three service days in the network."""
-    one, three = rows_of(asked, "city", [(Study(), 1), (Study(days_around=1), 1)])
-    yield Figure("rows with three service days, over one", "city", three.seconds / one.seconds, 1.1, False)
+    one, three = (it[DURATIONS] + it[CELLS] for it in apart(asked, "city", ["rows", "days"]))
+    yield Figure("rows with three service days, over one", "city", three / one, 1.1, False)
 
 
 def workers(asked: Asked) -> Iterator[Figure]:
@@ -169,26 +185,11 @@ def workers(asked: Asked) -> Iterator[Figure]:
     yield Figure("MB of each worker more", "metropolis", (four.peak - one.peak) / 3, 60, False)
 
 
-def printed(words: Sequence[str]) -> dict[str, int]:
-    """The figures that a program prints, by the words before each colon."""
-    text = subprocess.run(words, stdout=subprocess.PIPE, text=True, check=True).stdout
-    return {what: int(figure) for what, figure in re.findall(r"^(.*): (\d+)$", text, re.M)}
-
-
 def cells(asked: Asked) -> Iterator[Figure]:
-    """Cells and text of rows, over their durations alone."""
-    folder = asked.folders["metropolis"]
-    feed = ratios.linked(folder, asked.origins_of("metropolis"), asked.place, False)
-    own = [*(there(folder, "footpaths.csv") or ["-"]), os.path.join(feed, "origins.csv")]
-    words = [feed, DATE, *FROM_ON, *own]
-    alone: list[float] = []
-    rows: list[float] = []
-    for _ in range(asked.times):
-        figures = printed([built("measure"), ratios.OWN, *words])
-        alone.append(sum(time for what, time in figures.items() if what.endswith(", us")) / 1000)
-        figures = printed([built("measure"), *words])
-        rows.append(figures["durations, ms"] + figures["text, ms"])
-    yield Figure("cells and text, over durations", "metropolis", min(rows) / min(alone) - 1, 0.1, False)
+    """Cells with access, and text, of rows, over the durations of the same."""
+    of_rows = apart(asked, "metropolis", ["rows"])[0]
+    rest = of_rows[CELLS] + 1000 * of_rows["text, ms"]
+    yield Figure("cells and text, over durations", "metropolis", rest / of_rows[DURATIONS], 0.1, False)
 
 
 def reading(asked: Asked) -> Iterator[Figure]:

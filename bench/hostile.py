@@ -21,25 +21,19 @@ from pathlib import Path
 from typing import Mapping, Optional, Sequence
 
 import plain
+import small
 from shared import HERE
 
+# the small feed with a station, a day of its own and a headway, and the analyst's own files
 FILES = {
+    **small.FEED,
+    **small.OWN,
     "stops.txt": "stop_id,stop_name,location_type,parent_station\nA,Alpha,,\nB,Beta,0,S\nC,Gamma,,\nS,Square,1,\n",
-    "routes.txt": "route_id\nR1\nR2\n",
-    "calendar.txt": "service_id,monday,tuesday,wednesday,thursday,friday,saturday,sunday,start_date,end_date\n"
-    "MON,1,0,0,0,0,0,0,20260504,20260531\n",
     "calendar_dates.txt": "service_id,date,exception_type\nXTR,20260504,1\n",
-    "trips.txt": "route_id,service_id,trip_id\nR1,MON,T1\nR2,XTR,T2\n",
-    "stop_times.txt": "trip_id,arrival_time,departure_time,stop_id,stop_sequence\n"
-    "T1,08:00:00,08:00:00,A,1\nT1,08:10:00,08:10:00,B,2\nT2,08:15:00,08:15:00,B,1\nT2,08:30:00,08:30:00,C,2\n",
+    "trips.txt": small.FEED["trips.txt"].replace("MON,T2", "XTR,T2"),
     "frequencies.txt": "trip_id,start_time,end_time,headway_secs\nT2,08:15:00,08:50:00,1800\n",
     "transfers.txt": "from_stop_id,to_stop_id,transfer_type,min_transfer_time\nS,S,2,120\nB,C,2,1500\n",
-    "walks.csv": "from_stop_id,to_stop_id,seconds\nC,B,120\n",
-    "chances.csv": "stop_id,opportunities\nB,10\nC,5\n",
-    "origins.csv": "stop_id\nC\nA\n",
     "to.csv": "stop_id\nC\nB\n",
-    "cut.csv": "action,id,seconds\nremove_route,R2,\n",
-    "late.csv": "action,id,seconds\nshift_trip,T1,300\n",
 }
 ASKED = "--feed . --date 20260504 --from 08:00 --to 08:00 --trips 2 --walk 300 --share 50 --within 1800 --tries 2"
 OWN = "--footpaths walks.csv --opportunities chances.csv --origins origins.csv --destinations to.csv"

@@ -18,7 +18,9 @@ end() {
 trap end EXIT
 trap 'exit 1' HUP INT TERM
 cd "$room"
-/usr/bin/python3 "$here/bench/feedgen.py" town made > log
+PATH=/usr/bin:$PATH # the Python that has Debian's packages
+export PATH
+python3 "$here/bench/feedgen.py" town made > log
 mkdir feed
 for file in calendar calendar_dates routes stop_times stops transfers trips; do
     cp "made/$file.txt" feed

@@ -5,11 +5,13 @@
 
 All origins, the 120 departures from 07:00 on, at most 4 trips, three shares, the feed as it is and one scenario. The
 study's whole process group is killed (SIGKILL) when a quarter and when three quarters of its parts are done, and begun
-again. Told are wall time of each piece, processor time (without that of the parts that the kills cut off), the time of
-each stage, the most memory of all its processes together (by /proc, each page once), the most disk, and the time of
---verify. It wants the built program (TTM_PROGRAM, or that of this clone), numpy, pandas, h5py and matplotlib.
+again. Told are wall time and processor time of each piece, the time of each stage, the most memory of all its processes
+together (by /proc, each page once), the most disk, and the time of --verify. What is measured stands in
+FOLDER/pieces.json, anew every few seconds: where this script is itself ended, the same command goes on. It wants the
+built program (TTM_PROGRAM, or that of this clone), numpy, pandas, h5py and matplotlib.
 """
 import argparse
+import hashlib
 import json
 import os
 import re
@@ -18,12 +20,13 @@ import signal
 import subprocess
 import sys
 import time
-from dataclasses import dataclass, field
+from dataclasses import asdict, dataclass
 from itertools import count
 from pathlib import Path
 
 HERE = Path(__file__).resolve().parent
 TOOLS = str(HERE.parent / "tools" / "ttm-tools")
+PROGRAM = os.environ.get("TTM_PROGRAM", str(HERE.parent / "crates" / "ttm" / "out" / "ttm"))
 PYTHON = "/usr/bin/python3"  # that of Debian's packages
 FEED = "calendar calendar_dates routes stop_times stops transfers trips".split()
 STUDY = """\
@@ -48,31 +51,75 @@ files = ["made/cut.csv"]
 keep = false
 memory = {memory}
 """
+KILLED_AT = (0.25, 0.75)  # of the parts
 SECONDS_BETWEEN_LOOKS = 1.0
 LOOKS_A_SUM = 5  # memory is summed up so often: each sum takes a tenth of a second of a processor
+TICKS = os.sysconf("SC_CLK_TCK")
+GOES_ON, KILLED, DONE, VERIFIED = "goes on", "killed", "done", "verified"
 GB = 1e9
 
 
 @dataclass
-class Most:
-    """The most that was seen."""
+class Piece:
+    """What a command took until it ended, or was killed. One that still goes on was cut off with this script."""
 
-    memory: int = 0  # bytes
+    began: str
+    program: str  # the sum of ttm, by its beginning
+    ended: str = GOES_ON
+    seconds: float = 0.0
+    processors: float = 0.0  # seconds, with those of what was killed
+    memory: int = 0  # the most that was seen, bytes
     disk: int = 0
-    pieces: list[float] = field(default_factory=list)  # seconds of each piece
+    parts: float = 0.0  # which share of them was done
 
 
-def memory_of(group: int) -> int:
-    """What the processes of a group take together, pages that they share once."""
-    total = 0
+class Pieces:
+    """The pieces of a study, kept in a file."""
+
+    def __init__(self, path: Path) -> None:
+        self.path = path
+        self.all = [Piece(**it) for it in json.loads(text_of(path) or "[]")]
+
+    def begin(self) -> Piece:
+        with open(PROGRAM, "rb") as file:
+            program = hashlib.file_digest(file, "sha256").hexdigest()[:12]
+        self.all.append(Piece(time.strftime("%Y-%m-%d %H:%M:%S"), program))
+        return self.all[-1]
+
+    def keep(self) -> None:
+        made = self.path.with_suffix(".new")
+        made.write_text(json.dumps([asdict(it) for it in self.all], indent=1), encoding="utf-8")
+        made.replace(self.path)
+
+    def that(self, *ends: str) -> list[Piece]:
+        return [it for it in self.all if it.ended in ends]
+
+
+def members_of(group: int) -> list[Path]:
+    """The folders of /proc of the processes of a group."""
+    made = []
     for path in Path("/proc").glob("[0-9]*"):
         try:
             if os.getpgid(int(path.name)) == group:
-                found = re.search(r"^Pss: +([0-9]+) kB", (path / "smaps_rollup").read_text(), re.MULTILINE)
-                total += int(found[1]) * 1024 if found else 0
-        except (OSError, ValueError):
+                made.append(path)
+        except OSError:
             continue
-    return total
+    return made
+
+
+def taken_by(group: int) -> tuple[int, float]:
+    """The memory that the processes of a group take together, pages that they share once; and the seconds of processors
+    that they, and those of theirs that have ended, took.
+    """
+    memory, ticks = 0, 0
+    for path in members_of(group):
+        try:
+            found = re.search(r"^Pss: +([0-9]+) kB", (path / "smaps_rollup").read_text(), re.MULTILINE)
+            memory += int(found[1]) * 1024 if found else 0
+            ticks += sum(map(int, (path / "stat").read_text().rpartition(")")[2].split()[11:15]))
+        except OSError:
+            continue
+    return memory, ticks / TICKS
 
 
 def disk_of(folder: Path) -> int:
@@ -97,29 +144,40 @@ def text_of(path: Path) -> str:
     return path.read_text(encoding="utf-8") if path.is_file() else ""
 
 
-def run(words: list[str], folder: Path, until: float, most: Most) -> bool:
-    """Runs a command until it ends, or until so many of the parts are done; whether it ended."""
-    begin = time.monotonic()
-    process = subprocess.Popen([PYTHON, TOOLS, "study", *words], start_new_session=True)
+def run(words: list[str], folder: Path, until: float, pieces: Pieces, end: str = DONE) -> None:
+    """Runs a command until it ends, or until so many of the parts are done."""
+    piece, begin, used = pieces.begin(), time.monotonic(), processors_of_ended()
+    die_with_this = ["setpriv", "--pdeathsig", "KILL", "--"]
+    process = subprocess.Popen([*die_with_this, PYTHON, TOOLS, "study", *words], start_new_session=True)
     for look in count():
+        piece.seconds, piece.parts = time.monotonic() - begin, max(piece.parts, parts_done(folder))
         if process.poll() is not None:
             break
-        if look % LOOKS_A_SUM == 0:
-            most.memory = max(most.memory, memory_of(process.pid))
-            most.disk = max(most.disk, disk_of(folder))
-        if parts_done(folder) >= until:
+        is_enough = piece.parts >= until
+        if look % LOOKS_A_SUM == 0 or is_enough:
+            note(piece, process.pid, folder)
+            pieces.keep()
+        if is_enough:
             os.killpg(process.pid, signal.SIGKILL)
             process.wait()
             break
         time.sleep(SECONDS_BETWEEN_LOOKS)
-    most.pieces.append(time.monotonic() - begin)
     if process.returncode not in (0, -signal.SIGKILL):
         sys.exit(f"the study ended with status {process.returncode}")
-    return process.returncode == 0
+    piece.processors = max(piece.processors, processors_of_ended() - used)
+    piece.ended = end if process.returncode == 0 else KILLED
+    pieces.keep()
 
 
-def processor_time() -> float:
-    """Seconds of all processes that were begun here and have ended, and of theirs."""
+def note(piece: Piece, group: int, folder: Path) -> None:
+    """Notes what a group of processes takes now."""
+    memory, processors = taken_by(group)
+    piece.memory, piece.processors = max(piece.memory, memory), max(piece.processors, processors)
+    piece.disk = max(piece.disk, disk_of(folder))
+
+
+def processors_of_ended() -> float:
+    """Seconds of processors of all processes that were begun here and have ended, and of theirs."""
     used = resource.getrusage(resource.RUSAGE_CHILDREN)
     return used.ru_utime + used.ru_stime
 
@@ -130,6 +188,21 @@ def tell_stages(folder: Path) -> None:
     times = notes["times"]
     print(f"parts: {notes['parts']}, in all {times['seconds_of_parts']:,.0f} s by their clocks")
     print("stages: " + ", ".join(f"{name} {seconds:,.0f}" for name, seconds in times["seconds"].items()) + " s")
+
+
+def tell(what: str, pieces: Pieces, folder: Path) -> None:
+    """Tells what all took."""
+    made, again = pieces.that(GOES_ON, KILLED, DONE), pieces.that(VERIFIED)[-1]
+    print(f"{what}, killed {len(pieces.that(KILLED))} times, this script {len(pieces.that(GOES_ON))} times")
+    for it in made:
+        told = f"{it.seconds:,.0f} s, processors {it.processors:,.0f} s, {100 * it.parts:.0f} of 100 parts there"
+        print(f"{it.began}, {it.ended}, ttm {it.program}: {told}")
+    seconds, processors = sum(it.seconds for it in made), sum(it.processors for it in made)
+    print(f"in all {seconds:,.0f} s; processors {processors:,.0f} s")
+    tell_stages(folder)
+    memory, disk = max(it.memory for it in pieces.all), max(it.disk for it in pieces.all)
+    print(f"at most {memory / GB:.2f} GB of memory and {disk / GB:.2f} GB of disk; left {disk_of(folder) / GB:.2f}")
+    print(f"verification, ttm {again.program}: {again.seconds:,.0f} s; processors {again.processors:,.0f} s")
 
 
 def make_feed(size: str, folder: Path) -> None:
@@ -150,23 +223,16 @@ def main() -> None:
     asked = words.parse_args()
     asked.folder.mkdir(parents=True, exist_ok=True)
     make_feed(asked.size, asked.folder)
-    path, out, most = asked.folder / "study.toml", asked.folder / "study", Most()
+    path, out = asked.folder / "study.toml", asked.folder / "study"
     path.write_text(STUDY.format(size=asked.size, memory=asked.memory), encoding="utf-8")
+    pieces = Pieces(asked.folder / "pieces.json")
     named = [str(path), "--workers", asked.workers]
-    killed = sum(not run(named, out, until, most) for until in (0.25, 0.75))
-    while not run(named, out, 2.0, most):
-        pass
-    pieces, used = list(most.pieces), processor_time()
-    run(["--verify", str(out), "--workers", asked.workers], out, 2.0, most)
-    print(f"{asked.size}, {asked.workers} processes, killed {killed} times")
-    print(
-        f"pieces: {', '.join(f'{it:,.0f}' for it in pieces)} s, in all {sum(pieces):,.0f} s; processors {used:,.0f} s"
-    )
-    tell_stages(out)
-    print(
-        f"at most {most.memory / GB:.2f} GB of memory and {most.disk / GB:.2f} GB of disk; left {disk_of(out) / GB:.2f}"
-    )
-    print(f"verification: {most.pieces[-1]:,.0f} s; processors {processor_time() - used:,.0f} s")
+    while not pieces.that(DONE):
+        killed = len(pieces.that(KILLED))
+        run(named, out, KILLED_AT[killed] if killed < len(KILLED_AT) else 2.0, pieces)
+    if not pieces.that(VERIFIED):
+        run(["--verify", str(out), "--workers", asked.workers], out, 2.0, pieces, VERIFIED)
+    tell(f"{asked.size}, {asked.workers} processes", pieces, out)
 
 
 if __name__ == "__main__":

@@ -1,5 +1,6 @@
 """Tests of what the scripts of this folder stand on, for pytest."""
 import hashlib
+import os
 from pathlib import Path
 
 import pytest
@@ -8,6 +9,7 @@ import feedgen
 import goals
 import ratios
 import shared
+import study_times
 
 # of all files of the town that seed 1 makes: results of other days are of these bytes
 TOWN = "58955af162bcfc04fb364acd8aca7f8b3f51f3be99fd5ac4ae8dd0ecf852cf0d"
@@ -133,3 +135,21 @@ def test_streets_are_drawn_alike_and_cross_the_river_by_bridges_alone() -> None:
     pieces = [ends for nodes, _ in ways for ends in zip(nodes, nodes[1:])]
     assert {a % grid.columns for a, b in pieces if a < middle <= b} <= {0, 20}
     assert 0.8 < len(pieces) / (2 * len(grid.degrees)) < 0.95
+
+
+def test_what_a_study_took_stays_when_its_trial_is_itself_ended(
+    tmp_path: Path, monkeypatch: pytest.MonkeyPatch
+) -> None:
+    monkeypatch.setattr(study_times, "PROGRAM", __file__)
+    pieces = study_times.Pieces(tmp_path / "pieces.json")
+    pieces.begin().seconds = 7.0
+    pieces.keep()
+    again = study_times.Pieces(tmp_path / "pieces.json")
+    again.begin().ended = study_times.KILLED
+    assert [it.seconds for it in again.that(study_times.GOES_ON)] == [7.0]
+    assert len(again.that(study_times.KILLED)) == 1 and not again.that(study_times.DONE)
+
+
+def test_what_a_group_of_processes_takes_is_seen() -> None:
+    memory, seconds = study_times.taken_by(os.getpgid(0))
+    assert memory > 1_000_000 and seconds > 0

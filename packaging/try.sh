@@ -27,10 +27,10 @@ trap 'umount "$room/debian/proc" "$room/debian/sys" 2> /dev/null || true; rm -rf
 trap 'exit 1' HUP INT TERM
 
 make_debian() {
-    # mmdebstrap takes a third of the processor time, and leaves no lists of packages, by which analysts' are installed
+    echo "neither mmdebstrap nor debootstrap is here" > "$room/log"
+    # mmdebstrap takes a third of the processor time
     for maker in mmdebstrap debootstrap; do
         command -v $maker > /dev/null || continue
-        [ "$maker" = debootstrap ] || [ "$kind" != analysts ] || continue
         rm -rf --one-file-system "$room/debian"
         mkdir "$room/debian"
         # shellcheck disable=SC2086
@@ -62,7 +62,9 @@ if [ "$kind" = analysts ]; then
     cp "$here/packaging/pages.py" "$inside/tmp/pages.py"
     mkdir "$inside/study/made"
     cp "$room/made/"* "$inside/study/made/"
-    chroot "$inside" apt-get install -q -y unzip zip /tmp/ttm.deb > "$room/log" 2>&1 || { tail "$room/log" >&2; exit 1; }
+    cp /etc/resolv.conf "$inside/etc/resolv.conf"
+    chroot "$inside" sh -c 'apt-get update -q && apt-get install -q -y unzip zip /tmp/ttm.deb' > "$room/log" 2>&1 \
+        || { tail "$room/log" >&2; exit 1; }
     # bash hands files over by /dev/fd, as a machine has it
     mount -t proc proc "$inside/proc"
     [ -e "$inside/dev/fd" ] || ln -s /proc/self/fd "$inside/dev/fd"

@@ -17,12 +17,14 @@ from helpers import CALENDAR, STOP_TIMES, Room
 from ttm_tools.engine import Run
 from ttm_tools.faults import BadInput
 from ttm_tools.files import sum_of
-from ttm_tools.study.cluster import Means, ranges, write_task
-from ttm_tools.study.cutting import Costs, Part, parts_for, shape_of, study_key
+from ttm_tools.study.cutting import Costs, Part, costs_of, parts_for, shape_of, study_key
+from ttm_tools.study.elsewhere import Means
 from ttm_tools.study.inputs import make_inputs
 from ttm_tools.study.running import shown
+from ttm_tools.study.slurm import ranges
 from ttm_tools.study.stages import Folder
 from ttm_tools.study.study_file import read_study
+from ttm_tools.study.task import write_task
 from ttm_tools.study.template import page, template
 from ttm_tools.study.ttm import fault_of, version_of
 from ttm_tools.study.wishes import PartWish
@@ -278,6 +280,16 @@ def test_verification_computes_rows_again_and_tells_what_was_changed(place: Plac
     assert place.ran("study", "--verify", folder) == ("", told, 1)
 
 
+def test_verification_removes_what_one_that_was_killed_left_aside(place: Place) -> None:
+    make_study(read_study(place.lay_out(NO_MAPS)), place.folder / "nine", Means(2))
+    ended = subprocess.Popen(["true"])
+    ended.wait()
+    left, own = (place.folder / "nine" / f".part.{it}.room" for it in (ended.pid, os.getpid()))
+    left.mkdir()
+    assert place.ran("study", "--verify", place.path("nine"))[2] == 0
+    assert not left.exists() and not own.exists()
+
+
 def test_verification_finds_a_row_that_ttm_does_not_compute(place: Place) -> None:
     make_study(read_study(place.lay_out(NO_MAPS)), place.folder / "nine", Means(2))
     notes = json.loads((place.folder / "nine/study.json").read_text())
@@ -338,6 +350,7 @@ def test_the_file_that_new_prints_can_be_read_with_every_field(bare: Place) -> N
 def test_words_that_do_not_go_together_are_wrong_words(bare: Place) -> None:
     path = bare.lay_out()
     wrong: list[list[str]] = [[], ["--new", path], [path, "--slurm", "--hosts", ":"], [path, "--option", "time=1"]]
+    wrong += [["--verify", path, "--part", "1"], ["--new", "--part", "1"], [path, "--seed", "1"]]
     for words in wrong:
         assert bare.ran("study", *words)[2] == 2
 
@@ -357,6 +370,18 @@ def test_parts_are_cut_by_time_and_memory() -> None:
     # with 1,429 rows, 4.4 GB, it fits once
     made = shape_of(PartWish(count=7), wide, 10_000, 4)
     assert (made.parts, made.at_once, made.threads) == (7, 1, 4)
+
+
+def test_a_machine_whose_clock_is_slow_cuts_no_more_parts(place: Place, program: str, tmp_path: Path) -> None:
+    study, slow = read_study(place.lay_out(NO_MAPS)), place.folder / "slow"
+    slow.write_text(f'#!/bin/sh\nsleep 1\nexec {program} "$@"\n')
+    slow.chmod(0o755)
+    (tmp_path / "folder/stages").mkdir(parents=True)
+    with contextlib.chdir(tmp_path / "folder"), pytest.MonkeyPatch.context() as patch:
+        inputs = make_inputs(study, Folder(Path(".")))
+        patch.setenv("TTM_PROGRAM", str(slow))
+        costs = costs_of(inputs, STOPS, Path("."))
+    assert 0 < costs.setup + costs.each < 0.5
 
 
 def test_more_processes_than_before_stay_within_the_memory() -> None:

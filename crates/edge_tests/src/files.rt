@@ -47,10 +47,9 @@ fn reads_all_bytes(rt: HostRuntime) {
 
 #[test]
 fn tells_why_a_file_is_not_read(rt: HostRuntime) {
-    let cases: [(usize, usize, Result<usize, ReadFault>); 3] = [
+    let cases: [(usize, usize, Result<usize, ReadFault>); 2] = [
         (10_000, 9, Ok(10_000)),
         (10_000, 1, Err(ReadFault::Read)),
-        (1_073_741_825, 1_000_000, Err(ReadFault::TooLong)),
     ];
     for (left, calls, want) in &cases {
         assert!(rt; count_of(rt.alloc(), *left, *calls) == *want);

@@ -1,5 +1,6 @@
 //! Why a text wasn't written.
 
+use std::alloc::AllocError;
 use thiserror::Error;
 
 /// Why a text wasn't written. A prefix of it may be out.
@@ -24,5 +25,16 @@ impl TextFault {
             TextFault::Write => "write fault",
             TextFault::Memory => "out of memory",
         }
+    }
+}
+
+impl From<AllocError> for TextFault {
+    ghost use Rattle.std.specs.Prelude.{◌≡◌};
+    ghost use Rattle.matrix_text.specs.declared.faults.TextFault.TheVariants.{Memory};
+
+    ghost from_gives = { λ _ fault. fault ≡ Memory };
+
+    fn from(_: AllocError) -> TextFault {
+        TextFault::Memory
     }
 }

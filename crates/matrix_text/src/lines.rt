@@ -77,10 +77,8 @@ impl Line {
     pub fn push_limit(&mut self, limit: u32) -> Result<(), TextFault>
         ensures { OnOk result (self.new ≡ self.old ++ limit_field limit ∷ []) }
     {
-        match limit_name(self.alloc, limit) {
-            Ok(name) => self.push(&name),
-            Err(_) => Err(TextFault::Memory),
-        }
+        let name = limit_name(self.alloc, limit)?;
+        self.push(&name)
     }
 
     /// Puts a cell last: its digits, or an empty field where it is absent.
@@ -101,9 +99,7 @@ impl Line {
         ensures same { self.new ≡ self.old }
     {
         let room = mem::replace(&mut self.text, Vec::new(self.alloc));
-        let Ok(text) = text_of(&self.fields, room) else {
-            return Err(TextFault::Memory);
-        };
+        let text = text_of(&self.fields, room)?;
         put_all(&text, w)?;
         self.text = text;
         Ok(())

@@ -13,15 +13,23 @@ pub(crate) enum Part {
     Stages,
     /// The least durations of the base network, origin by origin.
     Durations,
+    /// Stage after stage, and first the rows of the base network: their least durations apart from their cells.
+    Rows,
+    /// The same with one more service day before the date and one after it.
+    Days,
 }
 
-/// The service day of a study, its departures, and how far its journeys go.
+/// The seconds of a service day.
+const DAY: u32 = 86_400;
+
+/// The service days of a study, its departures, and how far its journeys go.
 #[derive(Clone, Copy)]
 pub(crate) struct Asked {
     pub part: Part,
-    /// The one service day whose trips run.
     pub date: Date,
-    /// The departures.
+    /// How many service days before the date, and after it, have trips that run, too.
+    pub around: u32,
+    /// The departures, on an axis that begins with the first service day.
     pub window: Window,
     /// The most rides of a journey.
     pub rides: u32,
@@ -34,11 +42,16 @@ pub(crate) struct Asked {
 pub(crate) fn read(part: Part, words: &[String]) -> Option<Asked>
     requires { length words.now ≡ 5 }
 {
+    let around = match part {
+        Part::Days => 1,
+        _ => 0,
+    };
     Some(Asked {
         part,
         date: read_date(words[0].as_bytes())?,
+        around,
         window: Window {
-            first: read_time(words[1].as_bytes())?,
+            first: read_time(words[1].as_bytes())?.saturating_add(DAY * around),
             minutes: number(words[2].as_bytes())?,
         },
         rides: number(words[3].as_bytes())?,

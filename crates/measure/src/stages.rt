@@ -9,6 +9,7 @@ use crate::figures::per_second;
 use crate::networks::make_networks;
 use crate::origins::time_origins;
 use crate::own_files::{ScenarioFile, read_all, read_own};
+use crate::rows::time_apart;
 use crate::sizes::{event_count, pair_count};
 use crate::tables::{Tables, names_of, read_tables};
 use crate::telling::{refuse, tell, tell_fault, tell_stage};
@@ -115,7 +116,7 @@ fn time_days(
     tell_feed(rt, feed, time)?;
     tell(rt, "direct footpaths", tables.direct.pairs().len() as u64)?;
     let start = Instant::now(rt)?;
-    match active(rt.alloc(), feed, asked.date, 0, 0) {
+    match active(rt.alloc(), feed, asked.date, asked.around, asked.around) {
         Ok(runs) => time_walks(rt, asked, feed, tables, runs.as_slice(), start),
         Err(fault) => tell_fault(rt, &fault),
     }
@@ -201,20 +202,13 @@ fn time_durations(
     networks: &[Network],
 ) -> io::Result<()> {
     let opportunities = vec![in rt.alloc(); 1; feed.stop_count() as usize]?;
-    let query = workers::Asked {
-        window: asked.window,
-        rides: asked.rides,
-        shares: SHARES,
-        limits: LIMITS,
-        destinations: tables.destinations.as_slice(),
-    };
-    time_query(rt, query, feed, tables, networks, &opportunities)
+    time_query(rt, asked, feed, tables, networks, &opportunities)
 }
 
 // What is asked of every network is put together. One lifetime for all that the study holds: the prover asks for it.
 fn time_query<'a>(
     rt: &HostRuntime,
-    query: workers::Asked<'a>,
+    asked: Asked,
     feed: &Feed,
     tables: &'a Tables,
     networks: &'a [Network],
@@ -225,15 +219,31 @@ fn time_query<'a>(
         networks,
         origins: tables.origins.as_slice(),
         opportunities,
-        asked: query,
+        asked: workers::Asked {
+            window: asked.window,
+            rides: asked.rides,
+            shares: SHARES,
+            limits: LIMITS,
+            destinations: tables.destinations.as_slice(),
+        },
     };
-    time_rows(rt, feed, tables, &study)
+    time_rows(rt, asked.part, feed, tables, &study)
 }
 
 // The study is put together: its matrix is computed.
-fn time_rows(rt: &HostRuntime, feed: &Feed, tables: &Tables, study: &Study<'_>) -> io::Result<()> {
+fn time_rows(
+    rt: &HostRuntime,
+    part: Part,
+    feed: &Feed,
+    tables: &Tables,
+    study: &Study<'_>,
+) -> io::Result<()> {
     if !study.fits() {
         return refuse(rt, "the study is past its limits");
+    }
+    match part {
+        Part::Rows | Part::Days => time_apart(rt, study)?,
+        _ => {}
     }
     let start = Instant::now(rt)?;
     match one_thread(rt.alloc(), study) {

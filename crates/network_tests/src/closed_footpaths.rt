@@ -1,22 +1,9 @@
 //! Worked examples of closed footpaths: those of a feed whose stops are named by their numbers, and of a file.
 use crate::small_feeds::feed_in;
-use footpaths::{
-    Direct, FootFault, close, closures_are_unique, direct, limit_fits, too_many_have_no_closure,
-};
+use footpaths::{Direct, close, closures_are_unique, direct, limit_fits, too_many_have_no_closure};
 use gtfs_tables::{Feed, FeedBytes, file_fits};
 use std::alloc::{AllocError, Global};
 use timetable::{Feet, StopNo};
-
-/// The direct footpaths of a test.
-#[derive(Clone, Copy)]
-enum Given<'a> {
-    /// A list: from, to, and seconds.
-    List(&'a [(u32, u32, u32)]),
-    /// Those of a hub: footpaths of 60 seconds to and from each of the other stops.
-    Hub,
-    /// Those of a ring: footpaths of 60 seconds from each stop to so many that follow it.
-    Ring(u32),
-}
 
 /// What a test expects of closed footpaths.
 #[derive(Clone, Copy)]
@@ -36,8 +23,6 @@ enum Expected {
 enum Trial<'a> {
     /// Closed as far as a limit, they are as expected.
     Closed(u32, &'a [Expected]),
-    /// Closed as far as a limit, they are too many.
-    TooMany(u32),
     /// They are as given: so many, and this one first.
     Direct(usize, (StopNo, StopNo, u32)),
 }
@@ -65,44 +50,10 @@ fn add_list(
     Ok(())
 }
 
-fn add_hub(alloc: Global, records: &mut Vec<u8>, stops: u32) -> Result<(), AllocError> {
-    for stop in 1..stops {
-        add(alloc, records, 0, stop, 60)?;
-        add(alloc, records, stop, 0, 60)?;
-    }
-    Ok(())
-}
-
-fn add_near(
-    alloc: Global,
-    records: &mut Vec<u8>,
-    stops: u32,
-    from: u32,
-    near: u32,
-) -> Result<(), AllocError> {
-    for step in 0..near {
-        let to = from.saturating_add(step).saturating_add(1);
-        let round = to.checked_sub(stops);
-        add(alloc, records, from, round.unwrap_or(to), 60)?;
-    }
-    Ok(())
-}
-
-fn add_ring(alloc: Global, records: &mut Vec<u8>, stops: u32, near: u32) -> Result<(), AllocError> {
-    for stop in 0..stops {
-        add_near(alloc, records, stops, stop, near)?;
-    }
-    Ok(())
-}
-
-/// The file of the given footpaths between so many stops.
-fn file_of(alloc: Global, stops: u32, given: Given<'_>) -> Result<Vec<u8>, AllocError> {
+/// The file of the given footpaths: from, to, and seconds.
+fn file_of(alloc: Global, paths: &[(u32, u32, u32)]) -> Result<Vec<u8>, AllocError> {
     let mut records = Vec::from_slice(alloc, b"from_stop_id,to_stop_id,seconds\n")?;
-    match given {
-        Given::List(paths) => add_list(alloc, &mut records, paths)?,
-        Given::Hub => add_hub(alloc, &mut records, stops)?,
-        Given::Ring(near) => add_ring(alloc, &mut records, stops, near)?,
-    }
+    add_list(alloc, &mut records, paths)?;
     Ok(records)
 }
 
@@ -147,9 +98,9 @@ fn direct_in(alloc: Global, feed: &Feed, own: &[u8]) -> Option<Box<Direct>> {
 }
 
 /// The given direct footpaths between so many stops.
-fn direct_of(alloc: Global, stops: u32, given: Given<'_>) -> Option<Box<Direct>> {
+fn direct_of(alloc: Global, stops: u32, paths: &[(u32, u32, u32)]) -> Option<Box<Direct>> {
     let feed = feed_of(alloc, stops)?;
-    let own = file_of(alloc, stops, given).ok()?;
+    let own = file_of(alloc, paths).ok()?;
     direct_in(alloc, &feed, &own)
 }
 
@@ -209,14 +160,9 @@ fn closes(alloc: Global, direct: &Direct, limit: u32, all: &[Expected]) -> bool 
     }
 }
 
-fn is_too_many(alloc: Global, direct: &Direct, limit: u32) -> bool {
-    limit_fits(limit) && matches!(close(alloc, direct, limit), Err(FootFault::TooMany))
-}
-
 fn holds_of(alloc: Global, direct: &Direct, trial: Trial<'_>) -> bool {
     match trial {
         Trial::Closed(limit, all) => closes(alloc, direct, limit, all),
-        Trial::TooMany(limit) => is_too_many(alloc, direct, limit),
         Trial::Direct(count, first) => {
             direct.pairs().len() == count && direct.pairs().first() == Some(&first)
         }
@@ -224,8 +170,8 @@ fn holds_of(alloc: Global, direct: &Direct, trial: Trial<'_>) -> bool {
 }
 
 /// Whether a trial of the given footpaths between so many stops goes as it should.
-fn holds(alloc: Global, stops: u32, given: Given<'_>, trial: Trial<'_>) -> bool {
-    match direct_of(alloc, stops, given) {
+fn holds(alloc: Global, stops: u32, paths: &[(u32, u32, u32)], trial: Trial<'_>) -> bool {
+    match direct_of(alloc, stops, paths) {
         Some(direct) => holds_of(alloc, &direct, trial),
         None => false,
     }
@@ -233,7 +179,7 @@ fn holds(alloc: Global, stops: u32, given: Given<'_>, trial: Trial<'_>) -> bool 
 
 /// Whether the footpaths of a list between three stops, closed as far as a limit, are as expected.
 fn closed(alloc: Global, paths: &[(u32, u32, u32)], limit: u32, all: &[Expected]) -> bool {
-    holds(alloc, 3, Given::List(paths), Trial::Closed(limit, all))
+    holds(alloc, 3, paths, Trial::Closed(limit, all))
 }
 
 #[test]
@@ -295,28 +241,14 @@ fn no_time_at_all(rt: HostRuntime) {
     ];
     assert!(rt; closed(rt.alloc(), &[(0, 1, 0), (1, 2, 0), (2, 1, 0)], 0, &all));
     let none = [Expected::Seconds(0, 1, None)];
-    assert!(rt;
-        holds(
-            rt.alloc(),
-            2,
-            Given::List(&[(0, 1, 1)]),
-            Trial::Closed(0, &none)
-        )
-    );
+    assert!(rt; holds(rt.alloc(), 2, &[(0, 1, 1)], Trial::Closed(0, &none)));
 }
 
 #[test]
 fn the_least_of_repeats(rt: HostRuntime) {
     let falling = [(0, 1, 90), (0, 1, 30), (0, 1, 60)];
     let all = [Expected::Seconds(0, 1, Some(30)), Expected::Targets(0, 1)];
-    assert!(rt;
-        holds(
-            rt.alloc(),
-            2,
-            Given::List(&falling),
-            Trial::Closed(100, &all)
-        )
-    );
+    assert!(rt; holds(rt.alloc(), 2, &falling, Trial::Closed(100, &all)));
 }
 
 #[test]
@@ -352,7 +284,7 @@ fn the_longest_footpaths(rt: HostRuntime) {
 #[test]
 fn no_stops(rt: HostRuntime) {
     let none = [Expected::Stops(0)];
-    assert!(rt; holds(rt.alloc(), 0, Given::List(&[]), Trial::Closed(7200, &none)));
+    assert!(rt; holds(rt.alloc(), 0, &[], Trial::Closed(7200, &none)));
 }
 
 #[test]
@@ -368,31 +300,5 @@ fn limits(rt: HostRuntime) {
 fn direct_footpaths_as_they_are_given(rt: HostRuntime) {
     let first = (StopNo(0), StopNo(1), 90);
     let paths = [(0, 1, 90), (0, 1, 30)];
-    assert!(rt; holds(rt.alloc(), 2, Given::List(&paths), Trial::Direct(2, first)));
-}
-
-#[test]
-fn a_hub_of_too_many(rt: HostRuntime) {
-    // 2,001 stops, each of which reaches the 2,000 others: 4,002,000 pairs
-    assert!(rt; holds(rt.alloc(), 2001, Given::Hub, Trial::TooMany(120)));
-    let near = [Expected::Targets(1, 1)];
-    assert!(rt; holds(rt.alloc(), 2001, Given::Hub, Trial::Closed(119, &near)));
-}
-
-#[test]
-fn more_than_a_million_direct_footpaths(rt: HostRuntime) {
-    // 1,200,000 footpaths: from each of 2,000 stops to the 600 that follow it
-    let near = [
-        Expected::Targets(0, 600),
-        Expected::Seconds(1_999, 599, Some(60)),
-        Expected::Seconds(0, 601, None),
-    ];
-    assert!(rt;
-        holds(
-            rt.alloc(),
-            2_000,
-            Given::Ring(600),
-            Trial::Closed(60, &near)
-        )
-    );
+    assert!(rt; holds(rt.alloc(), 2, &paths, Trial::Direct(2, first)));
 }

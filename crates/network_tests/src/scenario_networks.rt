@@ -1,6 +1,6 @@
 //! The scenario without edits, and its networks over small feeds.
 
-use crate::small_feeds::{LONG_TRIP, feed_in, in_may};
+use crate::small_feeds::{feed_in, in_may};
 use gtfs_tables::{Feed, FeedBytes, read_date};
 use scenarios::{Scenario, base, network_of};
 use service_days::active;
@@ -198,17 +198,6 @@ fn departures_arrive_first_when_they_depart(rt: HostRuntime) {
         (1, 1, [at(1, 86_400, 86_400), at(2, 87_300, 87_300)]),
     ];
     assert!(rt; gives(rt.alloc(), files, Expected::Trips(&trips)));
-}
-
-#[test]
-fn too_many_events_are_refused(rt: HostRuntime) {
-    let files = FeedBytes {
-        trips: Some(b"route_id,service_id,trip_id\nR1,MON,T1\n"),
-        stop_times: Some(LONG_TRIP),
-        frequencies: Some(b"trip_id,start_time,end_time,headway_secs\nT1,00:00:00,125:00:00,1\n"),
-        ..mondays()
-    };
-    assert!(rt; gives(rt.alloc(), files, Expected::TooLarge { back: 1 }));
 }
 
 // 194 days are 16,761,600 seconds: Monday at 08:00:00 is then past 16,777,216, the end of the axis.

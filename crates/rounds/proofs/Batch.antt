@@ -12,7 +12,7 @@ use Rattle.trip_lanes.specs.Since.{IsSinceTo}
 use Rattle.rounds.specs.Batches.{bounds_in}
 use Rattle.rounds.specs.Cut.{cut_net}
 use Rattle.rounds.specs.Labels.{LaneStateTo}
-use Rattle.rounds.specs.Last.{AreLast}
+use Rattle.rounds.specs.Last.{AreLastFrom}
 use Rattle.rounds.specs.State.{arrival}
 use Rattle.rounds.proofs.Clearing.{lane_never}
 use Rattle.rounds.proofs.CutDurations.{arrival_fits_to, cut_since, cut_dead, cut_duration}
@@ -29,10 +29,10 @@ module _ (n : Net) (ok : IsNet n) (base cap origin time depart : ℕ) (counted :
       cut_since n ok base cap origin time depart counted live rides ride ready state p there (omega (arith, reached))
 
   -- and counted from it, the label is the least duration, if nobody gets there too late for labels
-  pub lane_minute : (last : List ℕ) → AreLast n last → cap ≤ NEVER → depart + MOST_FOOT_SECONDS < base + cap → (arrival ride ready p ≡ cap → slice_index last p < base + cap) → (new : ℕ) → IsSinceTo cap time (arrival ride ready p) new → IsLeastOrNever (IsDuration n origin depart rides p) new
-  lane_minute last are small near told new since =
+  pub lane_minute : (first : ℕ) (last : List ℕ) → AreLastFrom n origin first rides last → first ≤ depart → cap ≤ NEVER → depart + MOST_FOOT_SECONDS < base + cap → (arrival ride ready p ≡ cap → slice_index last p < base + cap) → (new : ℕ) → IsSinceTo cap time (arrival ride ready p) new → IsLeastOrNever (IsDuration n origin depart rides p) new
+  lane_minute first last are le small near told new since =
       cut_duration n ok base cap origin time depart counted live rides ride ready state p there new small since.never_so since.since
-      (λ never end r. none_late n (record { stop = origin; time = depart }) ok last are (base + cap) p (told never) near rides end r)
+      (λ never end r. none_late n origin first rides last are depart (base + cap) p le there (told never) near end r)
 
 -- who departs at never reaches no stop before it
 pub lane_dead : (n : Net) (ok : IsNet n) (base cap origin time rides : ℕ) (ride ready : List ℕ) → 0 < cap → time ≡ cap → LaneStateTo cap (cut_net base cap n) (record { stop = origin; time = time }) rides ride ready → (p : ℕ) → p < n.stops → arrival ride ready p ≡ cap

@@ -1,5 +1,5 @@
 -- No journey ends at a stop after its last arrival, or the longest walk from its start.
-use Rattle.std.proofs.Common.{◌≡◌, ℕ, ◌+◌, ◌-◌, ◌*◌, ◌/◌, ◌%◌, ◌<◌, ◌≤◌, inl, inr, List, [], ◌∷◌, length, get_or, slice_get, slice_index, Some, IsTrue, All, false, sym, ◌∙◌, ap, subst, arith}
+use Rattle.std.proofs.Common.{◌≡◌, ℕ, ◌+◌, ◌-◌, ◌*◌, ◌/◌, ◌%◌, ◌<◌, ◌≤◌, ◌⊎◌, inl, inr, List, [], ◌∷◌, length, get_or, slice_get, slice_index, Some, IsTrue, All, false, sym, ◌∙◌, ap, subst, arith}
 use Rattle.std.proofs.lemmas.Bool.{cases_lt}
 use Rattle.std.proofs.Math.Nat.{div-lt_iff_lt-mul, mod-lt, div-add-mod, mul_comm, mul-le-mul_right}
 use Rattle.std.proofs.lemmas.List.{length-map, get_or_past}
@@ -15,7 +15,7 @@ use Rattle.timetable.specs.Lines.{Line, LineTable, IsLine, AreLines, AreLinesOf}
 use Rattle.timetable.specs.LineViews.{rows_of_line, arrivals_in, IsAt, IsViewOf}
 use Rattle.timetable.specs.Journeys.{Whereabouts, Leg, Ride, Walk, Journey, Rides, rides, IsReached}
 use Rattle.timetable.proofs.Known.{event_stop, event_axis, event_stays, foot_short}
-use Rattle.rounds.specs.Last.{Alights, AreLastRides, AreLast}
+use Rattle.rounds.specs.Last.{Alights, AreLastRides, AreLast, AreLastFrom}
 use Rattle.rounds.specs.Rank.{IsOfRank}
 use Rattle.rounds.proofs.Lined.{rows_long, row_trip, trip_row}
 use Rattle.rounds.proofs.LineTrips.{line_at}
@@ -214,10 +214,20 @@ module _ (n : Net) (o : Whereabouts) where
   ends_by_walk ok (Walk ∷ Ride trip j i ∷ before) b j' none = absurd (omega (arith, none))
   ends_by_walk ok (Walk ∷ Walk ∷ before) b (a, jo, no_walk, w) none = absurd no_walk
 
-  -- so where both are early, no journey is late
-  pub none_late : IsNet n → (last : List ℕ) → AreLast n last → (end p : ℕ) → slice_index last p < end → o.time + MOST_FOOT_SECONDS < end → (k time : ℕ) → IsReached n o k p time → time < end
-  none_late ok last are end p early soon k time r =
+  -- so each ends by one of both
+  pub ends_early : IsNet n → (last : List ℕ) → AreLast n last → (k p time : ℕ) → IsReached n o k p time → (time ≤ slice_index last p) ⊎ (time ≤ o.time + MOST_FOOT_SECONDS)
+  ends_early ok last are k p time r =
       elim (cases_lt 0 (rides r.legs)) [
-        | inl some ↦ let late = ends_by_last last are r.legs _ r.journey some in omega arith
-        | inr none ↦ let late = ends_by_walk ok r.legs _ r.journey none in omega arith
+        | inl some ↦ inl (ends_by_last last are r.legs (record { stop = p; time = time }) r.journey some)
+        | inr none ↦ inr (ends_by_walk ok r.legs (record { stop = p; time = time }) r.journey none)
       ]
+
+-- whatever the origin and the departure
+pub last_from : (n : Net) → IsNet n → (origin first k : ℕ) (last : List ℕ) → AreLast n last → AreLastFrom n origin first k last
+last_from n ok origin first k last are =
+    record { size = are.size; none_later = λ depart p time le there r. ends_early n (record { stop = origin; time = depart }) ok last are k p time r }
+
+-- where both are early, no journey is late
+pub none_late : (n : Net) (origin first k : ℕ) (last : List ℕ) → AreLastFrom n origin first k last → (depart end p : ℕ) → first ≤ depart → p < n.stops → slice_index last p < end → depart + MOST_FOOT_SECONDS < end → (time : ℕ) → IsReached n (record { stop = origin; time = depart }) k p time → time < end
+none_late n origin first k last are depart end p le there early soon time r =
+    elim (are.none_later depart p time le there r) [ inl low ↦ omega arith | inr low ↦ omega arith ]

@@ -20,6 +20,7 @@ pub mod Leaving
 pub mod LineScan
 pub mod LineTrips
 pub mod Lined
+pub mod NoneReached
 pub mod Ranked
 pub mod Rebasing
 pub mod Reaching

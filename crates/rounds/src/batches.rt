@@ -1,5 +1,5 @@
 //! The minutes of a window, batch by batch and from the last to the first.
-ghost use Rattle.std.specs.Prelude.{◌≡◌, ◌≢◌, ℕ, ◌+◌, ◌-◌, ◌*◌, ◌/◌, ◌<◌, ◌≤◌, ◌⊎◌, ◌↔◌, IsTrue, [], length, slice_index, slice_index_or, replicate, All};
+ghost use Rattle.std.specs.Prelude.{◌≡◌, ◌≢◌, ℕ, ◌+◌, ◌-◌, ◌*◌, ◌/◌, ◌<◌, ◌≤◌, ◌⊎◌, ◌↔◌, IsTrue, [], length, slice_index, slice_index_or, All, IfOk, OnOk};
 ghost use Rattle.timetable.specs.declared.limits.TheConstants.{END_OF_AXIS, MOST_FOOT_SECONDS};
 ghost use Rattle.timetable.specs.declared.least.TheConstants.{NEVER as NEVER_VALUE};
 ghost use Rattle.trip_lanes.specs.Lane.{lane, labels_in};
@@ -7,14 +7,16 @@ ghost use Rattle.trip_lanes.specs.Since.{IsSinceTo};
 ghost use Rattle.rounds.specs.Batches.{AreLabels};
 ghost use Rattle.rounds.specs.declared.window.TheConstants.{MOST_MINUTES};
 ghost use Rattle.rounds.specs.State.{arrival};
-ghost use Rattle.rounds.specs.Last.{AreLast};
+ghost use Rattle.rounds.specs.Last.{AreLastFrom};
 ghost use Rattle.rounds.specs.Query.{IsAsked, AreTablesFor};
 ghost use Rattle.rounds.specs.Table.{batches_of, label_of};
 ghost use Rattle.trip_lanes.specs.declared.lanes.TheConstants.{LANES};
 
-use crate::bounded::{Batch, Kept, run_bounded};
+use crate::bounded::{Batch, clear_kept, run_bounded};
 use crate::query::Query;
 use crate::tables::Tables;
+use crate::unreached::leave_out_unreached;
+use std::alloc::{AllocError, Global};
 use timetable::{END_OF_AXIS, NEVER};
 use trip_lanes::{LANES, Lanes, Row};
 
@@ -36,15 +38,6 @@ fn base_of<R: Row>(first: u32) -> u32
     }
 }
 
-/// Makes all bounds NEVER.
-fn clear_kept(labels: &mut [Kept])
-    ensures { labels.new ≡ replicate (length labels.old) (replicate 9 NEVER_VALUE) }
-{
-    for stop in 0..labels.len() {
-        labels[stop] = [NEVER; 9];
-    }
-}
-
 /// Whether a label can tell a time.
 fn is_near<R: Row>(time: u32, base: u32) -> bool
     ensures { IsTrue result ↔ (time < base + R.NEVER) }
@@ -57,8 +50,7 @@ fn is_near<R: Row>(time: u32, base: u32) -> bool
 fn are_told<R: Row>(ride: &[R], ready: &[R], departs: R, base: u32, last: &[u32]) -> bool
     requires same { length ride.now ≡ length ready.now }
     requires last { length last.now ≡ length ready.now }
-    ensures told { IsTrue result → (l p : ℕ) → l < R.LANES → p < length ready.now → slice_index (R.labels departs) l ≢ R.NEVER → arrival (lane l (labels_in R.labels ride.now)) (lane l (labels_in R.labels ready.now)) p ≡ R.NEVER → slice_index last.now p < base + R.NEVER }
-    ensures early { ((p : ℕ) → p < length ready.now → slice_index last.now p < base + R.NEVER) → IsTrue result }
+    ensures told { IsTrue result ↔ ((l p : ℕ) → l < R.LANES → p < length ready.now → slice_index (R.labels departs) l ≢ R.NEVER → arrival (lane l (labels_in R.labels ride.now)) (lane l (labels_in R.labels ready.now)) p ≡ R.NEVER → slice_index last.now p < base + R.NEVER) }
 {
     for stop in 0..ready.len() {
         if !is_near::<R>(last[stop], base)
@@ -126,24 +118,59 @@ fn write_batch<R: Row>(
     }
 }
 
+/// Whether labels tell all stops of a batch. If they don't, stops that no journey reaches are left out, and the others
+/// looked at again.
+fn are_told_of_reached<R: Row>(
+    alloc: Global,
+    query: Query<'_>,
+    batch: Batch<R>,
+    tables: &Tables<R>,
+    beside: &mut Tables<Lanes>,
+    last: &mut [u32],
+) -> Result<bool, AllocError>
+    requires asked { IsAsked query }
+    requires short { All (λ row. length row ≤ R.NEVER) query.lines.now.lines }
+    requires tables { AreTablesFor query.network.now.stops query.lines.now tables.now }
+    requires last { AreLastFrom query.network.now query.origin.0 query.window.first query.rides last.old }
+    requires few { (p : ℕ) → slice_index last.old p ≤ END_OF_AXIS + MOST_FOOT_SECONDS }
+    ensures last { OnOk result (AreLastFrom query.entry.network.now query.entry.origin.0 query.entry.window.first query.entry.rides last.new) }
+    ensures falls { (p : ℕ) → slice_index last.new p ≤ slice_index last.old p }
+    ensures told { IfOk result (λ told. IsTrue told → (l p : ℕ) → l < R.LANES → p < length tables.now.ready.items → slice_index (R.labels batch.departs) l ≢ R.NEVER → arrival (lane l (labels_in R.labels tables.now.ride.items)) (lane l (labels_in R.labels tables.now.ready.items)) p ≡ R.NEVER → slice_index last.new p < batch.base + R.NEVER) }
+    ensures early { ((p : ℕ) → p < length tables.now.ready.items → slice_index last.old p < batch.base + R.NEVER) → IfOk result (λ told. IsTrue told) }
+{
+    let ride = tables.ride.as_slice();
+    let ready = tables.ready.as_slice();
+    if are_told(ride, ready, batch.departs, batch.base, last) {
+        return Ok(true);
+    }
+    leave_out_unreached(alloc, query, beside, last)?;
+    Ok(are_told(ride, ready, batch.departs, batch.base, last))
+}
+
 /// Writes the least durations for each minute of a window, batch by batch from the last, each bounded by the one after
 /// it. Where labels can't tell all of them it gives up, and says so: what is written is then of no use.
 ///
-/// `last` says how late somebody may be at each stop.
+/// `last` says how late somebody may be at each stop; stops that no journey reaches may be left out of it, found by the
+/// tables `beside`. Want of memory for these is the only refusal.
 pub(crate) fn run_window<R: Row>(
+    alloc: Global,
     query: Query<'_>,
     tables: &mut Tables<R>,
-    last: &[u32],
+    beside: &mut Tables<Lanes>,
+    last: &mut [u32],
     labels: &mut [Lanes],
-) -> bool
+) -> Result<bool, AllocError>
     requires asked { IsAsked query }
     requires short { All (λ row. length row ≤ R.NEVER) query.lines.now.lines }
     requires tables { AreTablesFor query.network.now.stops query.lines.now tables.old }
-    requires last { AreLast query.network.now last.now }
+    requires last { AreLastFrom query.network.now query.origin.0 query.window.first query.rides last.old }
+    requires few { (p : ℕ) → slice_index last.old p ≤ END_OF_AXIS + MOST_FOOT_SECONDS }
     requires labels { length labels.old ≡ query.network.now.stops * batches_of query.window.minutes }
     ensures same { length labels.new ≡ length labels.old }
-    ensures told { IsTrue result → AreLabels query.entry.network.now query.entry.origin.0 query.entry.window query.entry.rides labels.new }
-    ensures early { ((p : ℕ) → p < query.entry.network.now.stops → slice_index last.now p < R.NEVER) → IsTrue result }
+    ensures last { OnOk result (AreLastFrom query.entry.network.now query.entry.origin.0 query.entry.window.first query.entry.rides last.new) }
+    ensures falls { (p : ℕ) → slice_index last.new p ≤ slice_index last.old p }
+    ensures told { IfOk result (λ told. IsTrue told → AreLabels query.entry.network.now query.entry.origin.0 query.entry.window query.entry.rides labels.new) }
+    ensures early { ((p : ℕ) → p < query.entry.network.now.stops → slice_index last.old p < R.NEVER) → IfOk result (λ told. IsTrue told) }
 {
     query.network.known();
     let lanes = R::LANES as u32;
@@ -153,26 +180,21 @@ pub(crate) fn run_window<R: Row>(
     clear_kept(tables.bound_ready.as_mut_slice());
     let mut later = NEVER;
     for i in 0..batches {
-        let batch = batches - 1 - i;
-        let first = query.window.first + 60 * (lanes * batch);
+        let at = batches - 1 - i;
+        let first = query.window.first + 60 * (lanes * at);
         let base = base_of::<R>(first);
-        let departs = R::minutely(first - base, minutes - lanes * batch);
-        run_bounded(
-            query,
-            Batch {
-                base,
-                departs,
-                later,
-            },
-            tables,
-        );
+        let departs = R::minutely(first - base, minutes - lanes * at);
+        let batch = Batch {
+            base,
+            departs,
+            later,
+        };
+        run_bounded(query, batch, tables);
         later = first;
-        let ride = tables.ride.as_slice();
-        let ready = tables.ready.as_slice();
-        if !are_told(ride, ready, departs, base, last) {
-            return false;
+        if !are_told_of_reached(alloc, query, batch, tables, beside, last)? {
+            return Ok(false);
         }
-        write_batch(labels, tables, departs, batch as usize, minutes as usize);
+        write_batch(labels, tables, departs, at as usize, minutes as usize);
     }
-    true
+    Ok(true)
 }

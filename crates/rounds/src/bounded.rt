@@ -1,5 +1,5 @@
 //! Departures side by side, each round bounded by the labels of a later departure.
-ghost use Rattle.std.specs.Prelude.{◌≡◌, ◌≢◌, ℕ, ◌+◌, ◌<◌, ◌≤◌, length, map, slice_index, All};
+ghost use Rattle.std.specs.Prelude.{◌≡◌, ◌≢◌, ℕ, ◌+◌, ◌<◌, ◌≤◌, length, map, replicate, slice_get, slice_index, Some, true, All};
 ghost use Rattle.timetable.specs.Steps.{Lowers};
 ghost use Rattle.timetable.specs.declared.least.TheConstants.{NEVER as NEVER_VALUE};
 ghost use Rattle.trip_lanes.specs.Cut.{cut};
@@ -22,6 +22,15 @@ pub(crate) const MOST_KEPT: u32 = 8;
 /// One time for each number of rides, in seconds on the axis, or `NEVER`.
 pub(crate) type Kept = [u32; 9];
 
+/// Makes all bounds NEVER.
+pub(crate) fn clear_kept(labels: &mut [Kept])
+    ensures { labels.new ≡ replicate (length labels.old) (replicate 9 NEVER_VALUE) }
+{
+    for stop in 0..labels.len() {
+        labels[stop] = [NEVER; 9];
+    }
+}
+
 /// The label of a bound in each lane.
 fn bound_of<R: Row>(bound: u32, base: u32) -> R
     ensures { (l : ℕ) → l < R.LANES → slice_index (R.labels result) l ≡ cut base R.NEVER bound }
@@ -41,19 +50,41 @@ fn lower_to<R: Row>(labels: &mut [R], bound: &[Kept], k: usize, base: u32)
     }
 }
 
-/// Lowers each label to the bound of its stop, and notes it as the label before.
-fn begin<R: Row>(labels: &mut [R], before: &mut [R], bound: &[Kept], k: usize, base: u32)
+/// Lowers each label to the bound of its stop, and notes it as the label before; no fall is noted any more.
+fn begin<R: Row>(
+    labels: &mut [R],
+    before: &mut [R],
+    fallen: &mut [bool],
+    bound: &[Kept],
+    k: usize,
+    base: u32,
+)
     requires rides { k < 9 }
     requires bound { length bound.now ≡ length labels.old }
     requires before { length before.old ≡ length labels.old }
     ensures lanes { (l : ℕ) → l < R.LANES → Lowers (Bounds (bounds_in base R.NEVER k bound.now)) (lane l (labels_in R.labels labels.old)) (lane l (labels_in R.labels labels.new)) }
     ensures before { before.new ≡ labels.new }
+    ensures fallen { length fallen.new ≡ length fallen.old }
 {
+    fallen.fill(false);
     for stop in 0..labels.len() {
         let low = labels[stop].lower_of(bound_of(bound[stop][k], base));
         labels[stop] = low;
         before[stop] = low;
     }
+}
+
+/// Lowers the labels of a stop to these times, and marks that stop alone.
+fn set_out<R: Row>(ride: &mut [R], marked: &mut [bool], stop: usize, times: R)
+    requires stop { stop < length ride.old }
+    requires same { length marked.old ≡ length ride.old }
+    ensures lanes { (l : ℕ) → l < R.LANES → Lowers (λ p x. (p ≡ stop) × (x ≡ slice_index (R.labels times) l)) (lane l (labels_in R.labels ride.old)) (lane l (labels_in R.labels ride.new)) }
+    ensures same { length marked.new ≡ length marked.old }
+    ensures here { slice_get marked.new stop ≡ Some true }
+{
+    marked.fill(false);
+    lower_row(ride, marked, stop, times);
+    marked[stop] = true;
 }
 
 /// Keeps the first lane, as the times for a number of rides.
@@ -73,6 +104,30 @@ fn keep<R: Row>(kept: &mut [Kept], k: usize, labels: &[R], base: u32)
             NEVER
         };
     }
+}
+
+/// Keeps the first lane of both tables, as the times for a number of rides.
+fn keep_both<R: Row>(
+    bound_ride: &mut [Kept],
+    bound_ready: &mut [Kept],
+    ride: &[R],
+    ready: &[R],
+    k: usize,
+    base: u32,
+)
+    requires rides { k < 9 }
+    requires ride { length ride.now ≡ length bound_ride.old }
+    requires ready { length ready.now ≡ length bound_ready.old }
+    requires base { base + R.NEVER ≤ NEVER_VALUE }
+    requires ride_fits { (p : ℕ) → slice_index (lane 0 (labels_in R.labels ride.now)) p ≤ R.NEVER }
+    requires ready_fits { (p : ℕ) → slice_index (lane 0 (labels_in R.labels ready.now)) p ≤ R.NEVER }
+    ensures ride_here { bounds_in base R.NEVER k bound_ride.new ≡ lane 0 (labels_in R.labels ride.now) }
+    ensures ready_here { bounds_in base R.NEVER k bound_ready.new ≡ lane 0 (labels_in R.labels ready.now) }
+    ensures ride_others { (j : ℕ) → j ≢ k → lane j bound_ride.new ≡ lane j bound_ride.old }
+    ensures ready_others { (j : ℕ) → j ≢ k → lane j bound_ready.new ≡ lane j bound_ready.old }
+{
+    keep(bound_ride, k, ride, base);
+    keep(bound_ready, k, ready, base);
 }
 
 /// Departures side by side, and one that none of them is later than, whose labels bound theirs.
@@ -110,17 +165,12 @@ pub(crate) fn run_bounded<R: Row>(query: Query<'_>, batch: Batch<R>, tables: &mu
     let falls = tables.falls.as_mut_slice();
     let due = tables.due.as_mut_slice();
     let feet = query.network.feet();
-    let trips = query.network.trips();
     clear(ride);
     clear(ready);
-    marked.fill(false);
-    lower_row(ride, marked, query.origin.0 as usize, batch.departs);
-    marked[query.origin.0 as usize] = true;
-    begin(ready, before, bound_ready, 0, base);
-    fallen.fill(false);
+    set_out(ride, marked, query.origin.0 as usize, batch.departs);
+    begin(ready, before, fallen, bound_ready, 0, base);
     walk_marked(feet, ride, marked, ready, fallen);
-    keep(bound_ride, 0, ride, base);
-    keep(bound_ready, 0, ready, base);
+    keep_both(bound_ride, bound_ready, ride, ready, 0, base);
     for k in 0..query.rides as usize {
         lower_to(ride, bound_ride, k + 1, base);
         marked.fill(false);
@@ -131,16 +181,14 @@ pub(crate) fn run_bounded<R: Row>(query: Query<'_>, batch: Batch<R>, tables: &mu
             ready,
         };
         let round = Round {
-            trips,
+            trips: query.network.trips(),
             lines: query.lines,
             labels,
             base,
         };
         scan_lines(round, due, ride, marked);
-        begin(ready, before, bound_ready, k + 1, base);
-        fallen.fill(false);
+        begin(ready, before, fallen, bound_ready, k + 1, base);
         transfer_marked(feet, ride, marked, ready, fallen);
-        keep(bound_ride, k + 1, ride, base);
-        keep(bound_ready, k + 1, ready, base);
+        keep_both(bound_ride, bound_ready, ride, ready, k + 1, base);
     }
 }

@@ -5,7 +5,7 @@ ghost use Rattle.timetable.specs.Footpaths.{IsFoot};
 ghost use Rattle.timetable.specs.Lines.{AreLinesOf};
 ghost use Rattle.timetable.specs.declared.limits.TheConstants.{END_OF_AXIS, MOST_FOOT_SECONDS};
 ghost use Rattle.timetable.specs.declared.views.Call.{Call as CallValue};
-ghost use Rattle.rounds.specs.Last.{AreLast, AreLastRides};
+ghost use Rattle.rounds.specs.Last.{AreLastFrom, AreLastRides};
 
 use crate::query::Query;
 use timetable::{Call, Feet, Lines, Network, StopNo, Times};
@@ -96,7 +96,7 @@ pub(crate) fn fill_last_arrivals(query: Query<'_>, ridden: &mut [u32], last: &mu
     requires lines { AreLinesOf query.network.now.stops query.network.now.trips query.lines.now }
     requires ridden { length ridden.old ≡ query.network.now.stops }
     requires last { length last.old ≡ query.network.now.stops }
-    ensures last { AreLast query.entry.network.now last.new }
+    ensures last { AreLastFrom query.entry.network.now query.entry.origin.0 query.entry.window.first query.entry.rides last.new }
     ensures few { (p : ℕ) → slice_index last.new p ≤ END_OF_AXIS + MOST_FOOT_SECONDS }
 {
     query.network.known();

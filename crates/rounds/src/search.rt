@@ -3,7 +3,7 @@ ghost use Rattle.std.specs.Prelude.{◌≡◌, ℕ, ◌+◌, ◌*◌, ◌<◌, �
 ghost use Rattle.timetable.specs.declared.limits.TheConstants.{END_OF_AXIS, MOST_FOOT_SECONDS};
 ghost use Rattle.timetable.specs.declared.least.TheConstants.{NEVER as NEVER_VALUE};
 ghost use Rattle.rounds.specs.Batches.{AreLabels};
-ghost use Rattle.rounds.specs.Last.{AreLast};
+ghost use Rattle.rounds.specs.Last.{AreLastFrom};
 ghost use Rattle.rounds.specs.Query.{IsAsked};
 ghost use Rattle.rounds.specs.Table.{batches_of};
 ghost use Rattle.rounds.specs.Window.{Fits, AreDurations};
@@ -28,26 +28,19 @@ const WIDE_AT_ONCE: u32 = 15;
 /// from before doesn't matter. One search serves any network, and the tables are made anew where its size is another.
 #[derive(Drop)]
 pub struct Search {
-    /// Of labels that reach some eighteen hours.
-    narrow: Tables<Narrow>,
-    /// Of labels that reach as far as times go; they grow when the others don't do.
-    wide: Tables<Lanes>,
+    widths: Widths,
     /// How late rides end at each stop, and how late somebody may be there by a walk.
     ridden: Vec<u32>,
     last: Vec<u32>,
-    /// How many searches go by wide labels at once, since the narrow ones didn't do.
-    wide_left: u32,
 }
 
 impl Search {
     /// A search with empty tables.
     pub fn new(alloc: Global) -> Self {
         Search {
-            narrow: Tables::new(alloc),
-            wide: Tables::new(alloc),
+            widths: Widths::new(alloc),
             ridden: Vec::new(alloc),
             last: Vec::new(alloc),
-            wide_left: 0,
         }
     }
 
@@ -120,21 +113,57 @@ impl Search {
         make_times(alloc, &mut self.ridden, stops)?;
         make_times(alloc, &mut self.last, stops)?;
         fill_last_arrivals(query, &mut self.ridden, &mut self.last);
-        let last = self.last.as_slice();
-        if are_ranked::<Narrow>(most)
-            && by_narrow(
-                alloc,
-                query,
-                &mut self.narrow,
-                &mut self.wide_left,
-                last,
-                &mut labels,
-            )?
-        {
-            return Ok(labels);
-        }
-        by_wide(alloc, query, &mut self.wide, last, &mut labels)?;
+        self.widths
+            .write(alloc, query, most, &mut self.last, &mut labels)?;
         Ok(labels)
+    }
+}
+
+/// The tables of both widths of labels.
+#[derive(Drop)]
+struct Widths {
+    /// Of labels that reach some eighteen hours.
+    narrow: Tables<Narrow>,
+    /// Of labels that reach as far as times go; they grow when the others don't do.
+    wide: Tables<Lanes>,
+    /// How many searches go by wide labels at once, since the narrow ones didn't do.
+    wide_left: u32,
+}
+
+impl Widths {
+    /// Empty tables.
+    fn new(alloc: Global) -> Self {
+        Widths {
+            narrow: Tables::new(alloc),
+            wide: Tables::new(alloc),
+            wide_left: 0,
+        }
+    }
+
+    /// Writes the least durations of a window: by narrow labels where these tell all, and else by wide ones.
+    fn write(
+        &mut self,
+        alloc: Global,
+        query: Query<'_>,
+        most: usize,
+        last: &mut [u32],
+        labels: &mut [Lanes],
+    ) -> Result<(), AllocError>
+        requires asked { IsAsked query }
+        requires most { All (λ row. length row ≤ most) query.lines.now.lines }
+        requires short { All (λ row. length row ≤ NEVER_VALUE) query.lines.now.lines }
+        requires last { AreLastFrom query.network.now query.origin.0 query.window.first query.rides last.old }
+        requires few { (p : ℕ) → slice_index last.old p ≤ END_OF_AXIS + MOST_FOOT_SECONDS }
+        requires labels { length labels.old ≡ query.network.now.stops * batches_of query.window.minutes }
+        ensures { OnOk result (AreLabels query.entry.network.now query.entry.origin.0 query.entry.window query.entry.rides labels.new) }
+    {
+        if are_ranked::<Narrow>(most) && is_narrow_turn(&mut self.wide_left) {
+            if by_narrow(alloc, query, &mut self.narrow, &mut self.wide, last, labels)? {
+                return Ok(());
+            }
+            self.wide_left = WIDE_AT_ONCE;
+        }
+        by_wide(alloc, query, &mut self.wide, last, labels)
     }
 }
 
@@ -145,32 +174,36 @@ fn are_ranked<R: Row>(trips: usize) -> bool
     trips <= R::NEVER as usize
 }
 
-/// Writes the least durations of a window by narrow labels, unless these can't tell all of them, or couldn't lately.
+/// Whether narrow labels are tried, of which so many searches more do without.
+fn is_narrow_turn(wide_left: &mut u32) -> bool {
+    if *wide_left > 0 {
+        *wide_left -= 1;
+        return false;
+    }
+    true
+}
+
+/// Writes the least durations of a window by narrow labels, unless these can't tell all of them.
 fn by_narrow(
     alloc: Global,
     query: Query<'_>,
     tables: &mut Tables<Narrow>,
-    wide_left: &mut u32,
-    last: &[u32],
+    beside: &mut Tables<Lanes>,
+    last: &mut [u32],
     labels: &mut [Lanes],
 ) -> Result<bool, AllocError>
     requires asked { IsAsked query }
     requires short { All (λ row. length row ≤ 65535) query.lines.now.lines }
-    requires last { AreLast query.network.now last.now }
+    requires last { AreLastFrom query.network.now query.origin.0 query.window.first query.rides last.old }
+    requires few { (p : ℕ) → slice_index last.old p ≤ END_OF_AXIS + MOST_FOOT_SECONDS }
     requires labels { length labels.old ≡ query.network.now.stops * batches_of query.window.minutes }
-    ensures { IfOk result (λ told. IsTrue told → AreLabels query.entry.network.now query.entry.origin.0 query.entry.window query.entry.rides labels.new) }
+    ensures last { OnOk result (AreLastFrom query.entry.network.now query.entry.origin.0 query.entry.window.first query.entry.rides last.new) }
+    ensures falls { (p : ℕ) → slice_index last.new p ≤ slice_index last.old p }
+    ensures told { IfOk result (λ told. IsTrue told → AreLabels query.entry.network.now query.entry.origin.0 query.entry.window query.entry.rides labels.new) }
 {
-    if *wide_left > 0 {
-        *wide_left -= 1;
-        return Ok(false);
-    }
     query.network.known();
     tables.fit(alloc, query.network.stops() as usize, query.lines)?;
-    let told = run_window(query, tables, last, labels);
-    if !told {
-        *wide_left = WIDE_AT_ONCE;
-    }
-    Ok(told)
+    run_window(alloc, query, tables, beside, last, labels)
 }
 
 /// Writes the least durations of a window by wide labels, which tell all of them.
@@ -178,18 +211,19 @@ fn by_wide(
     alloc: Global,
     query: Query<'_>,
     tables: &mut Tables<Lanes>,
-    last: &[u32],
+    last: &mut [u32],
     labels: &mut [Lanes],
 ) -> Result<(), AllocError>
     requires asked { IsAsked query }
     requires short { All (λ row. length row ≤ NEVER_VALUE) query.lines.now.lines }
-    requires last { AreLast query.network.now last.now }
-    requires few { (p : ℕ) → slice_index last.now p ≤ END_OF_AXIS + MOST_FOOT_SECONDS }
+    requires last { AreLastFrom query.network.now query.origin.0 query.window.first query.rides last.old }
+    requires few { (p : ℕ) → slice_index last.old p ≤ END_OF_AXIS + MOST_FOOT_SECONDS }
     requires labels { length labels.old ≡ query.network.now.stops * batches_of query.window.minutes }
     ensures { OnOk result (AreLabels query.entry.network.now query.entry.origin.0 query.entry.window query.entry.rides labels.new) }
 {
     query.network.known();
     tables.fit(alloc, query.network.stops() as usize, query.lines)?;
-    run_window(query, tables, last, labels);
+    let mut none = Tables::new(alloc);
+    run_window(alloc, query, tables, &mut none, last, labels)?;
     Ok(())
 }

@@ -32,6 +32,7 @@ use Rattle.rounds.specs.Window.{Fits}
 use Rattle.collector.specs.Places.{MatrixData}
 use Rattle.workers.specs.Matrices.{IsMatrix}
 use Rattle.workers.specs.Study.{Query, StudyData, StudyFits}
+use Rattle.workers.specs.declared.study.TheConstants.{MOST_SCENARIOS}
 use Rattle.matrix_text.specs.Text.{LabelData, matrix_text}
 use Rattle.studies.specs.declared.fault.StudyFault.{StudyFault}
 use Rattle.studies.specs.declared.fault.StudyFault.TheVariants as fault
@@ -88,7 +89,7 @@ module _ (i : InputFiles) (s : SettingsData) where
   names_told (fault.Text e) h = absurd h
   names_told fault.Memory h = absurd h
 
-  pub are_named : (length i.scenarios ≤ 15) × (name_faults i.scenarios ≡ []) → AreNamed i
+  pub are_named : (length i.scenarios < MOST_SCENARIOS) × (name_faults i.scenarios ≡ []) → AreNamed i
   are_named good = record { few = good.0; names = good.1 }
 
   pub feed_told : (e : FeedFault) → AreNamed i → records.Tells e (feed_faults i.feed) → Tells (fault.Feed e) i s
@@ -212,10 +213,10 @@ module _ (i : InputFiles) (s : SettingsData) (feed : FeedData) (p : NetworkParts
       ∙ ap (λ (r : List Run). networks_of (feed_in i) r p.feet scenarios) (runs_are ∙ parts.runs_are)
       ∙ ap (λ (x : List ScenarioData). networks_of (feed_in i) (runs_in i s) p.feet x) (scenarios_are ∙ parts.scenarios_are)
 
-  pub few_scenarios : length scenarios ≤ 16
+  pub few_scenarios : length scenarios ≤ MOST_SCENARIOS
   few_scenarios =
       let count : length scenarios ≡ length i.scenarios + 1 = ap (λ (l : List ScenarioData). length l) (scenarios_are ∙ parts.scenarios_are) ∙ scenario_count i in
-      let few : length i.scenarios ≤ 15 = parts.walked.dated.edited.read.named.few in
+      let few : length i.scenarios < MOST_SCENARIOS = parts.walked.dated.edited.read.named.few in
       omega (arith, count, few)
 
   pub runs_of_feed : All (IsRun feed) runs
@@ -308,7 +309,7 @@ pub study_fits : (i : InputFiles) (s : SettingsData) (feed : FeedData) (t : Tabl
     → StudyFits (study_with query networks origins opportunities)
 study_fits i s feed t networks origins opportunities query fits is_feed is tables made p q asked =
     let count : length networks ≡ length i.scenarios + 1 = network_count i s networks made in
-    let few_files : length i.scenarios ≤ 15 = made.walked.dated.edited.read.named.few in
+    let few_files : length i.scenarios < MOST_SCENARIOS = made.walked.dated.edited.read.named.few in
     let stops : length opportunities ≡ length feed.stops = ap length q ∙ tables.count in
     let same : length opportunities ≡ length (feed_in i).stops = stops ∙ ap (λ (d : FeedData). length d.stops) is in
     let some : length origins ≡ length t.origins.items = ap length p in

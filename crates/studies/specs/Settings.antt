@@ -2,8 +2,12 @@
 use Rattle.std.specs.Prelude.{ℕ, List, ◌+◌, ◌*◌, ◌≤◌}
 use Rattle.jiff_core.specs.declared.civil.date.Date.{Date}
 use Rattle.rounds.specs.declared.window.Window.{Window}
+use Rattle.timetable.specs.declared.limits.TheConstants.{MOST_FOOT_SECONDS}
 use Rattle.timetable.specs.declared.trips.StopNo.{StopNo}
+use Rattle.work_book.specs.declared.limits.TheConstants.{MOST_TRIES}
 use Rattle.workers.specs.Study.{LimitsFit, Query, SharesFit}
+use Rattle.workers.specs.declared.study.TheConstants.{MOST_RIDES}
+use Rattle.studies.specs.declared.limits.TheConstants.{MOST_DAYS, MOST_WORKERS}
 
 -- settings as plain data
 pub record SettingsData : Type 0 where
@@ -21,19 +25,19 @@ pub record SettingsData : Type 0 where
 
 -- each setting is within its limits, and the departures are all on one day
 pub record SettingsFit (s : SettingsData) : Type 0 where
-  pub back : s.back ≤ 6
-  pub ahead : s.ahead ≤ 6
+  pub back : s.back ≤ MOST_DAYS
+  pub ahead : s.ahead ≤ MOST_DAYS
   pub some_minutes : 1 ≤ s.minutes
   pub one_day : s.first + s.minutes ≤ 1440
   pub some_rides : 1 ≤ s.rides
-  pub few_rides : s.rides ≤ 8
-  pub walk : s.walk ≤ 7200
+  pub few_rides : s.rides ≤ MOST_RIDES
+  pub walk : s.walk ≤ MOST_FOOT_SECONDS
   pub shares : SharesFit s.shares
   pub withins : LimitsFit s.withins
   pub some_workers : 1 ≤ s.workers
-  pub few_workers : s.workers ≤ 64
+  pub few_workers : s.workers ≤ MOST_WORKERS
   pub some_tries : 1 ≤ s.tries
-  pub few_tries : s.tries ≤ 8
+  pub few_tries : s.tries ≤ MOST_TRIES
 
 -- the departures on the axis, which begins so many service days before that of the date
 abbrev pub window_of : SettingsData → Window

@@ -11,6 +11,7 @@ use Rattle.service_days.specs.declared.run.Run.{Run}
 use Rattle.service_days.specs.Instances.{IsRun}
 use Rattle.scenarios.specs.declared.faults.ScenarioWhat.TheVariants as edit
 use Rattle.scenarios.specs.ScenarioData.{ScenarioData}
+use Rattle.workers.specs.declared.study.TheConstants.{MOST_SCENARIOS}
 use Rattle.matrix_text.specs.declared.faults.TextFault.TheVariants as text
 use Rattle.studies.specs.declared.fault.StudyFault.{StudyFault}
 use Rattle.studies.specs.declared.fault.StudyFault.TheVariants as fault
@@ -56,8 +57,8 @@ TellsTables _ i feed = ⊥
 
 -- too many files, or the first name that is refused
 abbrev pub TellsNames : StudyFault → List NamedBytes → Type 0
-TellsNames fault.Scenarios files = 15 < length files
-TellsNames (fault.Name k) files = (length files ≤ 15) × IsFirst k (name_faults files)
+TellsNames fault.Scenarios files = MOST_SCENARIOS ≤ length files
+TellsNames (fault.Name k) files = (length files < MOST_SCENARIOS) × IsFirst k (name_faults files)
 TellsNames _ files = ⊥
 
 -- the first fault of the scenario files, or want of memory

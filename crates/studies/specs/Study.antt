@@ -17,6 +17,7 @@ use Rattle.workers.specs.Held.{Decides, WasTold}
 use Rattle.workers.specs.Outcomes.{IsFaultOfNew}
 use Rattle.workers.specs.Matrices.{IsMatrix}
 use Rattle.workers.specs.Study.{StudyData}
+use Rattle.workers.specs.declared.study.TheConstants.{MOST_SCENARIOS}
 use Rattle.matrix_text.specs.declared.faults.TextFault.TheVariants as text
 use Rattle.matrix_text.specs.Text.{matrix_text}
 use Rattle.studies.specs.declared.fault.StudyFault.{StudyFault}
@@ -28,7 +29,7 @@ use Rattle.studies.specs.Parts.{table_faults, destination_faults, edit_faults, d
 
 -- there are few enough scenario files, and their names are accepted
 pub record AreNamed (i : InputFiles) : Type 0 where
-  pub few : length i.scenarios ≤ 15
+  pub few : length i.scenarios < MOST_SCENARIOS
   pub names : name_faults i.scenarios ≡ []
 
 -- ... and so are the feed, footpaths, origins, opportunities and destinations
@@ -67,8 +68,8 @@ pub record Means (i : InputFiles) (s : SettingsData) (study : StudyData) : Type 
 
 -- this is the first fault of the first part that is refused
 abbrev pub Refuses : StudyFault → InputFiles → SettingsData → Type 0
-Refuses fault.Scenarios i s = 15 < length i.scenarios
-Refuses (fault.Name k) i s = (length i.scenarios ≤ 15) × IsFirst k (name_faults i.scenarios)
+Refuses fault.Scenarios i s = MOST_SCENARIOS ≤ length i.scenarios
+Refuses (fault.Name k) i s = (length i.scenarios < MOST_SCENARIOS) × IsFirst k (name_faults i.scenarios)
 Refuses (fault.Feed e) i s = AreNamed i × IsFirst e (table_faults i)
 Refuses (fault.Destinations e) i s = AreNamed i × (table_faults i ≡ []) × IsFirst e (destination_faults i (feed_in i))
 Refuses (fault.Scenario k e) i s = AreRead i × IsFirst (k, e) (edit_faults (feed_in i) 0 i.scenarios)

@@ -4,11 +4,12 @@
 //!   first [`StudyFault`]. Its stages, each making one value of those before it: `names`, `tables`, `networks` (with
 //!   `scenario_files`), `matrix`; `parts` has what they hand on, and `boxes` puts it in boxes.
 //! - `watch`: [`watch_study`] is [`run_study`] with a [`Watch`], who is told what each stage has made.
-//! - `inputs`, `named_file`, `settings`: what a study is made of; `fault`: why there is none.
+//! - `inputs`, `named_file`, `settings`: what a study is made of, and `limits`, within which; `fault`: why there is none.
 //! - `laws`: a study has one text, which with destinations has some of the columns of the text without; and no files are both refused
 //!   and accepted.
 //! - `feed_files`: [`FeedFiles`], the files of a feed as a program holds them.
-//! - `minute`: [`minute_line`], the durations of one minute over each trip of a feed once (`once`, `line`).
+//! - `minute`: [`minute_line`], a door for other programs: the durations of one minute over each trip of a feed once
+//!   (`once`, `line`).
 //!
 //! `specs/Study` says what the inputs mean and which fault comes first.
 #![tactic(auto)]
@@ -18,6 +19,7 @@ mod fault;
 mod feed_files;
 mod inputs;
 mod laws;
+mod limits;
 mod line;
 mod matrix;
 mod minute;
@@ -36,6 +38,7 @@ pub use fault::StudyFault;
 pub use feed_files::{FeedFiles, bytes_of};
 pub use inputs::Inputs;
 pub use laws::{refused_have_no_meaning, texts_are_unique, texts_have_their_columns};
+pub use limits::{MOST_DAYS, MOST_WORKERS, limits_are_as_stated};
 pub use minute::minute_line;
 pub use named_file::NamedFile;
 pub use settings::Settings;

@@ -36,14 +36,9 @@ pub(crate) fn matrix_of<G: Gate + Sync, W: Watch, R: Threads + Wait + Sync>(
     ensures told_fault { IfErr result (λ fault. (fault ≡ RunFault.Memory) ⊎ W.saw watch.now (ended (study_of study.now) (Err fault))) }
 {
     let jobs = study.networks.len() as u32 * study.origins.len() as u32;
-    let Ok((board, mut seat)) = Board::new(alloc, jobs, settings.tries) else {
-        return Err(RunFault::Memory);
-    };
+    let (board, mut seat) = Board::new(alloc, jobs, settings.tries)?;
     watch.rows_begin(study);
     let matrix = run_workers(rt, alloc, study, &board, &mut seat, settings.workers, gate);
     watch.rows_end(&matrix);
-    match boxed(alloc, matrix?) {
-        Ok(matrix) => Ok(matrix),
-        Err(_) => Err(RunFault::Memory),
-    }
+    Ok(boxed(alloc, matrix?)?)
 }

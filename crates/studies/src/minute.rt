@@ -13,7 +13,8 @@ use gtfs_tables::{FeedBytes, FeedFault, FileName, What};
 use rounds::one_minute;
 use std::alloc::Global;
 
-/// The least durations from `origin` at a minute of the day to all stops, in seconds, joined by commas.
+/// A door for other programs: the least durations from `origin` at a minute of the day to all stops, in seconds, joined
+/// by commas.
 ///
 /// Every trip of the feed runs once, at the feed's own times, and nobody walks. A stop that no journey of at most
 /// `rides` rides reaches has an empty field. `minute` is below 1,440, `rides` 1 to 8, and each file keeps the limit of

@@ -1,27 +1,27 @@
 //! The names of scenarios.
-ghost use Rattle.std.specs.Prelude.{◌≡◌, ◌≤◌, [], IfErr, IfOk, OnOk, length, map};
+ghost use Rattle.std.specs.Prelude.{◌≡◌, ◌<◌, [], IfErr, IfOk, OnOk, length, map};
+ghost use Rattle.workers.specs.declared.study.TheConstants.{MOST_SCENARIOS};
 ghost use Rattle.studies.specs.Names as spec;
 ghost use Rattle.studies.specs.Stages.{TellsNames};
 
 use crate::fault::StudyFault;
 use crate::named_file::NamedFile;
 use std::alloc::{AllocError, Global};
+use workers::MOST_SCENARIOS;
 
 /// The name of the scenario without edits.
 const BASE: &[u8] = b"base";
 
-/// The most scenario files.
-const MOST_FILES: usize = 15;
-
-/// Accepts the names of at most 15 scenario files, each of them new, not empty and not `base`.
+/// Accepts the names of scenario files, each of them new, not empty and not `base`; with the base there are at most as
+/// many scenarios as a study may have.
 ///
 /// Else `Scenarios` for more files, or `Name` for the first name that is refused.
 #[tactic(auto, using(crate::proofs::NameFaults::names))]
 pub(crate) fn check_names(files: &[NamedFile]) -> Result<(), StudyFault>
-    ensures good { OnOk result ((length files.now ≤ 15) × (spec.name_faults files.now ≡ [])) }
+    ensures good { OnOk result ((length files.now < MOST_SCENARIOS) × (spec.name_faults files.now ≡ [])) }
     ensures fault { IfErr result (λ e. TellsNames e files.now) }
 {
-    if files.len() > MOST_FILES {
+    if files.len() >= MOST_SCENARIOS {
         return Err(StudyFault::Scenarios);
     }
     for (i, file) in files.iter().enumerate() {

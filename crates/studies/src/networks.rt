@@ -1,6 +1,7 @@
 //! The networks of a study's scenarios, and what they are made of.
 ghost use Rattle.std.specs.Prelude.{◌≡◌, ◌≤◌, [], All, IfErr, IfOk, length};
 ghost use Rattle.service_days.specs.Instances.{IsRun};
+ghost use Rattle.workers.specs.declared.study.TheConstants.{MOST_SCENARIOS};
 ghost use Rattle.studies.specs.Inputs.{AreWithinLimit, inputs_of};
 ghost use Rattle.studies.specs.Parts.{direct_in, feed_in, network_faults, networks_of};
 ghost use Rattle.studies.specs.Settings.{SettingsFit};
@@ -49,7 +50,7 @@ pub(crate) fn network_parts(
     Ok(boxed(alloc, parts)?)
 }
 
-/// The network of each of at most 16 scenarios, made of the same runs and footpaths; else the first fault of the networks.
+/// The network of each scenario, made of the same runs and footpaths; else the first fault of the networks.
 #[tactic(auto, using(crate::proofs::NetworkFaults::networks))]
 pub(crate) fn make_networks(
     alloc: Global,
@@ -58,7 +59,7 @@ pub(crate) fn make_networks(
     runs: &[Run],
     feet: &Feet,
 ) -> Result<Vec<Network>, StudyFault>
-    requires few { length scenarios.now ≤ 16 }
+    requires few { length scenarios.now ≤ MOST_SCENARIOS }
     requires runs { All (IsRun feed.now) runs.now }
     requires feet { length feet.now.walks ≡ length feed.now.stops }
     ensures good { IfOk result (λ _. network_faults feed.now runs.now 0 scenarios.now ≡ []) }

@@ -3,6 +3,7 @@ ghost use Rattle.std.specs.Prelude.{◌≡◌, ◌≤◌, ◌+◌, ◌↔◌, Is
 ghost use Rattle.workers.specs.Study as study;
 ghost use Rattle.studies.specs.Settings.{SettingsFit, query_of, window_of};
 
+use crate::limits::{MOST_DAYS, MOST_WORKERS};
 use footpaths::limit_fits;
 use jiff::civil::Date;
 use rounds::{MOST_MINUTES, Window};
@@ -10,12 +11,6 @@ use std::marker::Model;
 use timetable::StopNo;
 use work_book::MOST_TRIES;
 use workers::{Asked, MOST_RIDES, limits_fit, shares_fit};
-
-/// The most service days of a study before that of its date, and the most after it.
-const MOST_DAYS: u32 = 6;
-
-/// The most worker threads of a run.
-const MOST_WORKERS: u32 = 64;
 
 /// The seconds of a service day, on the axis of a study's times.
 const DAY: u32 = 86_400;

@@ -112,10 +112,7 @@ fn text_of_matrix(
     ensures text { IfOk result (λ text. text.items ≡ matrix_text (labels_in (inputs_of inputs.now) settings.now) matrix.now) }
     ensures fault { IfErr result TellsText }
 {
-    let names = match names_of(alloc, inputs.scenarios) {
-        Ok(names) => names,
-        Err(_) => return Err(StudyFault::Memory),
-    };
+    let names = names_of(alloc, inputs.scenarios)?;
     let labels = Labels {
         scenarios: names.as_slice(),
         origins: tables.origins.as_slice(),

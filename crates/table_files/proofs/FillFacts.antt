@@ -1,6 +1,8 @@
 -- The events of a trip: each at its own times or at those between its neighbours.
-use Rattle.std.proofs.Common.{◌≡◌, ◌<◌, ◌≤◌, ◌+◌, ◌-◌, ◌*◌, ◌/◌, ◌||◌, ◌∙◌, ℕ, zero, suc, Bool, true, false, List, [], ◌∷◌, length, drop, length-drop, Option, Some, None, unwrap_or, arith, refl, sym, ap, subst}
+use Rattle.std.proofs.Common.{◌≡◌, ◌<◌, ◌≤◌, ◌+◌, ◌-◌, ◌*◌, ◌/◌, ◌||◌, ◌++◌, ◌∙◌, ℕ, zero, suc, Bool, true, false, List, [], ◌∷◌, length, drop, length-drop, Option, Some, None, get_or, unwrap_or, arith, refl, sym, ap, subst}
+use Rattle.std.proofs.Math.Seq.{drop-cons}
 use Rattle.std.proofs.Math.Nat.{div-mul-le_self, div-le_self, mul-le-mul_left, mul-div_left}
+use Rattle.std.proofs.lemmas.List.{append_assoc}
 use Rattle.std.proofs.lemmas.Nat.{le-div}
 use Rattle.std.proofs.lemmas.Bool.Decides.{nat_tests}
 use Rattle.std.proofs.lemmas.List.Elements.{All-cons, All-nil}
@@ -155,6 +157,28 @@ near_within (Some x) n most le h = omega (arith, h, le)
 pub approached_near : (o : Option Neighbour) (most : ℕ) → IsNear o most → IsNear (option_map (λ (n : Neighbour). record { times = n.times; untimed = n.untimed - 1 }) o) most
 approached_near None most h = tt
 approached_near (Some x) most h = omega (arith, h)
+
+-- a record with times goes on from those before it, whatever these are
+pub one_timed : (before : Option Neighbour) (xs : List StopTime) (i : ℕ) (d : StopTime) (t : Times) (done all : List Event) → i < length xs
+    → (get_or xs i d).times ≡ Some t → done ++ filled_on before (drop i xs) ≡ all
+    → (done ++ event_at (get_or xs i d) t ∷ []) ++ filled_on (Some (record { times = t; untimed = 0 })) (drop (i + 1) xs) ≡ all
+one_timed before xs i d t done all within timed is =
+    append_assoc done (event_at (get_or xs i d) t ∷ []) (after (i + 1)) ∙ ap (λ (l : List Event). done ++ l) (sym goes_on) ∙ is
+  where
+    after : ℕ → List Event
+    after k = filled_on (Some (record { times = t; untimed = 0 })) (drop k xs)
+
+    first : (s : StopTime) (rest : List StopTime) → s.times ≡ Some t
+        → filled_on before (s ∷ rest) ≡ event_at s t ∷ filled_on (Some (record { times = t; untimed = 0 })) rest
+    first s rest h = rw h refl
+
+    next : suc i ≡ i + 1
+    next = omega arith
+
+    goes_on : filled_on before (drop i xs) ≡ event_at (get_or xs i d) t ∷ after (i + 1)
+    goes_on =
+        ap (filled_on before) (drop-cons xs i d within) ∙ first (get_or xs i d) (drop (suc i) xs) timed
+        ∙ ap (λ (k : ℕ). event_at (get_or xs i d) t ∷ after k) next
 
 -- no event is left after the last
 pub none_left : (before : Option Neighbour) (i : ℕ) (trip_times : List StopTime) → length trip_times ≤ i → filled_on before (drop i trip_times) ≡ []

@@ -24,6 +24,31 @@ pub fn filled(alloc: Global, trip_times: &[StopTime]) -> Result<Vec<Event>, Allo
     requires { length trip_times.now ≤ MOST_EVENTS }
     ensures { IfOk result (λ v. v.items ≡ spec.filled trip_times.now) }
 {
+    match timed(alloc, trip_times)? {
+        Some(events) => Ok(events),
+        None => with_between(alloc, trip_times),
+    }
+}
+
+// The events of records that all have their times, as those of most trips; none where one has no times.
+fn timed(alloc: Global, trip_times: &[StopTime]) -> Result<Option<Vec<Event>>, AllocError>
+    ensures { IfOk result (λ events. IfSome events (λ v. v.items ≡ spec.filled trip_times.now)) }
+{
+    let mut events = Vec::with_capacity(alloc, trip_times.len())?;
+    for stop_time in trip_times {
+        let Some(times) = stop_time.times else {
+            return Ok(None);
+        };
+        events.push(event_with(*stop_time, times))?;
+    }
+    Ok(Some(events))
+}
+
+// The events of records of which some may have no times.
+fn with_between(alloc: Global, trip_times: &[StopTime]) -> Result<Vec<Event>, AllocError>
+    requires { length trip_times.now ≤ MOST_EVENTS }
+    ensures { IfOk result (λ v. v.items ≡ spec.filled trip_times.now) }
+{
     let mut events = Vec::with_capacity(alloc, trip_times.len())?;
     let mut before = None;
     let mut next = nearest(trip_times);
@@ -91,6 +116,13 @@ fn event_at(stop_time: StopTime, before: Option<Neighbour>, after: Option<Neighb
         Some(times) => times,
         None => between(before, after),
     };
+    event_with(stop_time, times)
+}
+
+// The event of a record that has these times.
+fn event_with(stop_time: StopTime, times: Times) -> Event
+    ensures { result ≡ spec.event_at stop_time times }
+{
     Event {
         stop: StopNo(stop_time.stop.unwrap_or(0)),
         arrive: times.arrive,

@@ -7,8 +7,14 @@ use std::alloc::{AllocError, Global};
 pub struct Likely {
     /// The trip of the record before.
     trip: usize,
+    /// How many records in a row named it so far.
+    run: usize,
+    /// How many records in a row named the trip before it.
+    run_before: usize,
     /// The last stop that a record named.
     stop: usize,
+    /// The one after it the last time, looked up as soon as it can be.
+    next: u32,
     /// By stop, which one was named after it the last time.
     after: Vec<u32>,
 }
@@ -18,7 +24,10 @@ impl Likely {
     pub fn new(alloc: Global, stops: usize) -> Result<Likely, AllocError> {
         Ok(Likely {
             trip: 0,
+            run: 0,
+            run_before: 0,
             stop: 0,
+            next: 0,
             after: vec![in alloc; 0; stops]?,
         })
     }
@@ -28,19 +37,32 @@ impl Likely {
         self.trip
     }
 
+    /// How many records the trip has: as many as stood together of the trip before. So all that is expected of a file's trips
+    /// together is no more than the file has.
+    pub fn count(&self) -> usize {
+        self.run_before
+    }
+
     /// The number of the stop.
     pub fn stop(&self) -> usize {
-        match self.after.get(self.stop) {
-            Some(stop) => *stop as usize,
-            None => 0,
-        }
+        self.next as usize
     }
 
     /// A record named this trip, and this stop if it named one.
     pub fn note(&mut self, trip: usize, stop: Option<u32>) {
-        self.trip = trip;
+        self.note_trip(trip);
         if let Some(stop) = stop {
             self.note_stop(stop);
+        }
+    }
+
+    fn note_trip(&mut self, trip: usize) {
+        if self.trip == trip {
+            self.run = self.run.saturating_add(1);
+        } else {
+            self.run_before = self.run;
+            self.run = 1;
+            self.trip = trip;
         }
     }
 
@@ -49,5 +71,6 @@ impl Likely {
             self.after[self.stop] = stop;
         }
         self.stop = stop as usize;
+        self.next = self.after.get(self.stop).copied().unwrap_or(0);
     }
 }

@@ -1,6 +1,6 @@
 //! The events of each trip: `stop_times.txt`.
 
-ghost use Rattle.std.specs.Prelude.{◌≡◌, ◌≤◌, ◌<◌, [], true, false, length, position, replicate, slice_get, IfOk, IfErr, IfSome, if◌then◌else◌};
+ghost use Rattle.std.specs.Prelude.{◌≡◌, ◌≤◌, ◌<◌, [], true, false, length, position, replicate, slice_get, IfOk, IfErr, IfSome, IsTrue, if◌then◌else◌};
 ghost use Rattle.timetable.specs.declared.limits.TheConstants.{MOST_STOPS, MOST_TRIPS};
 ghost use Rattle.std.specs.Str.{bytes_eq};
 ghost use Rattle.csv.specs.Records.{fields_of};
@@ -100,22 +100,24 @@ impl<'a> RecordReader for TimeReader<'a> {
             Err(what) => return Err(FeedFault::at(FileName::StopTimes, at, what)),
         };
         table.likely.note(trip_stop.trip, trip_stop.stop);
+        let count = table.likely.count();
         let trip_times = &mut table.trips[trip_stop.trip];
-        if trip_times.has(trip_stop.sequence) {
+        let Some(place) = trip_times.place_of(trip_stop.sequence) else {
             return Err(FeedFault::at(FileName::StopTimes, at, What::DuplicateId));
-        }
+        };
         let visit = match self.visit(row) {
             Ok(visit) => visit,
             Err(what) => return Err(FeedFault::at(FileName::StopTimes, at, what)),
         };
-        trip_times.insert(StopTime {
+        let stop_time = StopTime {
             sequence: trip_stop.sequence,
             at: at as u32,
             stop: trip_stop.stop,
             times: visit.times,
             board: visit.board,
             alight: visit.alight,
-        })?;
+        };
+        trip_times.insert(place, stop_time, count)?;
         Ok(())
     }
 }
@@ -156,8 +158,14 @@ impl<'a> TimeReader<'a> {
             × (v.board ≡ spec.allows r.pickup) × (v.alight ≡ spec.allows r.drop_off)) }
         ensures fault { let r = spec.row_at self.now.columns (fields_of row.now) in IfErr result (λ e. slice_get (spec.visit_checks r) 0 ≡ Some e) }
     {
-        let arrive = read_open_time(field(row, self.columns.arrive))?;
-        let depart = read_open_time(field(row, self.columns.depart))?;
+        let arrive_text = field(row, self.columns.arrive);
+        let depart_text = field(row, self.columns.depart);
+        let arrive = read_open_time(arrive_text)?;
+        let depart = if are_equal_times(arrive_text, depart_text) {
+            arrive
+        } else {
+            read_open_time(depart_text)?
+        };
         let board = read_allowed(field(row, self.columns.pickup))?;
         let alight = read_allowed(field(row, self.columns.drop_off))?;
         Ok(Visit {
@@ -195,6 +203,19 @@ fn read_open_time(text: &[u8]) -> Result<Option<u32>, What>
         return Err(What::BadTime);
     }
     Ok(time)
+}
+
+// Whether two texts are found equal, as those of many arrivals and departures with two digits of hours are.
+fn are_equal_times(a: &[u8], b: &[u8]) -> bool
+    ensures { IsTrue result → a.now ≡ b.now }
+{
+    if a.len() != 8 || b.len() != 8 {
+        return false;
+    }
+    match (a.split_first_chunk::<8>(), b.split_first_chunk::<8>()) {
+        (Some((a, _)), Some((b, _))) => a == b,
+        _ => false,
+    }
 }
 
 // Whether a pickup or drop-off type allows what it speaks of. Only 1 forbids it.

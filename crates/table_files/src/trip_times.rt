@@ -63,20 +63,29 @@ impl TripTimes {
         }
     }
 
-    /// Whether one of the records has this sequence number.
-    pub fn has(&self, sequence: u32) -> bool
-        ensures { result ≡ has_number sequence self.now }
+    /// Where a record with this sequence number belongs, none where there is one already.
+    pub fn place_of(&self, sequence: u32) -> Option<usize>
+        ensures taken { IfNone result (has_number sequence self.now ≡ true) }
+        ensures free { IfSome result (λ i. FitsAt i sequence self.now) }
     {
-        !is_past_all(&self.items, sequence) && position_of(&self.items, sequence).is_none()
+        position_of(&self.items, sequence)
     }
 
-    /// Puts a record where its sequence number belongs, which none of the others has.
-    pub fn insert(&mut self, stop_time: StopTime) -> Result<(), AllocError>
-        requires new { has_number stop_time.sequence self.old ≡ false }
+    /// Puts a record where its sequence number belongs. With the first one room is made for `likely` records in all.
+    pub fn insert(
+        &mut self,
+        place: usize,
+        stop_time: StopTime,
+        likely: usize,
+    ) -> Result<(), AllocError>
+        requires fits { FitsAt place stop_time.sequence self.old }
         ensures put { OnOk result (self.new ≡ insert_in_order stop_time self.old) }
         ensures err { OnErr result (self.new ≡ self.old) }
     {
-        insert_stop_time(&mut self.items, stop_time)
+        if self.items.is_empty() {
+            self.items.reserve(likely)?;
+        }
+        insert_at(&mut self.items, place, stop_time)
     }
 
     /// The records, in a vector.
@@ -88,24 +97,23 @@ impl TripTimes {
     }
 }
 
-fn insert_stop_time(
+fn insert_at(
     trip_times: &mut VecDeque<StopTime>,
+    place: usize,
     stop_time: StopTime,
 ) -> Result<(), AllocError>
+    requires fits { FitsAt place stop_time.sequence trip_times.old.items }
     requires ascending { IsAscending 0 trip_times.old.items }
-    requires new { has_number stop_time.sequence trip_times.old.items ≡ false }
     ensures put { OnOk result (trip_times.new.items ≡ insert_in_order stop_time trip_times.old.items) }
     ensures ascending { IsAscending 0 trip_times.new.items }
     ensures err { OnErr result (trip_times.new.items ≡ trip_times.old.items) }
 {
-    if is_past_all(trip_times, stop_time.sequence) {
+    // Nearly all come last, where nothing has to move.
+    if place == trip_times.len() {
         trip_times.push_back(stop_time)?;
-        return Ok(());
+    } else {
+        trip_times.insert(place, stop_time)?;
     }
-    let Some(i) = position_of(trip_times, stop_time.sequence) else {
-        unreachable!();
-    };
-    trip_times.insert(i, stop_time)?;
     Ok(())
 }
 

@@ -1,5 +1,6 @@
 -- Where a text stands among distinct ones.
-use Rattle.std.proofs.Common.{◌≡◌, ◌<◌, ◌∙◌, ℕ, true, false, List, Some, length, get_or, map, position, arith, sym, ap}
+use Rattle.std.proofs.Common.{◌≡◌, ◌<◌, ◌≤◌, ◌+◌, ◌-◌, ◌++◌, ◌∙◌, ℕ, true, false, List, Some, drop, length, get_or, map, position, take, arith, sym, ap}
+use Rattle.std.proofs.lemmas.List.{drop-drop, take-append-drop}
 use Rattle.std.proofs.lemmas.Map.Keys.{apart_from_distinct}
 use Rattle.std.proofs.lemmas.Slice.Eq.{bytes_eq-Decides}
 use Rattle.std.specs.List.{IsDistinct}
@@ -23,3 +24,33 @@ position_here text ks i d id apart lt at same =
     (λ k below. differs id (text (get_or ks i d)) (text (get_or ks k d)) (ap (λ x. bytes_eq (text x) id) (sym at) ∙ same)
     (apart_from_distinct (λ a b. bytes_eq (text a) (text b)) ks k i d apart below lt))
     (same_text id (text (get_or ks i d)) (ap (λ x. bytes_eq (text x) id) (sym at) ∙ same))
+
+-- texts that are the same are found equal
+pub same_bytes : (a b : List ℕ) → a ≡ b → bytes_eq a b ≡ true
+same_bytes a b same = grind (arith, bytes_eq-Decides)
+
+-- and texts that are found equal are the same
+pub found_same : (a b : List ℕ) → bytes_eq a b ≡ true → a ≡ b
+found_same a b same = grind (arith, bytes_eq-Decides)
+
+-- texts of one length, with at least n bytes and at most twice as many, are equal where their first n bytes are, and their last n
+pub equal_ends : (n : ℕ) (a b : List ℕ) → length a ≡ length b → n ≤ length a → length a ≤ n + n → take n a ≡ take n b
+    → drop (length a - n) a ≡ drop (length b - n) b → a ≡ b
+equal_ends n a b len long short first last =
+    sym (take-append-drop n a) ∙ ap (λ (l : List ℕ). l ++ drop n a) first ∙ ap (λ (l : List ℕ). take n b ++ l) rest ∙ take-append-drop n b
+  where
+    skip : (l : List ℕ) → n ≤ length l → length l ≤ n + n → drop (n + n - length l) (drop (length l - n) l) ≡ drop n l
+    skip l long short =
+        let sum : length l - n + (n + n - length l) ≡ n = omega (arith, long, short) in
+        drop-drop (n + n - length l) (length l - n) l ∙ ap (λ (k : ℕ). drop k l) sum
+
+    longer : n ≤ length b
+    longer = omega (arith, len, long)
+
+    shorter : length b ≤ n + n
+    shorter = omega (arith, len, short)
+
+    rest : drop n a ≡ drop n b
+    rest =
+        sym (skip a long short) ∙ ap (λ (l : List ℕ). drop (n + n - length a) l) last ∙ ap (λ (k : ℕ). drop (n + n - k) (drop (length b - n) b)) len
+        ∙ skip b longer shorter

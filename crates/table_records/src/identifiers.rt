@@ -1,6 +1,6 @@
 //! Identifiers, numbered from 0 in the order in which they first came.
 
-ghost use Rattle.std.specs.Prelude.{◌≡◌, ◌<◌, ◌^◌, ◌∷◌, ◌++◌, ◌↔◌, [], Some, not, length, position, slice_get, option_map, IfOk, IsTrue, OnErr, if◌then◌else◌};
+ghost use Rattle.std.specs.Prelude.{◌≡◌, ◌<◌, ◌^◌, ◌∷◌, ◌++◌, ◌↔◌, ◌-◌, ◌+◌, ◌≤◌, [], Some, drop, false, not, length, position, slice_get, option_map, IfOk, IsTrue, OnErr, if◌then◌else◌};
 ghost use Rattle.std.specs.List.{list_any};
 ghost use Rattle.std.specs.Str.{bytes_eq};
 
@@ -55,12 +55,17 @@ impl Identifiers {
         self.set.get_index_of(id)
     }
 
-    /// The number of an identifier, if it is here: the same as [`Identifiers::number`], found soonest where it is `guess`.
+    /// The number of an identifier, if it is here: the same as [`Identifiers::number`], found soonest where it is `guess` or
+    /// the one after it.
     pub fn number_near(&self, id: &[u8], guess: usize) -> Option<usize>
         ensures { result ≡ position (bytes_eq id.now) self.now }
     {
         if self.has_at(id, guess) {
             return Some(guess);
+        }
+        let after = guess.saturating_add(1);
+        if self.has_at(id, after) {
+            return Some(after);
         }
         self.number(id)
     }
@@ -70,7 +75,7 @@ impl Identifiers {
         ensures { IsTrue result → position (bytes_eq id.now) self.now ≡ Some number }
     {
         let ids = self.set.as_slice();
-        number < ids.len() && ids[number].as_slice() == id
+        number < ids.len() && are_equal(ids[number].as_slice(), id)
     }
 
     /// The identifier that has this number, if there are so many.
@@ -85,16 +90,56 @@ impl Identifiers {
 
     /// Puts an identifier last unless it is here already, and says whether it was new.
     ///
-    /// Only a new identifier takes memory.
+    /// Only for a new identifier is want of memory told.
     pub fn push(&mut self, alloc: Global, id: &[u8]) -> Result<bool, AllocError>
         ensures added { IfOk result (λ added. added ≡ not (list_any (bytes_eq id.now) self.old)) }
         ensures ids { IfOk result (λ added. self.new ≡ (if added then self.old ++ id.now ∷ [] else self.old)) }
         ensures err { OnErr result (self.new ≡ self.old) }
+        ensures absent { OnErr result (list_any (bytes_eq id.now) self.old ≡ false) }
     {
-        if self.set.contains(id) {
-            return Ok(false);
+        match Vec::from_slice(alloc, id) {
+            Ok(copy) => Ok(self.set.insert(copy)?),
+            Err(_) if self.set.contains(id) => Ok(false),
+            Err(error) => Err(error),
         }
-        let id = Vec::from_slice(alloc, id)?;
-        Ok(self.set.insert(id)?)
+    }
+}
+
+// Whether two identifiers are equal. Nearly all have 4 to 16 bytes, which their first and their last ones tell in two steps.
+fn are_equal(a: &[u8], b: &[u8]) -> bool
+    ensures { IsTrue result → a.now ≡ b.now }
+{
+    if a.len() != b.len() {
+        return false;
+    }
+    match a.len() {
+        4..=8 => ends_are_equal::<4>(a, b),
+        9..=16 => ends_are_equal::<8>(a, b),
+        _ => a == b,
+    }
+}
+
+// Whether the first and the last bytes of two texts of one length are equal, so many that they are all.
+fn ends_are_equal<const N: usize>(a: &[u8], b: &[u8]) -> bool
+    requires few { N ≤ 8 }
+    requires same { length a.now ≡ length b.now }
+    requires all { length a.now ≤ N + N }
+    ensures { IsTrue result → a.now ≡ b.now }
+{
+    match (a.split_first_chunk::<N>(), b.split_first_chunk::<N>()) {
+        (Some((a_first, _)), Some((b_first, _))) => a_first == b_first && last_are_equal::<N>(a, b),
+        _ => a == b,
+    }
+}
+
+// Whether the last bytes of two texts of one length are equal.
+fn last_are_equal<const N: usize>(a: &[u8], b: &[u8]) -> bool
+    requires few { N ≤ 8 }
+    requires same { length a.now ≡ length b.now }
+    ensures { IsTrue result → drop (length a.now - N) a.now ≡ drop (length b.now - N) b.now }
+{
+    match (a.split_last_chunk::<N>(), b.split_last_chunk::<N>()) {
+        (Some((_, a_last)), Some((_, b_last))) => a_last == b_last,
+        _ => a == b,
     }
 }

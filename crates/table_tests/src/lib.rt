@@ -1,10 +1,9 @@
 //! Tests of the tables: worked rows of `table_records`, `table_files` and `gtfs_tables`, by their public calls.
 //!
 //! - `records`: records, columns, fields and identifiers.
-//! - `calendar`, `calendar_dates`, `feed_trips`, `frequencies`, `places`, `routes`, `stop_times`, `transfers`: one file each; `sizes`: files at
-//!   their limits.
+//! - `calendar`, `calendar_dates`, `feed_trips`, `frequencies`, `places`, `routes`, `stop_times`, `transfers`: one file each.
 //! - `feeds`, `feed_places`, `origins`: whole feeds (`test_feeds`), and an analyst's own files.
-//! Files that are refused are data: `.ci/fault_cases.py`.
+//! Files that are refused are data (`.ci/fault_cases.py`), and so are those past a limit (`.ci/size_runs.py`).
 //!
 //! - `test_identifiers`: identifiers of trips, stops, routes and services, which several of these are read beside.
 #![tactic(auto)]
@@ -29,8 +28,6 @@ mod places;
 mod records;
 #[cfg(test)]
 mod routes;
-#[cfg(test)]
-mod sizes;
 #[cfg(test)]
 mod stop_times;
 #[cfg(test)]

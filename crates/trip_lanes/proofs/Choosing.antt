@@ -1,10 +1,10 @@
 -- What choices between lanes give, in one lane.
-use Rattle.std.proofs.Common.{sym, true, false, ◌^◌, ◌≡◌, ℕ, cond, ltb, leb, eqb, ◌≢◌, ◌+◌, ◌-◌, ◌%◌, ◌<◌, ◌≤◌, List, length, get_or, slice_index, replicate, refl, ◌∙◌}
-use Rattle.std.proofs.lemmas.Bool.{false≢true, lt-ltb, le-leb, lt-leb, eq-eqb, ne_eqb}
+use Rattle.std.proofs.Common.{sym, true, false, ◌^◌, ◌≡◌, ℕ, cond, ltb, leb, eqb, ◌≢◌, ◌+◌, ◌-◌, ◌%◌, ◌<◌, ◌≤◌, List, length, get_or, slice_index, replicate, refl, ◌∙◌, ap, inl, inr}
+use Rattle.std.proofs.lemmas.Bool.{cases_eq, false≢true, lt-ltb, le-leb, lt-leb, eq-eqb, ne_eqb}
 use Rattle.std.proofs.lemmas.Simd.{get_or-replicate, length-replicate}
 use Rattle.timetable.specs.declared.least.TheConstants.{NEVER}
 use Rattle.std.specs.Prelude.{Bool, not, IsTrue, nat_eq}
-use Rattle.trip_lanes.proofs.Select.{tops_of, each_holds, chosen, length-chosen, sel_at, less}
+use Rattle.trip_lanes.proofs.Select.{tops_of, each_holds, all_hold, chosen, length-chosen, sel_at, less}
 use Rattle.trip_lanes.specs.Since.{IsSinceTo}
 use lib.Lanes.{mask_l}
 use mir.Syntax.{Width}
@@ -84,3 +84,26 @@ module _ (w : Width) (n : ℕ) where
       let time : get_or counted l 0 ≡ get_or times l 0 = sel_at w n eqb departs fars (replicate n 0) times l h departs_len fars_len none_len times_len ∙ rw dead refl in
       let same : eqb (get_or counted l 0) (get_or fars l 0) ≡ true = eq-eqb (get_or counted l 0) (get_or fars l 0) (time ∙ (late ∙ sym far_there)) in
       false≢true (rw same at other)
+
+  -- and where each lane that departs is, they are
+  pub all_reached : n ≤ 64 → (far : ℕ) (times departs : List ℕ) → length times ≡ n → length departs ≡ n → 0 ≢ far
+      → ((l : ℕ) → l < n → slice_index departs l ≢ far → slice_index times l ≢ far)
+      → IsTrue (nat_eq (mask_l (tops_of w (λ a b. not (eqb a b)) (chosen w eqb departs (replicate n far) (replicate n 0) times) (replicate n far)) % 2 ^ 64) (2 ^ n - 1))
+  all_reached few far times departs times_len departs_len some each =
+      let fars = replicate n far in
+      let fars_len : length fars ≡ n = length-replicate n far in
+      let none_len : length (replicate n 0) ≡ n = length-replicate n 0 in
+      let counted = chosen w eqb departs fars (replicate n 0) times in
+      let counted_len = length-chosen w n eqb departs fars (replicate n 0) times departs_len fars_len none_len times_len in
+      all_hold w n few (λ a b. not (eqb a b)) counted fars counted_len fars_len (λ l h.
+      let far_there : get_or fars l 0 ≡ far = get_or-replicate {A = ℕ} n l far 0 h in
+      elim (cases_eq (get_or departs l 0) far) [
+        | inl dead ↦
+            let same = eq-eqb (get_or departs l 0) (get_or fars l 0) (dead ∙ sym far_there) in
+            let zero : get_or counted l 0 ≡ 0 = sel_at w n eqb departs fars (replicate n 0) times l h departs_len fars_len none_len times_len ∙ rw same (get_or-replicate {A = ℕ} n l 0 0 h) in
+            ap not (ne_eqb (get_or counted l 0) (get_or fars l 0) (λ e. some (sym zero ∙ (e ∙ far_there))))
+        | inr live ↦
+            let other = ne_eqb (get_or departs l 0) (get_or fars l 0) (λ e. live (e ∙ far_there)) in
+            let time : get_or counted l 0 ≡ get_or times l 0 = sel_at w n eqb departs fars (replicate n 0) times l h departs_len fars_len none_len times_len ∙ rw other refl in
+            ap not (ne_eqb (get_or counted l 0) (get_or fars l 0) (λ e. each l h live (sym time ∙ (e ∙ far_there))))
+      ])

@@ -73,7 +73,7 @@ pub trait Row: Copy + Drop {
 
     /// Whether every lane that departs has a label below `NEVER`.
     fn is_reached(self, departs: Self) -> bool
-        ensures { IsTrue result → (l : ℕ) → l < LANES → slice_index (labels departs) l ≢ NEVER → slice_index (labels self) l ≢ NEVER };
+        ensures { IsTrue result ↔ ((l : ℕ) → l < LANES → slice_index (labels departs) l ≢ NEVER → slice_index (labels self) l ≢ NEVER) };
 
     /// How far these labels fell.
     fn fall(self, before: Self) -> Fall

@@ -11,12 +11,10 @@ use Rattle.rounds.proofs.Unique.{durations_unique}
 use Rattle.shares.specs.Opportunities.{access_of}
 use Rattle.shares.proofs.Unique.{cells_unique}
 use Rattle.collector.specs.Row.{CellsData, RowData}
-use Rattle.collector.specs.Places.{MatrixData}
 use Rattle.collector.proofs.Divide.{scenario_below, origin_below, joined}
 use Rattle.workers.specs.Study.{Query, StudyData}
 use Rattle.workers.specs.Rows.{at_stops, IsOfShare, IsRow, IsRowOf}
-use Rattle.workers.specs.Matrices.{IsMatrix}
-use Rattle.workers.specs.Laws.{all_stops, matrix_at, row_at, study_to, with_columns, MatricesHaveTheirColumns, RowsHaveTheirColumns}
+use Rattle.workers.specs.Laws.{all_stops, row_at, study_to, with_columns, MatricesHaveTheirColumns, RowsHaveTheirColumns}
 
 abbrev stop_no : ℕ → StopNo
 stop_no m = record { 0 = m }

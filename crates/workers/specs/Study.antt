@@ -1,5 +1,5 @@
 -- A study: the networks of its scenarios, the origins, what each stop counts for, and what is asked of every network.
-use Rattle.std.specs.Prelude.{◌≡◌, ℕ, ◌<◌, ◌≤◌, List, length, All}
+use Rattle.std.specs.Prelude.{◌≡◌, ℕ, Bool, ◌&&◌, nat_le, ◌<◌, ◌≤◌, List, length, All}
 use Rattle.std.specs.List.Sorted.{IsStrictlyIncreasing}
 use Rattle.timetable.specs.declared.trips.StopNo.{StopNo}
 use Rattle.timetable.specs.declared.limits.TheConstants.{MOST_STOPS}
@@ -40,6 +40,10 @@ study_of s = record {
   opportunities = s.opportunities.now;
   query = query_of s.asked;
 }
+
+-- a share is of a hundred minutes
+abbrev pub is_share : ℕ → Bool
+is_share n = nat_le 1 n && nat_le n 100
 
 -- shares to ask for: some, few, each above the one before, and all of a hundred minutes
 pub record SharesFit (shares : List ℕ) : Type 0 where

@@ -1,5 +1,6 @@
 //! Why a run gave no matrix.
 
+use std::alloc::AllocError;
 use thiserror::Error;
 
 /// Why a run gave no matrix. Of several that are true the first is answered.
@@ -27,5 +28,16 @@ impl RunFault {
             RunFault::Spawn => "no worker started",
             RunFault::Unfinished { .. } => "unfinished",
         }
+    }
+}
+
+impl From<AllocError> for RunFault {
+    ghost use Rattle.std.specs.Prelude.{◌≡◌};
+    ghost use Rattle.workers.specs.declared.faults.RunFault.TheVariants.{Memory};
+
+    ghost from_gives = { λ _ fault. fault ≡ Memory };
+
+    fn from(_: AllocError) -> RunFault {
+        RunFault::Memory
     }
 }

@@ -22,10 +22,8 @@ pub fn one_thread(alloc: Global, study: &Study) -> Result<Matrix, RunFault>
     ensures shape { IfOk result (λ matrix. HasShape (study_of study.now) matrix) }
     ensures memory { IfErr result (λ fault. fault ≡ RunFault.Memory) }
 {
-    match filled(alloc, study) {
-        Ok(collector) => Ok(finished(study, collector)),
-        Err(_) => Err(RunFault::Memory),
-    }
+    let collector = filled(alloc, study)?;
+    Ok(finished(study, collector))
 }
 
 /// The matrix of places that all have their rows.

@@ -57,15 +57,9 @@ pub fn run_workers<G: Gate + Sync, R: Threads + Wait + Sync>(
     ensures fault { IfErr result (λ fault.
         IsFaultOf (study_of study.now) (G.decides gate.now) (G.was_told gate.now) board.now workers (seen_by seat.old) (seen_by seat.new) fault) }
 {
-    let Ok(mut collector) = empty_places(alloc, study) else {
-        return Err(RunFault::Memory);
-    };
-    let Ok(seats) = split_all(alloc, board, seat, workers as usize) else {
-        return Err(RunFault::Memory);
-    };
-    let Ok(worked) = run_all(rt, alloc, study, board, seats, gate) else {
-        return Err(RunFault::Memory);
-    };
+    let mut collector = empty_places(alloc, study)?;
+    let seats = split_all(alloc, board, seat, workers as usize)?;
+    let worked = run_all(rt, alloc, study, board, seats, gate)?;
     let started = !worked.is_empty();
     let short = gather(board, seat, &mut collector, worked);
     matrix_of(collector, short, started)

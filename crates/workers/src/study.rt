@@ -1,7 +1,8 @@
 //! Studies: what is asked of the networks.
-ghost use Rattle.std.specs.Prelude.{◌≡◌, ◌<◌, ◌↔◌, IsTrue, All, length};
+ghost use Rattle.std.specs.Prelude.{◌≡◌, ◌<◌, ◌≤◌, ◌↔◌, IsTrue, All, length};
+ghost use Rattle.std.specs.List.{list_all};
 ghost use Rattle.std.specs.List.Sorted.{IsStrictlyIncreasing};
-ghost use Rattle.workers.specs.Study.{study_of, SharesFit, LimitsFit, StudyFits};
+ghost use Rattle.workers.specs.Study.{study_of, is_share, SharesFit, LimitsFit, StudyFits};
 ghost use Rattle.workers.specs.declared.study.TheConstants as limit;
 
 use rounds::Window;
@@ -84,10 +85,7 @@ impl Study<'_> {
 pub fn shares_fit(shares: &[u32]) -> bool
     ensures { IsTrue result ↔ SharesFit shares.now }
 {
-    1 <= shares.len()
-        && shares.len() <= MOST_SHARES
-        && are_rising(shares)
-        && shares.iter().all(|share| 1 <= *share && *share <= 100)
+    1 <= shares.len() && shares.len() <= MOST_SHARES && are_rising(shares) && are_shares(shares)
 }
 
 /// Whether these are limits to ask for: 1 to 8 of them, each above the one before.
@@ -97,16 +95,19 @@ pub fn limits_fit(limits: &[u32]) -> bool
     1 <= limits.len() && limits.len() <= MOST_LIMITS && are_rising(limits)
 }
 
+/// Whether each number is a share of a hundred minutes, 1 to 100.
+pub fn are_shares(numbers: &[u32]) -> bool
+    ensures value { result ≡ list_all is_share numbers.now }
+    ensures each { IsTrue result ↔ All (λ share. (1 ≤ share) × (share ≤ 100)) numbers.now }
+{
+    numbers.iter().all(|share| 1 <= *share && *share <= 100)
+}
+
 /// Whether each number is above the one before.
-fn are_rising(numbers: &[u32]) -> bool
+pub fn are_rising(numbers: &[u32]) -> bool
     ensures { IsTrue result ↔ IsStrictlyIncreasing numbers.now }
 {
-    for k in 1..numbers.len() {
-        if numbers[k] <= numbers[k - 1] {
-            return false;
-        }
-    }
-    true
+    numbers.windows(2).all(|pair| pair[0] < pair[1])
 }
 
 /// Whether each network has so many stops.

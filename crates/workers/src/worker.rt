@@ -46,12 +46,20 @@ pub(crate) enum Next {
     End(Ending),
 }
 
+/// What a worker has in hand: a search for all its rows, its seat, and the rows that it holds.
+#[derive(Drop)]
+struct Hands {
+    search: Search,
+    seat: WorkSeat,
+    rows: Vec<Row>,
+}
+
 /// Draws leases until there is none, and does with each what the gate says, all with one search.
 pub(crate) fn work<G: Gate>(
     alloc: Global,
     study: &Study,
     board: &Board,
-    mut seat: WorkSeat,
+    seat: WorkSeat,
     gate: &G,
 ) -> Worked
     requires fits { StudyFits (study_of study.now) }
@@ -60,66 +68,63 @@ pub(crate) fn work<G: Gate>(
     requires empty { ((seen_by seat).drawn ≡ []) × ((seen_by seat).kept ≡ []) }
     ensures { WorkedFor board.now (study_of study.now) (G.decides gate.now) (G.was_told gate.now) result }
 {
-    let mut search = Search::new(alloc);
-    let mut rows = Vec::new(alloc);
-    while let Draw::Lease(lease) = board.draw(&mut seat) {
-        match take(
-            alloc,
-            &mut search,
-            study,
-            board,
-            &mut seat,
-            gate,
-            lease,
-            &mut rows,
-        ) {
+    let mut hands = Hands {
+        search: Search::new(alloc),
+        seat,
+        rows: Vec::new(alloc),
+    };
+    while let Draw::Lease(lease) = board.draw(&mut hands.seat) {
+        match take(alloc, study, board, gate, &mut hands, lease) {
             Next::Draw => {}
-            Next::End(ending) => return Worked { seat, rows, ending },
+            Next::End(ending) => return given_back(hands, ending),
         }
     }
-    Worked {
-        seat,
-        rows,
-        ending: Ending::Nothing,
-    }
+    given_back(hands, Ending::Nothing)
+}
+
+/// What a worker gives back of what it has in hand.
+fn given_back(hands: Hands, ending: Ending) -> Worked
+    ensures { result ≡ record { seat = hands.seat; rows = hands.rows; ending = ending } }
+{
+    let Hands { search, seat, rows } = hands;
+    drop(search);
+    Worked { seat, rows, ending }
 }
 
 /// Passes over a lease whose job is settled, of which the gate isn't asked, and else does what the gate says.
 fn take<G: Gate>(
     alloc: Global,
-    search: &mut Search,
     study: &Study,
     board: &Board,
-    seat: &mut WorkSeat,
     gate: &G,
+    hands: &mut Hands,
     lease: Lease,
-    rows: &mut Vec<Row>,
 ) -> Next
     requires fits { StudyFits (study_of study.now) }
     requires jobs { board.now.jobs ≡ jobs_of (study_of study.now) }
-    requires board { IsOf board.now seat.old }
-    requires lease { IsLease board.now lease × HasDrawn (seen_by seat.old) lease }
+    requires board { IsOf board.now hands.old.seat }
+    requires lease { IsLease board.now lease × HasDrawn (seen_by hands.old.seat) lease }
     requires job { lease.job < board.now.jobs }
-    requires rows { HoldsRows (study_of study.now) rows.old.items (seen_by seat.old).kept }
-    ensures board { IsOf board.now seat.new }
-    ensures drawn { ((seen_by seat.new).drawn ≡ (seen_by seat.old).drawn) × ((seen_by seat.new).told ≡ (seen_by seat.old).told) }
-    ensures rows { HoldsRows (study_of study.now) rows.new.items (seen_by seat.new).kept }
-    ensures told { AreTold (G.was_told gate.now) (seen_by seat.old).kept → AreTold (G.was_told gate.now) (seen_by seat.new).kept }
-    ensures known { KnowsAsMuch (seen_by seat.old) (seen_by seat.new) }
-    ensures next { LeavesAs (G.decides gate.now) lease (seen_by seat.new) result }
+    requires rows { HoldsRows (study_of study.now) hands.old.rows.items (seen_by hands.old.seat).kept }
+    ensures board { IsOf board.now hands.new.seat }
+    ensures drawn { ((seen_by hands.new.seat).drawn ≡ (seen_by hands.old.seat).drawn) × ((seen_by hands.new.seat).told ≡ (seen_by hands.old.seat).told) }
+    ensures rows { HoldsRows (study_of study.now) hands.new.rows.items (seen_by hands.new.seat).kept }
+    ensures told { AreTold (G.was_told gate.now) (seen_by hands.old.seat).kept → AreTold (G.was_told gate.now) (seen_by hands.new.seat).kept }
+    ensures known { KnowsAsMuch (seen_by hands.old.seat) (seen_by hands.new.seat) }
+    ensures next { LeavesAs (G.decides gate.now) lease (seen_by hands.new.seat) result }
 {
-    if board.look(seat, lease.job) {
+    if board.look(&mut hands.seat, lease.job) {
         return Next::Draw;
     }
-    match ask(gate, seat, &lease) {
+    match ask(gate, &hands.seat, &lease) {
         Verdict::Work => {
-            let done = settle_once(alloc, search, study, board, seat, gate, lease, rows);
+            let done = settle_once(alloc, study, board, gate, hands, lease);
             next_of(done)
         }
         Verdict::Lose => Next::Draw,
         Verdict::Vanish => Next::End(Ending::Vanished),
         Verdict::Repeat => {
-            let done = settle_twice(alloc, search, study, board, seat, gate, lease, rows);
+            let done = settle_twice(alloc, study, board, gate, hands, lease);
             next_of(done)
         }
     }
@@ -149,77 +154,60 @@ fn ask<G: Gate>(gate: &G, _seat: &WorkSeat, lease: &Lease) -> Verdict
 /// All memory is taken before the lease is settled, so that no kept job lacks its row.
 fn settle_once<G: Gate>(
     alloc: Global,
-    search: &mut Search,
     study: &Study,
     board: &Board,
-    seat: &mut WorkSeat,
     gate: &G,
+    hands: &mut Hands,
     lease: Lease,
-    rows: &mut Vec<Row>,
 ) -> Result<(), AllocError>
     requires fits { StudyFits (study_of study.now) }
     requires jobs { board.now.jobs ≡ jobs_of (study_of study.now) }
-    requires board { IsOf board.now seat.old }
-    requires lease { IsLease board.now lease × HasDrawn (seen_by seat.old) lease }
+    requires board { IsOf board.now hands.old.seat }
+    requires lease { IsLease board.now lease × HasDrawn (seen_by hands.old.seat) lease }
     requires job { lease.job < board.now.jobs }
-    requires rows { HoldsRows (study_of study.now) rows.old.items (seen_by seat.old).kept }
-    ensures board { IsOf board.now seat.new }
-    ensures drawn { ((seen_by seat.new).drawn ≡ (seen_by seat.old).drawn) × ((seen_by seat.new).told ≡ (seen_by seat.old).told) }
-    ensures rows { HoldsRows (study_of study.now) rows.new.items (seen_by seat.new).kept }
-    ensures heard { IfOk result (λ _. IsHeard (G.was_told gate.now) lease (seen_by seat.old) (seen_by seat.new)) }
-    ensures told { AreTold (G.was_told gate.now) (seen_by seat.old).kept → AreTold (G.was_told gate.now) (seen_by seat.new).kept }
-    ensures known { KnowsAsMuch (seen_by seat.old) (seen_by seat.new) }
-    ensures settled { IfOk result (λ _. knows (seen_by seat.new) lease.job ≡ true) }
+    requires rows { HoldsRows (study_of study.now) hands.old.rows.items (seen_by hands.old.seat).kept }
+    ensures board { IsOf board.now hands.new.seat }
+    ensures drawn { ((seen_by hands.new.seat).drawn ≡ (seen_by hands.old.seat).drawn) × ((seen_by hands.new.seat).told ≡ (seen_by hands.old.seat).told) }
+    ensures rows { HoldsRows (study_of study.now) hands.new.rows.items (seen_by hands.new.seat).kept }
+    ensures heard { IfOk result (λ _. IsHeard (G.was_told gate.now) lease (seen_by hands.old.seat) (seen_by hands.new.seat)) }
+    ensures told { AreTold (G.was_told gate.now) (seen_by hands.old.seat).kept → AreTold (G.was_told gate.now) (seen_by hands.new.seat).kept }
+    ensures known { KnowsAsMuch (seen_by hands.old.seat) (seen_by hands.new.seat) }
+    ensures settled { IfOk result (λ _. knows (seen_by hands.new.seat) lease.job ≡ true) }
 {
-    let row = row_of_job(alloc, search, study, lease.job)?;
-    rows.reserve(1)?;
-    let settled = board.settle(seat, lease);
+    let row = row_of_job(alloc, &mut hands.search, study, lease.job)?;
+    hands.rows.reserve(1)?;
+    let settled = board.settle(&mut hands.seat, lease);
     gate.after(&lease, settled);
     if let Settled::Kept = settled {
-        rows.push_reserved(row);
+        hands.rows.push_reserved(row);
     }
     Ok(())
 }
 
-/// The same with two rows and two settles. Where the first settle keeps the job, both rows are held.
+/// The same twice, one after the other. At most the first settle keeps the job.
 fn settle_twice<G: Gate>(
     alloc: Global,
-    search: &mut Search,
     study: &Study,
     board: &Board,
-    seat: &mut WorkSeat,
     gate: &G,
+    hands: &mut Hands,
     lease: Lease,
-    rows: &mut Vec<Row>,
 ) -> Result<(), AllocError>
     requires fits { StudyFits (study_of study.now) }
     requires jobs { board.now.jobs ≡ jobs_of (study_of study.now) }
-    requires board { IsOf board.now seat.old }
-    requires lease { IsLease board.now lease × HasDrawn (seen_by seat.old) lease }
+    requires board { IsOf board.now hands.old.seat }
+    requires lease { IsLease board.now lease × HasDrawn (seen_by hands.old.seat) lease }
     requires job { lease.job < board.now.jobs }
-    requires rows { HoldsRows (study_of study.now) rows.old.items (seen_by seat.old).kept }
-    ensures board { IsOf board.now seat.new }
-    ensures drawn { ((seen_by seat.new).drawn ≡ (seen_by seat.old).drawn) × ((seen_by seat.new).told ≡ (seen_by seat.old).told) }
-    ensures rows { HoldsRows (study_of study.now) rows.new.items (seen_by seat.new).kept }
+    requires rows { HoldsRows (study_of study.now) hands.old.rows.items (seen_by hands.old.seat).kept }
+    ensures board { IsOf board.now hands.new.seat }
+    ensures drawn { ((seen_by hands.new.seat).drawn ≡ (seen_by hands.old.seat).drawn) × ((seen_by hands.new.seat).told ≡ (seen_by hands.old.seat).told) }
+    ensures rows { HoldsRows (study_of study.now) hands.new.rows.items (seen_by hands.new.seat).kept }
     ensures heard { IfOk result (λ _.
-        (between : View) × IsHeard (G.was_told gate.now) lease (seen_by seat.old) between × IsHeard (G.was_told gate.now) lease between (seen_by seat.new)) }
-    ensures told { AreTold (G.was_told gate.now) (seen_by seat.old).kept → AreTold (G.was_told gate.now) (seen_by seat.new).kept }
-    ensures known { KnowsAsMuch (seen_by seat.old) (seen_by seat.new) }
-    ensures settled { IfOk result (λ _. knows (seen_by seat.new) lease.job ≡ true) }
+        (between : View) × IsHeard (G.was_told gate.now) lease (seen_by hands.old.seat) between × IsHeard (G.was_told gate.now) lease between (seen_by hands.new.seat)) }
+    ensures told { AreTold (G.was_told gate.now) (seen_by hands.old.seat).kept → AreTold (G.was_told gate.now) (seen_by hands.new.seat).kept }
+    ensures known { KnowsAsMuch (seen_by hands.old.seat) (seen_by hands.new.seat) }
+    ensures settled { IfOk result (λ _. knows (seen_by hands.new.seat) lease.job ≡ true) }
 {
-    let row = row_of_job(alloc, search, study, lease.job)?;
-    let again = row_of_job(alloc, search, study, lease.job)?;
-    rows.reserve(2)?;
-    let first = board.settle(seat, lease);
-    gate.after(&lease, first);
-    let second = board.settle(seat, lease);
-    gate.after(&lease, second);
-    match first {
-        Settled::Kept => {
-            rows.push_reserved(row);
-            rows.push_reserved(again);
-        }
-        Settled::Double => {}
-    }
-    Ok(())
+    settle_once(alloc, study, board, gate, hands, lease)?;
+    settle_once(alloc, study, board, gate, hands, lease)
 }

@@ -3,6 +3,7 @@ is allowed.
 """
 
 import importlib.util
+import shutil
 import sys
 from typing import Sequence
 
@@ -29,7 +30,7 @@ class BadInput(Exception):
 
 
 class Lacking(Exception):
-    """A package that a command needs and that this Python hasn't."""
+    """A package or a program that a command needs and that isn't here."""
 
     status = 1
 
@@ -57,6 +58,12 @@ def needs(*packages: str) -> None:
             f"this Python, {sys.executable}, has no {' and no '.join(lacking)}: "
             f"apt-get install {debian} and take /usr/bin/python3, or pip install {' '.join(lacking)}"
         )
+
+
+def needs_program(program: str, package: str) -> None:
+    """Tells in one line which program isn't there, and which package of Debian has it."""
+    if shutil.which(program) is None:
+        raise Lacking(f"no program {program}: apt-get install {package}")
 
 
 def some(names: Sequence[str], most: int = 4) -> str:

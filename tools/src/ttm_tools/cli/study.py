@@ -50,6 +50,10 @@ def run(words: argparse.Namespace) -> int:
 
     if sum([words.new, words.verify is not None, words.study is not None]) != 1:
         raise WrongWords("one of STUDY, --new and --verify is needed")
+    if words.part is not None and words.study is None:
+        raise WrongWords("--part goes with the folder of a study")
+    if words.seed is not None and words.verify is None:
+        raise WrongWords("--seed goes with --verify")
     if words.slurm and words.hosts:
         raise WrongWords("--slurm and --hosts are two ways: one of them")
     if words.option and not (words.slurm or words.hosts):
@@ -60,8 +64,9 @@ def run(words: argparse.Namespace) -> int:
 
         sys.stdout.write(template())
         return 0
-    from ..study.cluster import Means, one_part
+    from ..study.elsewhere import Means
     from ..study.study_file import read_study
+    from ..study.task import one_part
     from ..study.work import make_study
     from ..threads import processors
 

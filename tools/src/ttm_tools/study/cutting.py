@@ -2,8 +2,8 @@
 
 import json
 import math
+import resource
 import socket
-import time
 from dataclasses import asdict, dataclass, replace
 from pathlib import Path
 from typing import Any, Sequence
@@ -27,8 +27,8 @@ MB = 1_000_000
 class Costs:
     """What a run takes."""
 
-    setup: float  # seconds, before the first origin
-    each: float  # seconds of an origin, with one thread
+    setup: float  # seconds of a processor, before the first origin
+    each: float  # and of an origin
     network: int  # bytes, without rows
     row: int  # bytes of an origin's rows
     free: int  # bytes that the machine has
@@ -118,14 +118,20 @@ def parts_for(origins: Sequence[str], count: int, key: str) -> list[Part]:
     return [Part(number, some, key_of({"study": key, "origins": list(some)})) for number, some in enumerate(cut, 1)]
 
 
+def processor_time() -> float:
+    """Seconds of processors that all processes took which were begun here and have ended."""
+    used = resource.getrusage(resource.RUSAGE_CHILDREN)
+    return used.ru_utime + used.ru_stime
+
+
 def trial(inputs: Inputs, origins: Sequence[str], room: Path) -> tuple[float, Report]:
-    """How long a run of some origins takes, and what it reports."""
+    """The processor time of a run of some origins, which other work beside it hardly changes; and its report."""
     path = room / "origins.csv"
     with open(path, "wb") as file:
         write_stops(file, origins)
-    begin = time.monotonic()
+    begin = processor_time()
     report = report_of(with_origins(inputs.run, str(path), 1))
-    return time.monotonic() - begin, report
+    return processor_time() - begin, report
 
 
 def costs_of(inputs: Inputs, origins: Sequence[str], room: Path) -> Costs:

@@ -13,6 +13,7 @@ from ..files import sum_of
 from .inputs import Inputs
 from .report import sources_of
 from .stages import Record, as_text, logged, sum_of_tools, write_settled
+from .ttm import facts_of
 from .wishes import Study
 
 NOTES, FORM = "study.json", 1
@@ -32,11 +33,6 @@ def versions(ttm: Sequence[str]) -> dict[str, Any]:
     return made
 
 
-def run_facts(inputs: Inputs) -> dict[str, Any]:
-    """The words of the run, as data."""
-    return {**vars(inputs.run), "files": {name: str(path) for name, path in inputs.run.files.items()}}
-
-
 def write_notes(study: Study, inputs: Inputs, records: dict[str, Record], ttm: Sequence[str], parts: int) -> None:
     """Writes what was done, unless that stands there already."""
     made = {**inputs.records, **records}
@@ -47,7 +43,7 @@ def write_notes(study: Study, inputs: Inputs, records: dict[str, Record], ttm: S
         "study_file": study.path.read_text(encoding="utf-8-sig"),
         "sources": sources_of(study),
         "words": inputs.run.words(),
-        "run": run_facts(inputs),
+        "run": facts_of(inputs.run),
         "parts": parts,
         "stages": {name: {"key": it.key, "told": it.lines, "files": it.outputs} for name, it in made.items()},
         "versions": versions(ttm),

@@ -13,7 +13,7 @@ import tempfile
 import time
 from dataclasses import dataclass, replace
 from pathlib import Path
-from typing import Sequence
+from typing import Any, Sequence
 
 from ..engine import EngineFault, Run, program_at
 from ..faults import one_line
@@ -46,6 +46,11 @@ def version_of(program: str) -> list[str]:
 
 def with_origins(run: Run, origins: str, threads: int) -> Run:
     return replace(run, workers=threads, files={**run.files, "origins": origins})
+
+
+def facts_of(run: Run) -> dict[str, Any]:
+    """The words of a run as data, of which `Run(**facts)` makes it again."""
+    return {**vars(run), "files": {name: str(path) for name, path in run.files.items()}}
 
 
 @dataclass(frozen=True)

@@ -21,7 +21,7 @@ from .joining import CSV, MATRIX
 from .notes import NOTES, read_notes
 from .stages import held, room, say
 from .ttm import version_of
-from .work import found_program
+from .work import found_program, sweep
 
 OF_ALL = 10  # one in so many rows is computed again
 
@@ -30,6 +30,7 @@ def verify(folder: Path, seed: int | None, workers: int) -> None:
     """Tells the first file that isn't as it was, or row that `ttm` computes in another way."""
     notes = read_notes(folder)
     with found_program(), held(folder), contextlib.chdir(folder):
+        sweep(Path("."), inside_parts=False)
         files = {name: was for stage in notes["stages"].values() for name, was in stage["files"].items()}
         refuse_changed(files)
         say(f"sums: {len(files)} files are as {NOTES} says")

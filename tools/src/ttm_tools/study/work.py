@@ -14,8 +14,8 @@ from ..files import is_running, remove
 from ..matrices import open_matrix
 from ..parts import origins_in
 from ..views.page.document import LEAFLET, leaflet_files
-from .cluster import Means, run_elsewhere
 from .cutting import PARTS, cut_of, parts_noted, study_key, trial
+from .elsewhere import Means, run_elsewhere
 from .inputs import Inputs, make_inputs
 from .joining import CSV, MATRIX, join_parts
 from .maps import make_maps
@@ -129,7 +129,7 @@ def matrix_stage(study: Study, inputs: Inputs, key: str, version: list[str], mea
         else:
             failed = run_parts(inputs.run, parts, shape.at_once, shape.threads)
         refuse_failed(failed, len(parts))
-        return join_parts(parts, with_csv, inputs.left_out, inputs.destinations, means.at_once)
+        return join_parts(parts, with_csv, inputs.left_out, inputs.destinations, means.threads)
 
     depends = {"study": key, "origins": inputs.records["origins"].outputs, "csv": with_csv}
     depends |= {"shown": inputs.destinations, "left_out": inputs.left_out, "form": FORM}

@@ -44,6 +44,8 @@ loop-i-init g c =
         due = c.requires.tables.due;
       };
       labels = c.requires.labels;
+      late = c.requires.last;
+      lower = λ p. omega arith;
       last = λ _. refl;
       next = λ batch e pos. absurd (omega arith);
       bounds = λ base k at few.
@@ -184,6 +186,8 @@ loop-i-preserved g c =
     record {
       tables = c.run_bounded.ensures.tables;
       labels = c.write_batch.ensures.same ∙ old.labels;
+      late = c.in_ok-are_told_of_reached.ensures.last;
+      lower = λ p. let now = c.are_told_of_reached.ensures.falls p in let was = old.lower p in omega (arith, now, was);
       last = λ e. absurd (omega arith);
       next = λ b e pos. let f = of_batch b e in omega (arith, f, same);
       bounds = λ sooner k at few.
@@ -196,11 +200,10 @@ loop-i-preserved g c =
                 let h : k < lanes = omega (arith, lt, some) in
                 let at : lanes * batch + k ≡ m = omega (arith, f, le) in
                 let t = (c.minutely-departs.ensures k h).live (omega (arith, l, f, le, same)) in
-                let in_ready : p < length c.as_slice-ready.result.now = omega (arith, within p there, ap length c.as_slice-ready.ensures.value) in
                 let departs : time k ≢ never = λ late. omega (arith, late, t, h, base.near) in
-                let told : arrival (ride k) (ready k) p ≡ never → slice_index c.args.last.now p < c.base_of-base.result + never = λ late. c.are_told.ensures.told c.if-not-are_told.false k p h in_ready departs (rw (c.as_slice-ride.ensures.value, c.as_slice-ready.ensures.value) late) in
+                let told : arrival (ride k) (ready k) p ≡ never → slice_index c.are_told_of_reached.new.last p < c.base_of-base.result + never = λ late. c.in_ok-are_told_of_reached.ensures.told c.if-not-branch.false k p h (within p there) departs late in
                 subst (λ (i : ℕ). IsLeastOrNever (IsDuration n c.args.query.origin.0 (departure w m) c.args.query.rides p) (label_of w.minutes c.write_batch.new.labels p i)) at
-                (lane_minute n c.known.ensures c.base_of-base.result never c.args.query.origin.0 (time k) (departure w m) (omega (arith, t, at, same, base.within)) (elim base.before [ inl none ↦ inr none | inr before ↦ inl (omega (arith, before, t)) ]) c.args.query.rides (ride k) (ready k) (c.run_bounded.ensures.states k h) p there c.args.last.now c.requires.last (omega (arith, g.met.R.Row.never_fits)) (omega (arith, at, h, same, base.near, base.within)) told _
+                (lane_minute n c.known.ensures c.base_of-base.result never c.args.query.origin.0 (time k) (departure w m) (omega (arith, t, at, same, base.within)) (elim base.before [ inl none ↦ inr none | inr before ↦ inl (omega (arith, before, t)) ]) c.args.query.rides (ride k) (ready k) (c.run_bounded.ensures.states k h) p there w.first c.are_told_of_reached.new.last c.in_ok-are_told_of_reached.ensures.last (omega arith) (omega (arith, g.met.R.Row.never_fits)) (omega (arith, at, h, same, base.near, base.within)) told _
                 (c.write_batch.ensures.written k p h (within p there) (omega (arith, at, l))))
             | inr ge ↦
                 subst (λ (y : ℕ). IsLeastOrNever (IsDuration n c.args.query.origin.0 (departure w m) c.args.query.rides p) y) (sym (kept p m (omega (arith, l)) ge)) (old.each (batch + 1) p m (omega (arith, c.loop-i-test.true)) there l (omega (arith, after, ge)))

@@ -1,4 +1,4 @@
-use Rattle.std.proofs.Common.{◌≡◌, ℕ, ◌+◌, ◌*◌, ◌<◌, ◌≤◌, length}
+use Rattle.std.proofs.Common.{◌≡◌, ℕ, ◌+◌, ◌*◌, ◌<◌, ◌≤◌, length, slice_index}
 use Rattle.timetable.specs.declared.least.TheConstants.{NEVER}
 use Rattle.timetable.specs.Least.{IsLeastOrNever}
 use Rattle.timetable.specs.Journeys.{IsDuration}
@@ -8,6 +8,7 @@ use Rattle.rounds.specs.Table.{batches_of, label_of}
 use Rattle.rounds.specs.Cut.{cut_net}
 use Rattle.rounds.specs.Labels.{LaneStateTo}
 use Rattle.rounds.specs.Batches.{start_at, bounds_in}
+use Rattle.rounds.specs.Last.{AreLastFrom}
 use Rattle.rounds.specs.Query.{AreTablesFor}
 use Rattle.rounds.proofs.Batch.{IsBaseTo}
 use Rattle.rounds.proofs.batches.run_window.Given as goal
@@ -17,6 +18,8 @@ invariant-loop-i g v =
     record {
       tables : AreTablesFor v.query.network.now.stops v.query.lines.now v.tables;
       labels : length v.labels ≡ v.query.network.now.stops * batches_of v.query.window.minutes;
+      late : AreLastFrom v.query.network.now v.query.origin.0 v.query.window.first v.query.rides v.last;
+      lower : (p : ℕ) → slice_index v.last p ≤ slice_index v.initial.last p;
       last : v.i ≡ 0 → v.later ≡ NEVER;
       next : (batch : ℕ) → batch + v.i ≡ v.batches → 0 < v.i → v.later ≡ departure v.query.window (g.R.Row.LANES * batch);
       bounds : (base k : ℕ) → IsBaseTo g.R.Row.NEVER v.later base → k ≤ v.query.rides →

@@ -50,15 +50,13 @@ walk_marked-requires-clause-settled g c l x h within none =
     let origin = c.args.query.origin.0 in
     let later = start_at c.args.query (cut base never c.args.batch.later) in
     let start = rw (cleared never (length c.as_mut_slice-ready.result.now) n.stops l (rows c.clear-2.new.labels) (c.clear-2.ensures l h) (ap length c.as_mut_slice-ready.ensures.value ∙ c.requires.tables.ready)) at (c.begin.ensures.lanes l h) in
-    let low = rw (cleared never (length c.as_mut_slice-ride.result.now) n.stops l (rows c.clear.new.labels) (c.clear.ensures l h) (ap length c.as_mut_slice-ride.ensures.value ∙ c.requires.tables.ride)) at (c.lower_row.ensures.lanes l h) in
+    let low = rw (cleared never (length c.as_mut_slice-ride.result.now) n.stops l (rows c.clear.new.labels) (c.clear.ensures l h) (ap length c.as_mut_slice-ride.ensures.value ∙ c.requires.tables.ride)) at (c.set_out.ensures.lanes l h) in
     let there : x < n.stops = omega (arith, within, ap (λ (f : FeetData). length f.walks) c.feet-feet.ensures, c.known.ensures.in_range.lists) in
-    let marks = c.lower_row.new.marked in
-    let marks_long : length marks ≡ n.stops = c.lower_row.ensures.marks.same_length ∙ c.fill.ensures.len ∙ ap length c.as_mut_slice-marked.ensures.value ∙ c.requires.tables.marked in
-    let other : x ≢ origin = λ e. none (ap (slice_get (set marks origin true)) e ∙ set_get_to marks origin true (omega (arith, marks_long, c.requires.asked.origin))) in
-    rw c.feet-feet.ensures (start_walks never (cut_net base never n) ok later origin (slice_index (g.R.Row.labels c.args.batch.departs) l) (lane l (rows c.lower_row.new.labels)) (lane l (rows c.begin.new.labels)) (bounds_in base never 0 c.as_mut_slice-bound_ready.result.now) low start x there other)
+    let other : x ≢ origin = λ e. none (ap (slice_get c.set_out.new.marked) e ∙ c.set_out.ensures.here) in
+    rw c.feet-feet.ensures (start_walks never (cut_net base never n) ok later origin (slice_index (g.R.Row.labels c.args.batch.departs) l) (lane l (rows c.set_out.new.ride)) (lane l (rows c.begin.new.labels)) (bounds_in base never 0 c.as_mut_slice-bound_ready.result.now) low start x there other)
 
-pub keep-requires-2-clause-fits : goal.keep-requires-2-clause-fits
-keep-requires-2-clause-fits g c p =
+pub keep_both-requires-clause-ready_fits : goal.keep_both-requires-clause-ready_fits
+keep_both-requires-clause-ready_fits g c p =
     let never = g.R.Row.NEVER in
     let rows = labels_in g.R.Row.labels in
     let stops = c.args.query.network.now.stops in
@@ -80,12 +78,12 @@ loop-k-init g c =
     let some : 0 < g.R.Row.LANES = omega (arith, g.met.R.Row.some) in
     let start : (l : ℕ) → l < g.R.Row.LANES → Lowers (λ p x. x ≡ slice_index (bounds_in base never 0 c.as_mut_slice-bound_ready.result.now) p) (replicate n.stops never) (lane l (rows c.begin.new.labels)) = λ l h.
     rw (cleared never (length c.as_mut_slice-ready.result.now) n.stops l (rows c.clear-2.new.labels) (c.clear-2.ensures l h) (ap length c.as_mut_slice-ready.ensures.value ∙ c.requires.tables.ready)) at (c.begin.ensures.lanes l h) in
-    let low : (l : ℕ) → l < g.R.Row.LANES → Lowers (λ p x. (p ≡ c.args.query.origin.0) × (x ≡ slice_index departs l)) (replicate n.stops never) (lane l (rows c.lower_row.new.labels)) = λ l h.
-    rw (cleared never (length c.as_mut_slice-ride.result.now) n.stops l (rows c.clear.new.labels) (c.clear.ensures l h) (ap length c.as_mut_slice-ride.ensures.value ∙ c.requires.tables.ride)) at (c.lower_row.ensures.lanes l h) in
+    let low : (l : ℕ) → l < g.R.Row.LANES → Lowers (λ p x. (p ≡ c.args.query.origin.0) × (x ≡ slice_index departs l)) (replicate n.stops never) (lane l (rows c.set_out.new.ride)) = λ l h.
+    rw (cleared never (length c.as_mut_slice-ride.result.now) n.stops l (rows c.clear.new.labels) (c.clear.ensures l h) (ap length c.as_mut_slice-ride.ensures.value ∙ c.requires.tables.ride)) at (c.set_out.ensures.lanes l h) in
     let bounds0 : (j : ℕ) → j ≤ c.args.query.rides → LaneStateTo never cn later j (bounds_in base never j c.as_mut_slice-bound_ride.result.now) (bounds_in base never j c.as_mut_slice-bound_ready.result.now) = λ j few.
     rw (c.as_mut_slice-bound_ride.ensures.value, c.as_mut_slice-bound_ready.ensures.value) (c.requires.bounds j few) in
-    let lanes : (l : ℕ) → l < g.R.Row.LANES → LaneStateTo never cn (start_at c.args.query (slice_index departs l)) 0 (lane l (rows c.lower_row.new.labels)) (lane l (rows c.walk_marked.new.ready)) = λ l h.
-    bounded_start never cn ok (start_at c.args.query (slice_index departs l)) later c.requires.asked.origin refl (c.requires.batch.none_later l h) limit (lane l (rows c.lower_row.new.labels)) (lane l (rows c.begin.new.labels)) (lane l (rows c.walk_marked.new.ready))
+    let lanes : (l : ℕ) → l < g.R.Row.LANES → LaneStateTo never cn (start_at c.args.query (slice_index departs l)) 0 (lane l (rows c.set_out.new.ride)) (lane l (rows c.walk_marked.new.ready)) = λ l h.
+    bounded_start never cn ok (start_at c.args.query (slice_index departs l)) later c.requires.asked.origin refl (c.requires.batch.none_later l h) limit (lane l (rows c.set_out.new.ride)) (lane l (rows c.begin.new.labels)) (lane l (rows c.walk_marked.new.ready))
     (bounds_in base never 0 c.as_mut_slice-bound_ride.result.now) (bounds_in base never 0 c.as_mut_slice-bound_ready.result.now)
     (bounds0 0 (omega arith)) (low l h) (start l h) (rw c.feet-feet.ensures at (c.walk_marked.ensures.lanes l h)) in
     let begun : length c.begin.new.labels ≡ n.stops = c.begin.auto.labels ∙ (c.clear-2.auto.labels ∙ (ap length c.as_mut_slice-ready.ensures.value ∙ c.requires.tables.ready)) in
@@ -102,16 +100,16 @@ loop-k-init g c =
       lanes = lanes;
       kept = λ j below.
           let e : j ≡ 0 = omega arith in
-          rw (e, c.keep.ensures.here, c.keep-2.ensures.here) (lanes 0 some);
+          rw (e, c.keep_both.ensures.ride_here, c.keep_both.ensures.ready_here) (lanes 0 some);
       bounds = λ j more few.
           let apart : j ≢ 0 = λ e. omega arith in
-          rw (c.keep.ensures.others j apart, c.keep-2.ensures.others j apart) (bounds0 j few);
+          rw (c.keep_both.ensures.ride_others j apart, c.keep_both.ensures.ready_others j apart) (bounds0 j few);
       unfallen = λ l p h out.
-          let long : length (rows c.begin.new.labels) ≡ length c.fill-2.new.self = length-map c.begin.new.labels g.R.Row.labels ∙ begun ∙ sym (c.fill-2.ensures.len ∙ ap length c.as_mut_slice-fallen.ensures.value ∙ c.requires.tables.fallen) in
-          rw c.begin.ensures.before (unfallen_same g.R.Row.LANES (rows c.begin.new.labels) (rows c.walk_marked.new.ready) c.fill-2.new.self c.walk_marked.new.fallen l p c.walk_marked.ensures.fallen long (c.walk_marked.ensures.lanes l h) h out);
+          let long : length (rows c.begin.new.labels) ≡ length c.begin.new.fallen = length-map c.begin.new.labels g.R.Row.labels ∙ begun ∙ sym (c.begin.ensures.fallen ∙ ap length c.as_mut_slice-fallen.ensures.value ∙ c.requires.tables.fallen) in
+          rw c.begin.ensures.before (unfallen_same g.R.Row.LANES (rows c.begin.new.labels) (rows c.walk_marked.new.ready) c.begin.new.fallen c.walk_marked.new.fallen l p c.walk_marked.ensures.fallen long (c.walk_marked.ensures.lanes l h) h out);
       settled = λ trip l t lowered runs h room lower.
-          let lower' = rw (c.keep.ensures.others 1 (λ e. omega arith)) at lower in
-          rw c.begin.ensures.before (start_settled never cn ok later (slice_index departs l) c.args.query.origin.0 (lane l (rows c.lower_row.new.labels)) (lane l (rows c.begin.new.labels)) lowered
+          let lower' = rw (c.keep_both.ensures.ride_others 1 (λ e. omega arith)) at lower in
+          rw c.begin.ensures.before (start_settled never cn ok later (slice_index departs l) c.args.query.origin.0 (lane l (rows c.set_out.new.ride)) (lane l (rows c.begin.new.labels)) lowered
           (bounds_in base never 0 c.as_mut_slice-bound_ride.result.now) (bounds_in base never 0 c.as_mut_slice-bound_ready.result.now) (bounds_in base never 1 c.as_mut_slice-bound_ride.result.now) (bounds_in base never 1 c.as_mut_slice-bound_ready.result.now)
           (bounds0 0 (omega arith)) (bounds0 1 (omega arith)) (low l h) (start l h) lower' trip t runs);
     }
@@ -126,7 +124,7 @@ scan_lines-requires-clause-fits g c l p h =
 
 pub scan_lines-requires-clause-settled : goal.scan_lines-requires-clause-settled
 scan_lines-requires-clause-settled g c l h p x within o =
-    c.loop-k.invariant.settled o.trip l o.t (lane l (labels_in g.R.Row.labels c.lower_to.new.labels)) (rw c.trips-trips.ensures at o.runs) h (omega arith) (c.lower_to.ensures l h) p x within o.carries
+    c.loop-k.invariant.settled o.trip l o.t (lane l (labels_in g.R.Row.labels c.lower_to.new.labels)) (rw c.trips.ensures at o.runs) h (omega arith) (c.lower_to.ensures l h) p x within o.carries
 
 pub transfer_marked-requires-clause-fits : goal.transfer_marked-requires-clause-fits
 transfer_marked-requires-clause-fits g c l p h =
@@ -148,13 +146,13 @@ transfer_marked-requires-clause-settled g c l x h within none =
     let ridden = rows c.scan_lines.new.ride in
     let there : x < n.stops = omega (arith, within, ap (λ (f : FeetData). length f.walks) c.feet-feet.ensures, c.known.ensures.in_range.lists) in
     let falls = lane_falls (lane l lowered) (lane l ridden) (c.scan_lines.ensures.lanes l h) x in
-    let marks_long : length c.fill-in-loop-k.new.self ≡ n.stops = c.fill-in-loop-k.ensures.len ∙ c.loop-k.invariant.marked in
-    let still = unmarked_still lowered ridden c.fill-in-loop-k.new.self c.scan_lines.new.marked x l c.scan_lines.ensures.marks (omega (arith, there, marks_long)) none h falls in
+    let marks_long : length c.fill.new.self ≡ n.stops = c.fill.ensures.len ∙ c.loop-k.invariant.marked in
+    let still = unmarked_still lowered ridden c.fill.new.self c.scan_lines.new.marked x l c.scan_lines.ensures.marks (omega (arith, there, marks_long)) none h falls in
     rw c.feet-feet.ensures (round_walks never (cut_net base never n) ok later o k (lane l (rows c.loop-k.ride)) (lane l (rows c.loop-k.ready)) (lane l lowered) (lane l ridden) (lane l (rows c.begin-in-loop-k.new.labels))
     (bounds_in base never (k + 1) c.loop-k.bound_ride) (bounds_in base never (k + 1) c.loop-k.bound_ready) (c.loop-k.invariant.lanes l h) bound (c.lower_to.ensures l h) (c.begin-in-loop-k.ensures.lanes l h) x there still)
 
-pub keep-requires-in-loop-k-clause-fits : goal.keep-requires-in-loop-k-clause-fits
-keep-requires-in-loop-k-clause-fits g c p =
+pub keep_both-requires-in-loop-k-clause-ride_fits : goal.keep_both-requires-in-loop-k-clause-ride_fits
+keep_both-requires-in-loop-k-clause-ride_fits g c p =
     let never = g.R.Row.NEVER in
     let rows = labels_in g.R.Row.labels in
     let some : 0 < g.R.Row.LANES = omega (arith, g.met.R.Row.some) in
@@ -162,8 +160,8 @@ keep-requires-in-loop-k-clause-fits g c p =
     (fits_after never (lane 0 (rows c.loop-k.ride)) (lane 0 (rows c.lower_to.new.labels)) (c.loop-k.invariant.lanes 0 some).ride_fits (c.lower_to.ensures 0 some))
     (c.scan_lines.ensures.lanes 0 some) p
 
-pub keep-requires-in-loop-k-2-clause-fits : goal.keep-requires-in-loop-k-2-clause-fits
-keep-requires-in-loop-k-2-clause-fits g c p =
+pub keep_both-requires-in-loop-k-clause-ready_fits : goal.keep_both-requires-in-loop-k-clause-ready_fits
+keep_both-requires-in-loop-k-clause-ready_fits g c p =
     let never = g.R.Row.NEVER in
     let rows = labels_in g.R.Row.labels in
     let some : 0 < g.R.Row.LANES = omega (arith, g.met.R.Row.some) in
@@ -187,7 +185,7 @@ loop-k-preserved g c =
     let bound = c.loop-k.invariant.bounds (k + 1) (omega arith) (omega arith) in
     let lanes : (l : ℕ) → l < g.R.Row.LANES → LaneStateTo never cn (start_at c.args.query (slice_index departs l)) (k + 1) (lane l (rows c.scan_lines.new.ride)) (lane l (rows c.transfer_marked.new.ready)) = λ l h.
     bounded_next never cn ok (start_at c.args.query (slice_index departs l)) later c.requires.asked.origin refl (c.requires.batch.none_later l h) limit k (lane l (rows c.loop-k.ride)) (lane l (rows c.loop-k.ready)) (lane l (rows c.lower_to.new.labels)) (lane l (rows c.scan_lines.new.ride)) (lane l (rows c.begin-in-loop-k.new.labels)) (lane l (rows c.transfer_marked.new.ready))
-    (bounds_in base never (k + 1) c.loop-k.bound_ride) (bounds_in base never (k + 1) c.loop-k.bound_ready) (c.loop-k.invariant.lanes l h) bound (c.lower_to.ensures l h) (rw c.trips-trips.ensures at (c.scan_lines.ensures.lanes l h)) (c.begin-in-loop-k.ensures.lanes l h) (rw c.feet-feet.ensures at (c.transfer_marked.ensures.lanes l h)) in
+    (bounds_in base never (k + 1) c.loop-k.bound_ride) (bounds_in base never (k + 1) c.loop-k.bound_ready) (c.loop-k.invariant.lanes l h) bound (c.lower_to.ensures l h) (rw c.trips.ensures at (c.scan_lines.ensures.lanes l h)) (c.begin-in-loop-k.ensures.lanes l h) (rw c.feet-feet.ensures at (c.transfer_marked.ensures.lanes l h)) in
     let begun : length c.begin-in-loop-k.new.labels ≡ n.stops = c.begin-in-loop-k.auto.labels ∙ c.loop-k.invariant.readies in
     record {
       rides = search rules;
@@ -204,23 +202,23 @@ loop-k-preserved g c =
           elim (cases_lt j (k + 1)) [
             | inl lt ↦
                 let apart : j ≢ k + 1 = λ e. omega arith in
-                rw (c.keep-in-loop-k.ensures.others j apart, c.keep-in-loop-k-2.ensures.others j apart) (c.loop-k.invariant.kept j (omega arith))
+                rw (c.keep_both-in-loop-k.ensures.ride_others j apart, c.keep_both-in-loop-k.ensures.ready_others j apart) (c.loop-k.invariant.kept j (omega arith))
             | inr ge ↦
                 let e : j ≡ k + 1 = omega arith in
-                rw (e, c.keep-in-loop-k.ensures.here, c.keep-in-loop-k-2.ensures.here) (lanes 0 some)
+                rw (e, c.keep_both-in-loop-k.ensures.ride_here, c.keep_both-in-loop-k.ensures.ready_here) (lanes 0 some)
           ];
       bounds = λ j more few.
           let apart : j ≢ k + 1 = λ e. omega arith in
-          rw (c.keep-in-loop-k.ensures.others j apart, c.keep-in-loop-k-2.ensures.others j apart) (c.loop-k.invariant.bounds j (omega arith) few);
+          rw (c.keep_both-in-loop-k.ensures.ride_others j apart, c.keep_both-in-loop-k.ensures.ready_others j apart) (c.loop-k.invariant.bounds j (omega arith) few);
       unfallen = λ l p h out.
-          let long : length (rows c.begin-in-loop-k.new.labels) ≡ length c.fill-in-loop-k-2.new.self = length-map c.begin-in-loop-k.new.labels g.R.Row.labels ∙ begun ∙ sym (c.fill-in-loop-k-2.ensures.len ∙ c.loop-k.invariant.fallen) in
-          rw c.begin-in-loop-k.ensures.before (unfallen_same g.R.Row.LANES (rows c.begin-in-loop-k.new.labels) (rows c.transfer_marked.new.ready) c.fill-in-loop-k-2.new.self c.transfer_marked.new.fallen l p c.transfer_marked.ensures.fallen long (c.transfer_marked.ensures.lanes l h) h out);
+          let long : length (rows c.begin-in-loop-k.new.labels) ≡ length c.begin-in-loop-k.new.fallen = length-map c.begin-in-loop-k.new.labels g.R.Row.labels ∙ begun ∙ sym (c.begin-in-loop-k.ensures.fallen ∙ c.loop-k.invariant.fallen) in
+          rw c.begin-in-loop-k.ensures.before (unfallen_same g.R.Row.LANES (rows c.begin-in-loop-k.new.labels) (rows c.transfer_marked.new.ready) c.begin-in-loop-k.new.fallen c.transfer_marked.new.fallen l p c.transfer_marked.ensures.fallen long (c.transfer_marked.ensures.lanes l h) h out);
       settled = λ trip l t lowered runs h room lower.
           let next = c.loop-k.invariant.bounds (k + 1 + 1) (omega arith) (omega arith) in
-          let lower' = rw (c.keep-in-loop-k.ensures.others (k + 1 + 1) (λ e. omega arith)) at lower in
+          let lower' = rw (c.keep_both-in-loop-k.ensures.ride_others (k + 1 + 1) (λ e. omega arith)) at lower in
           rw c.begin-in-loop-k.ensures.before (round_settled never cn ok later (start_at c.args.query (slice_index departs l)) k (lane l (rows c.loop-k.ride)) (lane l (rows c.loop-k.ready)) (lane l (rows c.lower_to.new.labels)) (lane l (rows c.scan_lines.new.ride)) (lane l (rows c.begin-in-loop-k.new.labels)) lowered
           (bounds_in base never (k + 1) c.loop-k.bound_ride) (bounds_in base never (k + 1) c.loop-k.bound_ready) (bounds_in base never (k + 1 + 1) c.loop-k.bound_ride) (bounds_in base never (k + 1 + 1) c.loop-k.bound_ready)
-          (c.loop-k.invariant.lanes l h) (lanes l h).ride_len bound next (rw c.trips-trips.ensures at (c.scan_lines.ensures.lanes l h)) (c.begin-in-loop-k.ensures.lanes l h) lower' trip t runs);
+          (c.loop-k.invariant.lanes l h) (lanes l h).ride_len bound next (rw c.trips.ensures at (c.scan_lines.ensures.lanes l h)) (c.begin-in-loop-k.ensures.lanes l h) lower' trip t runs);
     }
 
 pub returns-clause-tables : goal.returns-clause-tables

@@ -18,16 +18,16 @@ returns-in_err-matrix-clause-fault g c =
     let s = study_of c.args.study.now in
     let decides = g.G.Gate.decides c.args.gate.now in
     let was_told = g.G.Gate.was_told c.args.gate.now in
-    let board = c.in-Ok.board in
+    let board = c.in_ok-board.board in
     let v = seen_by c.run_workers-matrix.new.seat in
     let asked = c.settings.inside in
     let jobs : board.jobs ≡ jobs_of s = search rules in
-    let start : seen_by c.in-Ok.seat ≡ first_view (jobs_of s * asked.tries) =
-    c.in-Ok.ensures.seat.1 ∙ ap (λ n. first_view (n * asked.tries)) (sym c.in-Ok.ensures.size.0 ∙ jobs) in
+    let start : seen_by c.in_ok-board.seat ≡ first_view (jobs_of s * asked.tries) =
+    c.in_ok-board.ensures.seat.1 ∙ ap (λ n. first_view (n * asked.tries)) (sym c.in_ok-board.ensures.size.0 ∙ jobs) in
     let told : IfErr r (λ e. IsFaultOfNew s decides was_told c.args.settings.now.workers c.args.settings.now.tries e) =
     subst (λ (x : SettingsData). IfErr r (λ e. IsFaultOfNew s decides was_told x.workers x.tries e)) c.settings.view_is
-    (run_fault r s decides was_told board v asked.workers asked.tries jobs c.in-Ok.ensures.size.1
+    (run_fault r s decides was_told board v asked.workers asked.tries jobs c.in_ok-board.ensures.size.1
     (subst (λ (z : View). IfErr r (λ e. IsFaultOf s decides was_told board asked.workers z v e)) start c.run_workers-matrix.ensures.fault)) in
     let fits : RunFault → Type 0 = λ e. IsFaultOfNew s decides was_told c.args.settings.now.workers c.args.settings.now.tries e in
-    err_by fits c.from_residual.result c.in_err-matrix.field-0.0 c.from_residual.ensures.1
+    err_by fits c.from_residual-in_err-matrix.result c.in_err-matrix.field-0.0 c.from_residual-in_err-matrix.ensures.1
     (subst (λ (x : Result MatrixData RunFault). IfErr x fits) c.in_err-matrix.was told)

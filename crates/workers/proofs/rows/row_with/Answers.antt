@@ -1,4 +1,4 @@
-use Rattle.std.proofs.Common.{◌<◌, ◌∙◌, ℕ, length, subst, sym}
+use Rattle.std.proofs.Common.{◌<◌, ◌∙◌, ℕ, subst, sym}
 use Rattle.std.specs.List.{All}
 use Rattle.timetable.specs.declared.trips.StopNo.{StopNo}
 use Rattle.workers.specs.Study.{study_of}

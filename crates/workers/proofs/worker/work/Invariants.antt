@@ -8,11 +8,11 @@ use Rattle.workers.proofs.worker.work.Given as goal
 
 abbrev pub invariant-loop-lease : goal.invariant-loop-lease
 invariant-loop-lease g l = record {
-  board : IsOf l.board l.seat;
-  holds : HoldsRows (study_of l.study) l.rows.items (seen_by l.seat).kept;
-  told : AreTold (g.G.Gate.was_told l.gate) (seen_by l.seat).kept;
-  done : AreDone (g.G.Gate.decides l.gate) l.board.jobs (seen_by l.seat).drawn (seen_by l.seat);
+  board : IsOf l.board l.hands.seat;
+  holds : HoldsRows (study_of l.study) l.hands.rows.items (seen_by l.hands.seat).kept;
+  told : AreTold (g.G.Gate.was_told l.gate) (seen_by l.hands.seat).kept;
+  done : AreDone (g.G.Gate.decides l.gate) l.board.jobs (seen_by l.hands.seat).drawn (seen_by l.hands.seat);
 }
 
 abbrev pub decreases-loop-lease : goal.decreases-loop-lease
-decreases-loop-lease g l = l.board.jobs * l.board.tries - past_last (seen_by l.seat).drawn
+decreases-loop-lease g l = l.board.jobs * l.board.tries - past_last (seen_by l.hands.seat).drawn

@@ -1,6 +1,5 @@
-use Rattle.std.proofs.Common.{◌∙◌, sym, ap}
-use Rattle.std.specs.Str.{bytes_eq}
-use Rattle.table_records.proofs.Near.{position_here}
+use Rattle.std.proofs.Common.{◌∙◌, sym}
+use Rattle.table_records.proofs.Near.{position_here, same_bytes}
 use Rattle.table_records.proofs.identifiers.Identifiers.has_at.Goals as goal
 
 pub returns-then-number-ids : goal.returns-then-number-ids
@@ -11,4 +10,4 @@ returns-then-number-ids c here =
     let at = rw c.as_slice-ids.ensures.keys at c.index-ids-number.is in
     let within = rw c.as_slice-ids.ensures.keys at c.if-number-ids.true in
     rw (← c.self.view_is) (position_here (λ v. v.items) keys c.args.number text id c.as_slice-ids.ensures.unique within at
-    (ap (λ t. bytes_eq t id) (sym c.as_slice.ensures.value) ∙ sym c.eq.ensures ∙ here))
+    (same_bytes text.items id (sym c.as_slice.ensures.value ∙ c.are_equal.ensures here)))

@@ -1,0 +1,108 @@
+"""The parts of a study on other machines that share its folder: begun as an array under Slurm, or on hosts by GNU
+parallel, and waited for.
+"""
+
+import time
+from dataclasses import dataclass
+from typing import Callable, Iterator, Sequence
+
+from ..engine import Run
+from ..faults import one_line
+from ..files import remove
+from ..threads import processors
+from .cutting import PARTS, Part
+from .hosts import by_parallel
+from .running import Failed, shown
+from .slurm import end_of, job_that_goes_on, submit
+from .stages import say
+from .task import write_task
+
+SECONDS_BETWEEN_LOOKS = 2.0
+SECONDS_FOR_FILES = 30.0  # until files of another host are seen here
+NO_LINE = "no matrix and no line: what its machine told is in "
+
+
+@dataclass(frozen=True)
+class Means:
+    """How the parts are run: results are the same whichever way."""
+
+    workers: int | None = None  # processes of this machine; None for one on each processor
+    slurm: bool = False
+    hosts: str | None = None  # as GNU parallel names them
+    options: Sequence[str] = ()  # of sbatch, or of parallel
+
+    @property
+    def is_elsewhere(self) -> bool:
+        return self.slurm or self.hosts is not None
+
+    @property
+    def at_once(self) -> int:
+        """How many parts share this machine's memory."""
+        return 1 if self.is_elsewhere else self.threads
+
+    @property
+    def threads(self) -> int:
+        """How many threads of this machine put the parts together, wherever they were computed."""
+        return self.workers or processors()
+
+    @property
+    def words(self) -> list[str]:
+        """The options as they are handed on, such as --partition=long."""
+        return [f"--{option.lstrip('-')}" for option in self.options]
+
+
+def run_elsewhere(run: Run, parts: Sequence[Part], key: str, version: Sequence[str], means: Means) -> list[Failed]:
+    """Computes the parts that aren't done, and waits until other machines have done so."""
+    missing = still(parts)
+    if missing:
+        write_task(run, len(parts), key, version)
+    job = job_that_goes_on() if means.slurm and missing else None
+    if job is not None:
+        say(f"parts: job {job} of this study goes on, and is waited for")
+        wait(missing, end_of(job))
+        missing = still(missing)
+    for part in missing:
+        remove(part.told_file)
+    if missing and means.slurm:
+        wait(missing, end_of(submit(missing, means.words)))
+    elif missing:
+        with by_parallel(missing, means.hosts or ":", means.words) as is_over:
+            wait(missing, is_over)
+    failed = [Failed(part, told_of(part)) for part in still(missing)]
+    for it in failed:
+        say(f"part {it.part.number}: {it.told}")
+    return failed
+
+
+def still(parts: Sequence[Part]) -> list[Part]:
+    """The parts that aren't done."""
+    return [part for part in parts if not part.is_done()]
+
+
+def wait(missing: Sequence[Part], is_over: Callable[[], bool]) -> None:
+    """Waits for parts, and shows how many are done."""
+    for _ in shown(ends_of(missing, is_over), len(missing)):
+        pass
+
+
+def ends_of(missing: Sequence[Part], is_over: Callable[[], bool]) -> Iterator[None]:
+    """Something for each part that is done, until all are, or all work is over."""
+    waiting, end = list(missing), None
+    while waiting:
+        over = is_over()
+        left = still(waiting)
+        yield from [None] * (len(waiting) - len(left))
+        waiting = left
+        if over:
+            end = end or time.monotonic() + SECONDS_FOR_FILES
+            if time.monotonic() > end or all(part.told_file.exists() for part in waiting):
+                return
+        if waiting:
+            time.sleep(SECONDS_BETWEEN_LOOKS)
+
+
+def told_of(part: Part) -> str:
+    try:
+        return one_line(part.told_file.read_text(encoding="utf-8"))
+    except OSError:
+        return f"{NO_LINE}{PARTS}"

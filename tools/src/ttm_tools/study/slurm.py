@@ -1,0 +1,56 @@
+"""The parts of a study as an array under Slurm."""
+
+import subprocess
+from itertools import groupby
+from pathlib import Path
+from typing import Callable, Sequence
+
+from ..faults import BadInput, needs_program, one_line
+from .cutting import PARTS, Part
+from .stages import say, write_settled
+from .task import SCRIPT
+
+JOB = f"{PARTS}/job"
+
+
+def ranges(numbers: Sequence[int]) -> str:
+    """Numbers as an array of Slurm has them, such as 1-3,7."""
+    made = []
+    for _, group in groupby(enumerate(numbers), lambda it: it[1] - it[0]):
+        some = [number for _, number in group]
+        made.append(str(some[0]) if len(some) == 1 else f"{some[0]}-{some[-1]}")
+    return ",".join(made)
+
+
+def job_that_goes_on() -> str | None:
+    """The array of this study that a command before submitted, and that still has tasks."""
+    needs_program("squeue", "slurm-client")
+    job = Path(JOB).read_text(encoding="utf-8").strip() if Path(JOB).is_file() else ""
+    return job if job and is_queued(job) else None
+
+
+def submit(missing: Sequence[Part], words: Sequence[str]) -> str:
+    """Submits an array with a task for each part."""
+    needs_program("sbatch", "slurm-client")
+    array = f"--array={ranges([part.number for part in missing])}"
+    own = ["--parsable", "--requeue", array, f"--output={PARTS}/slurm_%a.txt", "--open-mode=append"]
+    ran = subprocess.run(["sbatch", *own, *words, SCRIPT], capture_output=True, text=True)
+    if ran.returncode != 0:
+        raise BadInput("sbatch", one_line(ran.stderr) or f"ended with status {ran.returncode}")
+    job = ran.stdout.strip().split(";")[0]
+    write_settled(Path(JOB), job + "\n")
+    say(f"parts: {len(missing)} as job {job}; it goes on without this command, and the same command waits for it")
+    return job
+
+
+def end_of(job: str) -> Callable[[], bool]:
+    """Tells whether a job is over."""
+    return lambda: not is_queued(job)
+
+
+def is_queued(job: str) -> bool:
+    """Whether a job has tasks that wait or run; one that Slurm no longer knows has none."""
+    ran = subprocess.run(["squeue", "--noheader", f"--jobs={job}"], capture_output=True, text=True)
+    if ran.returncode != 0 and "Invalid job id" not in ran.stderr:
+        return True  # the controller doesn't answer at the moment
+    return bool(ran.stdout.strip())

@@ -1,0 +1,84 @@
+"""A part of a study as a task of another machine that shares its folder: what the task needs to know stands in
+parts/run.json, and `parts/one_part.sh NUMBER` is `ttm-tools study --part NUMBER` in that folder.
+"""
+
+import contextlib
+import json
+import os
+import shlex
+import sys
+from pathlib import Path
+from typing import Any, Sequence
+
+from ..engine import Run, program_at
+from ..faults import BadInput
+from ..files import remove
+from ..parts import origins_in
+from .cutting import PARTS, Part, parts_for
+from .stages import PACKAGE, TASK, as_text, write_settled
+from .ttm import Running, facts_of, version_of, with_origins
+
+SCRIPT = f"{PARTS}/one_part.sh"
+
+
+def write_task(run: Run, parts: int, key: str, version: Sequence[str]) -> None:
+    """Writes what a part's machine has to know."""
+    known = {"run": facts_of(run), "parts": parts, "key": key, "version": list(version)}
+    write_settled(Path(TASK), as_text(known))
+    names = {"PYTHONPATH": str(PACKAGE.parent), "TTM_PROGRAM": os.path.abspath(program_at(None))}
+    own = " ".join(f"{name}={shlex.quote(value)}" for name, value in names.items())
+    words = f"{shlex.quote(sys.executable)} -m ttm_tools study --part"
+    text = f"#!/bin/sh\n# Computes a part of the study: one_part.sh NUMBER\ncd {shlex.quote(os.getcwd())} || exit 1\n"
+    text += f'number=${{1:-$SLURM_ARRAY_TASK_ID}}\nexec env {own} {words} "$number" .\n'
+    write_settled(Path(SCRIPT), text)
+    os.chmod(SCRIPT, 0o755)
+
+
+def task_known() -> dict[str, Any]:
+    """What is to be computed; nothing where no study asks for it any more."""
+    try:
+        return dict(json.loads(Path(TASK).read_text(encoding="utf-8")))
+    except (OSError, ValueError):
+        return {}
+
+
+def one_part(folder: Path, number: int) -> None:
+    """Computes a part where a study's folder says so; what goes wrong is noted beside it."""
+    if not folder.is_dir():
+        raise BadInput(folder, "is no folder of a study")
+    with contextlib.chdir(folder):
+        known = task_known()
+        if not known:
+            raise BadInput(folder, f"is no folder of a study with parts to compute: no {TASK}")
+        run = Run(**known["run"])
+        parts = parts_for(origins_in(str(run.files["origins"])), known["parts"], known["key"])
+        if not 1 <= number <= len(parts):
+            raise BadInput(folder, f"has no part {number}, but 1 to {len(parts)}")
+        part = parts[number - 1]
+        if part.is_done():
+            return
+        part.begin()
+        threads = int(os.environ.get("SLURM_CPUS_PER_TASK", "1"))
+        told = computed(with_origins(run, str(part.origins_file), threads), part, known)
+        if told is not None:
+            write_settled(part.told_file, told + "\n")
+            raise BadInput(part.folder, told)
+
+
+def computed(run: Run, part: Part, known: dict[str, Any]) -> str | None:
+    """Runs a part with the version of `ttm` that the study has; gives the line that tells why there is no matrix."""
+    own = version_of(program_at(None))
+    if own != known["version"]:
+        return f"{program_at(None)} is {own[0]}, and the study's ttm is another one, or proved with another toolchain"
+    running = Running(run, part.matrix)
+    try:
+        told = running.end()
+    except BaseException:
+        running.stop()
+        raise
+    if told is None and task_known() != known:
+        remove(part.matrix)
+        return "the study's inputs were made anew meanwhile"
+    if told is None:
+        part.finish()
+    return told
