@@ -1,13 +1,17 @@
 //! What the line of a fault can't say: the column, its value, and what is allowed.
 
 use crate::advice::{advice_for, edit_limit, limit_of};
-use crate::checks::{Check, EDIT_COLUMNS, checks_of, edit_check, required_of};
 use crate::lines::shown;
 use crate::records::{Found, is_named, record_at};
-use crate::rules::Rule;
+use crate::rules::{edit_words, words_of};
 use csv::ByteRecord;
-use gtfs_tables::FeedFault;
-use scenarios::{ScenarioFault, ScenarioWhat};
+use footpaths::footpath_checks;
+use gtfs_tables::{
+    Check, Checks, FeedFault, Rule, calendar_checks, calendar_date_checks, feed_trip_checks,
+    frequency_checks, location_checks, opportunity_checks, origin_checks, route_checks,
+    stop_time_checks, transfer_checks,
+};
+use scenarios::{EditCheck, ScenarioFault, ScenarioWhat, edit_checks};
 use std::alloc::{AllocError, Global};
 use studies::{Inputs, StudyFault};
 use table_records::{FileName, What, column};
@@ -57,11 +61,11 @@ fn of_feed(
     }
     let bytes = bytes?;
     match fault.what {
-        What::MissingColumn => lacking_line(alloc, bytes, required_of(fault.file)),
+        What::MissingColumn => lacking_line(alloc, bytes, checks_of(fault.file).required),
         What::TimesGoBack => back_line(alloc, &record_at(alloc, bytes, fault.at)?),
         what => {
             let found = record_at(alloc, bytes, fault.at)?;
-            refused_line(alloc, &found, what, checks_of(fault.file), inputs)
+            refused_line(alloc, &found, what, checks_of(fault.file).fields, inputs)
         }
     }
 }
@@ -72,11 +76,38 @@ fn of_scenario(alloc: Global, fault: ScenarioFault, bytes: &[u8]) -> Option<Stri
         return plain_line(alloc, words);
     }
     if fault.what == ScenarioWhat::MissingColumn {
-        return lacking_line(alloc, bytes, EDIT_COLUMNS);
+        return lacking_line(alloc, bytes, edit_checks().required);
     }
-    let (name, rule) = edit_check(fault.what)?;
+    let EditCheck(column, rule, _) = edit_check(fault.what)?;
     let found = record_at(alloc, bytes, fault.at)?;
-    field_line(alloc, name, found.text(name), rule)
+    field_line(alloc, column, found.text(column), edit_words(rule))
+}
+
+/// The check that finds a fault of a scenario file; none where no field is at fault.
+fn edit_check(what: ScenarioWhat) -> Option<EditCheck> {
+    for check in edit_checks().fields {
+        if check.2 == what {
+            return Some(*check);
+        }
+    }
+    None
+}
+
+/// What is checked of the records of a file of the feed, or of one that names its stops.
+fn checks_of(file: FileName) -> Checks {
+    match file {
+        FileName::Stops => location_checks(),
+        FileName::Routes => route_checks(),
+        FileName::Calendar => calendar_checks(),
+        FileName::CalendarDates => calendar_date_checks(),
+        FileName::Trips => feed_trip_checks(),
+        FileName::StopTimes => stop_time_checks(),
+        FileName::Frequencies => frequency_checks(),
+        FileName::Transfers => transfer_checks(),
+        FileName::Footpaths => footpath_checks(),
+        FileName::Origins => origin_checks(),
+        FileName::Opportunities => opportunity_checks(),
+    }
 }
 
 /// The bytes of a file.
@@ -105,9 +136,10 @@ fn refused_line(
     inputs: &Inputs<'_>,
 ) -> Option<String> {
     for check in checks {
-        let text = found.text(check.column);
-        if check.what == what && refuses(alloc, check.rule, text, inputs.feed.stops)? {
-            return field_line(alloc, check.column, text, check.rule);
+        let Check(column, rule, wrong) = *check;
+        let text = found.text(column);
+        if wrong == what && refuses(alloc, rule, text, inputs.feed.stops)? {
+            return field_line(alloc, column, text, words_of(rule));
         }
     }
     None
@@ -116,40 +148,40 @@ fn refused_line(
 /// Whether a rule may have refused a text, given the bytes of `stops.txt`; none where there is no memory to find out.
 fn refuses(alloc: Global, rule: Rule, text: &[u8], stops: Option<&[u8]>) -> Option<bool> {
     if rule == Rule::Place {
-        Some(!is_named(alloc, stops?, "stop_id", text)?)
+        Some(!is_named(alloc, stops?, b"stop_id", text)?)
     } else {
         Some(rule.refuses(text))
     }
 }
 
 /// A field that is refused.
-fn field_line(alloc: Global, name: &str, text: &[u8], rule: Rule) -> Option<String> {
+fn field_line(alloc: Global, column: &[u8], text: &[u8], words: &str) -> Option<String> {
+    let name = shown(alloc, column).ok()?;
     let value = shown(alloc, text).ok()?;
-    let words = rule.words();
     format!(in alloc; "ttm: column {name} is \"{value}\"; {words}\n").ok()
 }
 
 /// The times of a stop time at which its trip goes back.
 fn back_line(alloc: Global, found: &Found) -> Option<String> {
-    let arrive = shown(alloc, found.text("arrival_time")).ok()?;
-    let depart = shown(alloc, found.text("departure_time")).ok()?;
+    let arrive = shown(alloc, found.text(b"arrival_time")).ok()?;
+    let depart = shown(alloc, found.text(b"departure_time")).ok()?;
     format!(in alloc;
         "ttm: column arrival_time is \"{arrive}\" and column departure_time is \"{depart}\"; along a trip no time is before the one ahead of it\n"
     ).ok()
 }
 
 /// The first required column that the header of a file lacks, and those that it has.
-fn lacking_line(alloc: Global, bytes: &[u8], required: &[&str]) -> Option<String> {
+fn lacking_line(alloc: Global, bytes: &[u8], required: &[&[u8]]) -> Option<String> {
     let header = record_at(alloc, bytes, 1)?.header;
-    let lacking = first_lacking(&header, required)?;
+    let lacking = shown(alloc, first_lacking(&header, required)?).ok()?;
     let has = columns_text(alloc, &header).ok()?;
     format!(in alloc; "ttm: the header lacks column {lacking}; it has {has}\n").ok()
 }
 
 /// The first of some columns that a header lacks.
-fn first_lacking<'a>(header: &ByteRecord, required: &[&'a str]) -> Option<&'a str> {
+fn first_lacking<'a>(header: &ByteRecord, required: &[&'a [u8]]) -> Option<&'a [u8]> {
     for name in required {
-        if column(header, name.as_bytes()).is_none() {
+        if column(header, name).is_none() {
             return Some(*name);
         }
     }

@@ -6,7 +6,7 @@
 //! - `lines`: how a line is made; `table_lines`, `day_lines` and `row_lines` make those of each stage. `calendar_lines`: which dates
 //!   have trips, where the date of the departures has none.
 //! - `progress`: how many rows are done, and when it is time to tell so; `measures`: shares and times in numbers.
-//! - `explain`: what the line of a fault can't say, by a second look at the file (`records`): the field that a check (`checks`)
+//! - `explain`: what the line of a fault can't say, by a second look at the file (`records`): the field that a check of its file
 //!   refused, and what is allowed there (`rules`); `advice`: what to do about faults of no field.
 //! - `option_lines`: the same of an option that is refused ([`explain_option`]). `folder_lines`: what stands in the folder of a feed that
 //!   lacks a file, or why it isn't one ([`explain_folder`]).
@@ -16,7 +16,6 @@
 
 mod advice;
 mod calendar_lines;
-mod checks;
 mod console;
 mod day_lines;
 mod explain;

@@ -13,8 +13,8 @@ pub(crate) struct Found {
 
 impl Found {
     /// The field of the record in the column of a name; empty where there is none.
-    pub(crate) fn text(&self, name: &str) -> &[u8] {
-        field(&self.row, column(&self.header, name.as_bytes()))
+    pub(crate) fn text(&self, name: &[u8]) -> &[u8] {
+        field(&self.row, column(&self.header, name))
     }
 }
 
@@ -55,13 +55,13 @@ pub(crate) fn record_count(alloc: Global, bytes: &[u8]) -> Option<u64> {
 }
 
 /// Whether a record of a file has this text in the column of a name, if there is memory to read them.
-pub(crate) fn is_named(alloc: Global, bytes: &[u8], name: &str, text: &[u8]) -> Option<bool> {
+pub(crate) fn is_named(alloc: Global, bytes: &[u8], name: &[u8], text: &[u8]) -> Option<bool> {
     let mut rows = Rows::new(alloc, bytes);
     let mut row = ByteRecord::new(alloc);
     if !is_next(&mut rows, &mut row) {
         return Some(false);
     }
-    let place = column(&row, name.as_bytes());
+    let place = column(&row, name);
     for _ in 0..u64::MAX {
         match rows.next(&mut row) {
             Ok(true) if field(&row, place) == text => return Some(true),
