@@ -29,8 +29,8 @@ const SHARES: &[u32] = &[50];
 /// The longest travel time, in seconds, at which a stop counts for access.
 const LIMITS: &[u32] = &[1800];
 
-/// Times the stages of a study over the feed of a folder. The own files are that of footpaths, that of origins, and those of
-/// scenarios.
+/// Times the stages of a study over the feed of a folder. The own files are that of footpaths, that of origins, and
+/// those of scenarios.
 pub(crate) fn time_study(
     rt: &HostRuntime,
     asked: Asked,
