@@ -1,4 +1,4 @@
-//! What the words of the program ask for.
+//! What the arguments ask for.
 ghost use Rattle.std.specs.Prelude.{◌≤◌, IfSome};
 
 use crate::workers::Task;
@@ -12,7 +12,7 @@ pub(crate) struct Asked {
     pub threads: u32,
 }
 
-/// The trial that the words ask for, after the program's name. None where they ask for none within the limits.
+/// The trial that the arguments ask for, after the program's name. None where they ask for none within the limits.
 pub(crate) fn read(words: &[String]) -> Option<Asked>
     ensures jobs { IfSome result (λ asked. asked.jobs ≤ 1048560) }
     ensures tries { IfSome result (λ asked. (1 ≤ asked.tries) × (asked.tries ≤ 8)) }

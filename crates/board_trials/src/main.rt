@@ -3,7 +3,7 @@
 //!
 //! - `workers`: what one thread does, and what it is told.
 //! - `trials`: a trial from a new board to the closed one.
-//! - `asked` reads what the words ask for.
+//! - `asked` reads what the arguments ask for.
 #![tactic(auto)]
 
 ghost use Rattle.std.specs.Prelude.{◌≤◌};

@@ -120,7 +120,7 @@ fn two(alloc: Global, first: &[u8], last: &[u8]) -> Result<Vec<u8>, AllocError>
     Ok(text)
 }
 
-/// What is wrong with a place.
+/// What is wrong, behind where it is.
 fn of_place(alloc: Global, place: &[u8], words: &str) -> Result<Vec<u8>, AllocError>
     ensures { IfOk result (λ text. text.items ≡ place.now ++ codes ": " ++ words.now) }
 {

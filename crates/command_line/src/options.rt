@@ -1,4 +1,4 @@
-//! The command of `clap` that the words are taken by: its options as a table, in the order of the help.
+//! The command of `clap` that takes the arguments: its options as a table, in the order of the help.
 
 ghost use Rattle.std.specs.Prelude.{◌≡◌, IfOk, false, map};
 ghost use Rattle.clap.specs.Words.{app_of, rule_of};
@@ -168,7 +168,7 @@ fn report_flag<'a>(alloc: Global) -> Arg<'a>
         .help("Tell on standard error what was read, what seems wrong, and how far the rows are")
 }
 
-/// The scenario files: the words that belong to no option.
+/// The scenario files: the arguments that belong to no option.
 fn scenario_files<'a>(alloc: Global) -> Arg<'a>
     ensures rule { rule_of result ≡ spec.scenario_rule }
     ensures local { result.global ≡ false }

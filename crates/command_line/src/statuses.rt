@@ -6,10 +6,10 @@ ghost use Rattle.command_line.specs.declared.statuses.TheConstants as status;
 /// The whole matrix is out, or the help or the version that was asked for.
 pub const DONE: u8 = 0;
 
-/// Refused input, or words that aren't the command's.
+/// Refused input, or arguments that aren't the command's.
 pub const REFUSED: u8 = 2;
 
-/// No memory, or no thread.
+/// Out of memory, or no thread.
 pub const NO_ROOM: u8 = 3;
 
 /// Work that wasn't finished.

@@ -1,4 +1,4 @@
-//! What the words of the command line ask for, or what is wrong with them.
+//! What the arguments ask for, or what is wrong with them.
 
 use std::alloc::AllocError;
 use studies::Settings;
@@ -19,7 +19,7 @@ pub enum Opt {
     Ahead,
 }
 
-/// A study that the words ask for: its settings, the paths of its files, and whether it is reported.
+/// A study that the arguments ask for: its settings, the paths of its files, and whether it is reported.
 #[derive(Drop)]
 pub struct Task {
     /// The folder of the feed's files.
@@ -35,12 +35,12 @@ pub struct Task {
     pub report: bool,
 }
 
-/// Why the words ask for no study.
+/// Why the arguments ask for no study.
 #[derive(Drop)]
 pub enum WordFault {
-    /// The words aren't those of the command, or they ask for its help or its version; the error has the text to show.
+    /// The arguments aren't the command's, or they ask for its help or its version; the error has the text to show.
     Words(clap::Error),
-    /// The words are the command's; this is the first option whose text isn't of its kind or within its limits.
+    /// The arguments are the command's; this is the first option whose text isn't of its kind or within its limits.
     Bad(Opt),
     /// Out of memory.
     Memory,

@@ -11,10 +11,10 @@ use std::alloc::AllocError;
 use std::io::Write;
 use std::process::ExitCode;
 
-/// The line where memory is short, which takes no memory.
+/// The line of *out of memory*, which takes none.
 const NO_MEMORY: &[u8] = b"ttm: out of memory\n";
 
-/// Tells that memory is short, as far as the line can be put out.
+/// Tells *out of memory*, as far as the line can be put out.
 pub fn tell_short<E: Write>(err: &mut E) -> ExitCode
     ensures status { exit_status result ≡ NO_ROOM }
     ensures line { PutsPrefix (E.contents err.old) (E.contents err.new) (spec.line spec.no_memory) }
@@ -22,7 +22,7 @@ pub fn tell_short<E: Write>(err: &mut E) -> ExitCode
     tell(NO_MEMORY, NO_ROOM, err)
 }
 
-/// Tells by a line, or that there was no memory for it, as far as it can be put out; the status stays.
+/// Tells by a line, or *out of memory* where there is none for it, as far as it can be put out; the status stays.
 pub fn tell_made<E: Write>(line: Result<Vec<u8>, AllocError>, status: u8, err: &mut E) -> ExitCode
     ensures status { exit_status result ≡ status }
     ensures line { IfOk line (λ made. PutsPrefix (E.contents err.old) (E.contents err.new) made.items) }

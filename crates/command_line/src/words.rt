@@ -1,7 +1,8 @@
-//! The words of the command line, and the study that they ask for.
+//! The arguments, and the study that they ask for.
 //!
-//! How words are split into options is `clap`'s rule, of one simple command: each option has one text, but for the flag
-//! of a report, which has none; and the words that belong to no option are scenario files. What the texts say is read here.
+//! How arguments are split into options is `clap`'s rule, of one simple command: each option has one text, but for the
+//! flag of a report, which has none; and the arguments that belong to no option are scenario files. What the texts say
+//! is read here.
 
 ghost use Rattle.std.specs.Prelude.{◌≡◌, ◌≤◌, ◌+◌, ℕ, [], ◌∷◌, All, map, Some, None, is_some, IfOk, IfErr, IfSome, IsTrue, option_map, string_bytes, codes, true, false};
 ghost use Rattle.clap.specs.Words.{found_of, rows_of, fault_of};
@@ -27,10 +28,11 @@ use timetable::MOST_FOOT_SECONDS;
 use work_book::MOST_TRIES;
 use workers::{MOST_RIDES, are_shares};
 
-/// The study that the words ask for; the first word is the program's name.
+/// The study that the arguments ask for; the first is the program's name.
 ///
-/// The words are taken as one command of `clap`, whose help names each option with its unit and limits. Beside the
-/// options' own limits, `--to` isn't before `--from`. Spaces around a number or a date don't count; a list of numbers has none.
+/// The arguments are taken as one command of `clap`, whose help names each option with its unit and limits. Beside the
+/// options' own limits, `--to` isn't before `--from`. Spaces around a number or a date don't count; a list of numbers
+/// has none.
 pub fn task_of(alloc: Global, words: &[String]) -> Result<Task, WordFault>
     ensures taken { IfOk result (λ _. fault_of spec.study_app (map string_bytes words.now) ≡ []) }
     ensures asked { IfOk result (λ task. spec.IsAsked (spec.rows_of_words (map string_bytes words.now)) task.settings) }
@@ -51,10 +53,10 @@ pub fn task_of(alloc: Global, words: &[String]) -> Result<Task, WordFault>
     }
 }
 
-/// The text that the words give an option, by its name without the dashes; none where they give it none. What a flag has as text
-/// is `true` or `false`.
+/// The text that the arguments give an option, by its name without the dashes; none where they give it none. What a
+/// flag has as text is `true` or `false`.
 ///
-/// The words are taken by the same command as those of a study, and are refused where it refuses them.
+/// The arguments are taken by the same command as those of a study, and are refused where it refuses them.
 pub fn text_of(alloc: Global, words: &[String], id: &str) -> Result<Option<String>, WordFault>
     ensures text { IfOk result (λ text. spec.text_at (spec.rows_of_words (map string_bytes words.now)) id.now ≡ option_map string_bytes text) }
     ensures fault { IfErr result (λ fault. spec.Tells fault (map string_bytes words.now)) }
@@ -63,7 +65,7 @@ pub fn text_of(alloc: Global, words: &[String], id: &str) -> Result<Option<Strin
     Ok(copy_at(alloc, &matches, id)?)
 }
 
-/// The exit status where the words ask for no study; help and the version are no fault.
+/// The exit status where the arguments ask for no study; help and the version are no fault.
 pub fn word_status(fault: &WordFault) -> u8
     ensures { result ≡ spec.word_status_of fault.now }
 {
@@ -77,7 +79,7 @@ pub fn word_status(fault: &WordFault) -> u8
     }
 }
 
-/// What the words give each option.
+/// What the arguments give each option.
 fn matched<'a>(alloc: Global, words: &'a [String]) -> Result<ArgMatches<'a>, WordFault>
     ensures rows { IfOk result (λ m. rows_of (found_of m) ≡ spec.rows_of_words (map string_bytes words.now)) }
     ensures feed { IfOk result (λ m. is_some (spec.text_at (rows_of (found_of m)) (codes "feed")) ≡ true) }

@@ -41,7 +41,7 @@ const VERSION_TEXT: &str = "ttm 2.0.0
 proved with rattle-kit-13b logic dac8208d650f15bf
 ";
 
-/// The text that words give in place of a study, if `clap` has one for them.
+/// The text that arguments give in place of a study, if `clap` has one for them.
 fn told(alloc: Global, words: &[&str]) -> Result<Option<String>, AllocError> {
     let mut list = Vec::new(alloc);
     for word in words {

@@ -1,6 +1,7 @@
-//! Tests of the program's edge: what words ask for, which line tells a fault, what `reports` tells, and how a study is run, by public calls.
+//! Tests of the program's edge: what arguments ask for, which line tells a fault, what `reports` tells, and how a study
+//! is run, by public calls.
 //!
-//! - `words`, `numbers`, `help`: what words ask for, the numbers that a text lists, and what help and version say.
+//! - `words`, `numbers`, `help`: what arguments ask for, the numbers that a text lists, and what help and version say.
 //! - `fault_lines`, `files`: the line and the status of each fault; files read whole, windows, paths, and lines put out.
 //! - `told_studies`, `told_dates`, `told_faults`: what is told of studies of the small feed, of dates without trips, and of files with too
 //!   many records (what is told of other faults is data, `.ci/fault_cases.py`);

@@ -8,7 +8,7 @@ use reports::explain_option;
 use std::alloc::{AllocError, Global};
 use std::sync::Wait;
 
-/// Whether words are refused for an option's text, and this is told of it.
+/// Whether arguments are refused for an option's text, and this is told of it.
 fn is_told<R: Wait>(
     rt: &R,
     alloc: Global,
@@ -27,7 +27,7 @@ fn is_told<R: Wait>(
     told.as_slice() == text.as_bytes()
 }
 
-/// Whether this is told with a report where the words of the study have a word in another's place.
+/// Whether this is told with a report where the study's arguments have one in place of another.
 fn is_changed_told<R: Wait>(rt: &R, alloc: Global, place: usize, word: &str, text: &str) -> bool {
     is_told(rt, alloc, changed(alloc, place, word, "--report"), text)
 }

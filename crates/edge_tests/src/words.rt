@@ -1,11 +1,11 @@
-//! What the words of the command line ask for.
+//! What arguments ask for.
 
 use command_line::{Opt, WordFault, task_of, text_of, word_status};
 use jiff::civil::Date;
 use std::alloc::{AllocError, Global};
 use studies::Settings;
 
-/// The words of a study of one minute.
+/// The arguments of a study of one minute.
 const STUDY: [&str; 21] = [
     "ttm",
     "--feed",
@@ -37,7 +37,7 @@ struct Refusal {
     status: u8,
 }
 
-/// The words of the study with one word in another's place, and one more.
+/// The arguments of the study with one in place of another, and one more.
 pub(crate) fn changed(
     alloc: Global,
     place: usize,
@@ -53,7 +53,7 @@ pub(crate) fn changed(
     Ok(words)
 }
 
-/// What words ask for, or why they ask for no study.
+/// What arguments ask for, or why they ask for no study.
 fn asked(alloc: Global, words: Result<Vec<String>, AllocError>) -> Result<Settings, Refusal> {
     let none = Refusal {
         bad: None,
@@ -77,7 +77,7 @@ fn asked(alloc: Global, words: Result<Vec<String>, AllocError>) -> Result<Settin
     }
 }
 
-/// Why the changed words ask for no study.
+/// Why the changed arguments ask for no study.
 fn why_not(alloc: Global, place: usize, word: &str, more: &str) -> Option<Refusal> {
     asked(alloc, changed(alloc, place, word, more)).err()
 }
@@ -109,7 +109,7 @@ fn asks_for_a_study_of_one_minute(rt: HostRuntime) {
     }
 }
 
-/// Whether the words, with one text in another's place, ask for these shares and limits.
+/// Whether the arguments, with one text in place of another, ask for these shares and limits.
 fn asks_for(alloc: Global, place: usize, text: &str, shares: &[u32], withins: &[u32]) -> bool {
     match asked(alloc, changed(alloc, place, text, "cut.csv")) {
         Ok(settings) => {
@@ -143,7 +143,7 @@ fn wrong_words_are_no_study(rt: HostRuntime) {
     assert!(rt; why_not(rt.alloc(), 0, "ttm", "-V") == Some(told));
 }
 
-/// The words of the study, and more.
+/// The arguments of the study, and more.
 pub(crate) fn with_more(alloc: Global, more: &[&str]) -> Result<Vec<String>, AllocError> {
     let mut words = Vec::new(alloc);
     for word in STUDY.iter().chain(more.iter()) {
@@ -152,7 +152,7 @@ pub(crate) fn with_more(alloc: Global, more: &[&str]) -> Result<Vec<String>, All
     Ok(words)
 }
 
-/// Whether the words of the study, and more, ask for a report; or the exit status where they ask for no study.
+/// Whether the arguments of the study, and more, ask for a report; or the exit status where they ask for no study.
 fn reports(alloc: Global, more: &[&str]) -> Result<bool, u8> {
     let Ok(words) = with_more(alloc, more) else {
         return Err(3);
@@ -163,7 +163,7 @@ fn reports(alloc: Global, more: &[&str]) -> Result<bool, u8> {
     }
 }
 
-/// Whether the words of the study, and more, give an option this text.
+/// Whether the arguments of the study, and more, give an option this text.
 fn gives(alloc: Global, more: &[&str], name: &str, text: Option<&str>) -> bool {
     let Ok(words) = with_more(alloc, more) else {
         return false;
@@ -194,7 +194,7 @@ fn a_report_is_asked_for_by_a_flag_without_text(rt: HostRuntime) {
     assert!(rt; reports(rt.alloc(), &["--report=yes"]) == Err(2));
 }
 
-/// Whether the changed words are refused for this option.
+/// Whether the changed arguments are refused for this option.
 fn is_bad(alloc: Global, place: usize, word: &str, option: Opt) -> bool {
     let want = Refusal {
         bad: Some(option),

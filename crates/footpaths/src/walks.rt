@@ -21,7 +21,7 @@ use table_records::{
     open_table, read_records, trim,
 };
 
-/// A walk from one place to another. A station stands for all its stops.
+/// A walk from one location to another. A station stands for all its stops.
 #[derive(Clone, Copy)]
 pub(crate) struct Walk {
     pub origin: Place,
@@ -57,7 +57,7 @@ pub(crate) struct WalkColumns {
     pub seconds: Option<usize>,
 }
 
-/// A reader of the file of footpaths, whose records name the feed's places.
+/// A reader of the file of footpaths, whose records name the feed's locations.
 #[derive(Drop)]
 pub(crate) struct WalkReader<'a> {
     pub columns: WalkColumns,

@@ -186,7 +186,7 @@ fn try_steps(
     }
 }
 
-/// Whether the steps are answered as they should be; the steps where they tell want of memory.
+/// Whether the steps are answered as they should be; the steps where they tell out of memory.
 fn makes_steps(
     alloc: Global,
     book: &mut Book,

@@ -1,5 +1,6 @@
-//! Trials of each public call that takes memory: made once, and, where it tells want of memory, once more, over inputs whose
-//! answers are known. `bench/hostile.py` runs the program with its first, second and each further growth of memory refused.
+//! Trials of each public call that takes memory: made once, and, where it tells out of memory, once more, over inputs
+//! whose answers are known. `bench/hostile.py` runs the program with its first, second and each further growth of
+//! memory refused.
 //!
 //!     growth_trials [TRIAL]
 //!
@@ -39,7 +40,7 @@ fn main(rt: HostRuntime) -> ExitCode {
     }
 }
 
-/// Makes the trial that the words name, or all of them where they name none. Whether all goes as it should.
+/// Makes the trial that the arguments name, or all of them where they name none. Whether all goes as it should.
 fn run<R: Env + Print + AllocGlobal + Threads + Wait + Sync>(rt: &R) -> io::Result<bool> {
     let words = match words_of(rt) {
         Ok(words) => words,
@@ -54,7 +55,7 @@ fn run<R: Env + Print + AllocGlobal + Threads + Wait + Sync>(rt: &R) -> io::Resu
     }
 }
 
-/// The words of the command line. Each growth that is refused here is told, so that none is taken for the call's.
+/// The arguments. Each growth that is refused here is told, so that none is taken for the call's.
 fn words_of<R: Env + AllocGlobal>(rt: &R) -> io::Result<Vec<String>> {
     let mut words = Vec::new(rt.alloc());
     for word in env::args(rt)? {

@@ -61,7 +61,7 @@ fn try_lists(alloc: Global, case: FeetCase, lists: Lists, changes: Vec<u32>) -> 
     }
 }
 
-/// Whether it gives what it should; the lists where it tells want of memory.
+/// Whether it gives what it should; the lists where it tells out of memory.
 fn makes_feet(
     alloc: Global,
     case: FeetCase,
@@ -143,7 +143,7 @@ fn try_trips(alloc: Global, case: NetCase, feet: &Feet, trips: Vec<Trip>) -> Out
     }
 }
 
-/// Whether it gives what it should; the trips where it tells want of memory.
+/// Whether it gives what it should; the trips where it tells out of memory.
 fn makes_network(
     alloc: Global,
     case: NetCase,

@@ -7,13 +7,13 @@ use std::alloc::AllocError;
 pub(crate) enum Outcome {
     /// It gave the right value.
     Right,
-    /// It told want of memory, and gave the right value when it was made again.
+    /// It told out of memory, and gave the right value when it was made again.
     RightAgain,
     /// There was no memory for its inputs, and it wasn't made.
     Inputs,
-    /// It gave another value, or told another fault.
+    /// It gave another value, or told another error.
     Wrong,
-    /// It told want of memory, and then anything but the right value.
+    /// It told out of memory, and then anything but the right value.
     WrongAgain,
 }
 
@@ -27,7 +27,7 @@ impl Outcome {
         }
     }
 
-    /// What comes of a call that told want of memory, and this when it was made again.
+    /// What comes of a call that told out of memory, and this when it was made again.
     pub(crate) fn again(second: Result<bool, AllocError>) -> Outcome {
         match second {
             Ok(true) => Outcome::RightAgain,
@@ -52,7 +52,7 @@ impl Outcome {
     }
 }
 
-/// What a call tells by a fault: want of memory, or anything else, which is wrong.
+/// What a call tells by an error: out of memory, or anything else, which is wrong.
 pub(crate) fn told(is_memory: bool) -> Result<bool, AllocError> {
     if is_memory {
         Err(AllocError)

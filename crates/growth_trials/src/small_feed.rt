@@ -75,7 +75,7 @@ pub(crate) fn small_files() -> FeedBytes<'static> {
 }
 
 /// The small feed. None where there is no memory for it; so it is with all inputs of trials. They stand in boxes, so
-/// that whoever holds them lets go of them in one step.
+/// that whoever holds them drops them in one step.
 pub(crate) fn small_feed(alloc: Global) -> Option<Box<Feed>> {
     let files = small_files();
     if !files.fits() {

@@ -114,7 +114,7 @@ fn makes_line(alloc: Global) -> Result<bool, AllocError> {
     }
 }
 
-/// Whether a study tells want of memory. The start of a thread takes memory too.
+/// Whether a study tells out of memory. The start of a thread takes memory too.
 fn is_memory(fault: StudyFault) -> bool {
     match fault {
         StudyFault::Memory => true,

@@ -1,4 +1,4 @@
-//! The calls of the command line: words, paths, files and lines.
+//! The calls of the command line: arguments, paths, files and lines.
 
 use crate::outcomes::{Outcome, told};
 use crate::small_feed::{MONDAY, small_files};
@@ -20,7 +20,7 @@ pub(crate) enum Call {
     ReadAll,
 }
 
-/// What words are asked for: a study, or help, or neither.
+/// What arguments are asked for: a study, or help, or neither.
 #[derive(Clone, Copy)]
 pub(crate) enum Asked {
     Study,
@@ -28,7 +28,7 @@ pub(crate) enum Asked {
     Nonsense,
 }
 
-/// The words of a study of one minute of the small feed.
+/// The arguments of a study of one minute of the small feed.
 const STUDY: [&str; 21] = [
     "ttm",
     "--feed",
@@ -112,7 +112,7 @@ pub(crate) fn try_task(alloc: Global, asked: Asked) -> Outcome {
     }
 }
 
-/// The words of the study; with a word for help, or one that isn't the command's, last.
+/// The arguments of the study; with one for help, or one that isn't the command's, last.
 fn words_of(alloc: Global, asked: Asked) -> Result<Vec<String>, AllocError> {
     let mut words = Vec::with_capacity(alloc, STUDY.len() + 1)?;
     for word in STUDY {
@@ -133,7 +133,7 @@ fn try_words(alloc: Global, words: &[String], asked: Asked) -> Outcome {
     }
 }
 
-/// Whether the words are taken for what they ask.
+/// Whether the arguments are taken for what they ask.
 fn asks(alloc: Global, words: &[String], asked: Asked) -> Result<bool, AllocError> {
     match task_of(alloc, words) {
         Ok(task) => {
@@ -145,7 +145,7 @@ fn asks(alloc: Global, words: &[String], asked: Asked) -> Result<bool, AllocErro
     }
 }
 
-/// Whether a task is that of the study's words.
+/// Whether a task is that of the study's arguments.
 fn is_study(task: &Task) -> bool {
     let has_no_files = task.footpaths.is_none()
         && task.origins.is_none()
@@ -155,7 +155,7 @@ fn is_study(task: &Task) -> bool {
     task.feed.as_str() == "town" && has_no_files && are_asked(&task.settings)
 }
 
-/// Whether the settings are those of the study's words.
+/// Whether the settings are those of the study's arguments.
 fn are_asked(settings: &Settings) -> bool {
     let numbers = [
         settings.back,
@@ -173,7 +173,7 @@ fn are_asked(settings: &Settings) -> bool {
         && settings.withins.as_slice() == [1_800].as_slice()
 }
 
-/// Whether words that are no study are told for what they are.
+/// Whether arguments that are no study are told for what they are.
 fn is_refused(fault: &WordFault, asked: Asked) -> Result<bool, AllocError> {
     match (fault, asked) {
         (WordFault::Memory, _) => Err(AllocError),

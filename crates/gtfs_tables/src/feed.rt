@@ -210,7 +210,7 @@ impl Feed {
         self.aside
     }
 
-    /// The place with an identifier: a stop, a station, or another record of `stops.txt`; none where no record has it.
+    /// The location with an identifier, a record of `stops.txt`; none where no record has it.
     pub fn place(&self, id: &[u8]) -> Option<Place>
         ensures named { result ≡ location_named self.now.names self.now.locations id.now }
         ensures unknown { is_none result ≡ is_none (position (bytes_eq id.now) self.now.names) }
@@ -229,7 +229,7 @@ impl Feed {
         self.locations.children(station)
     }
 
-    /// The stops that a place stands for: a stop for itself, a station for its stops, another place for none.
+    /// The stops that a location stands for: a stop for itself, a station for its stops, another for none.
     pub fn stops_at(&self, place: Place) -> Ends<'_>
         requires { children_spec.IsPlace (length self.now.stops) (length self.now.children) place }
         ensures { ends_spec.stops_of result ≡ children_spec.stops_at place self.now.children }

@@ -118,7 +118,7 @@ fn a_change_at_the_end_of_the_numbers_takes_its_time(rt: HostRuntime) -> Result<
     Ok(())
 }
 
-/// A place of a line where all may board and alight.
+/// A position on a line where all may board and alight.
 fn call(stop: u32) -> Call
     ensures { result.stop.0 ≡ stop }
 {

@@ -9,8 +9,8 @@ pub(crate) type Footpath = (usize, u32, u32);
 
 /// A small network, if it is one.
 ///
-/// It stands in a box: whoever holds it lets go of it in one step, where the prover would else follow each of its lists
-/// on every way out.
+/// It stands in a box: whoever holds it drops it in one step, where the prover would else follow each of its lists on
+/// every way out.
 pub(crate) type SmallNetwork = Option<Box<Network>>;
 
 /// An event where everybody may board and alight.

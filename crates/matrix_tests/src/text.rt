@@ -43,7 +43,7 @@ const TWO_STOPS: Files = Files {
     stop_times: b"trip_id,stop_id,stop_sequence,arrival_time,departure_time\n",
 };
 
-/// The feed of two trips, if it is one. It stands in a box, so that whoever holds it lets go of it in one step.
+/// The feed of two trips, if it is one. It stands in a box, so that whoever holds it drops it in one step.
 fn feed_of(alloc: Global, own: Files) -> Option<Box<Feed>> {
     let files = FeedBytes {
         stops: Some(own.stops),
@@ -94,7 +94,7 @@ const BASE_FROM_A: Named<'static> = Named {
     destinations: &EVERY_STOP,
 };
 
-/// The row of a scenario and an origin, of what each of its shares gives; want of memory is told too without shares.
+/// The row of a scenario and an origin, of what each of its shares gives; out of memory is told too without shares.
 fn row_of(alloc: Global, shares: &[Told<'_>]) -> Result<Row, AllocError> {
     let Some((scenario, origin, _, _)) = shares.first() else {
         return Err(AllocError);
@@ -114,8 +114,8 @@ fn row_of(alloc: Global, shares: &[Told<'_>]) -> Result<Row, AllocError> {
     })
 }
 
-/// The matrix of three columns with so many scenarios, origins, shares and limits as are named, of what the shares of each
-/// row give, one after another; want of memory is told too where they don't fill it.
+/// The matrix of three columns with so many scenarios, origins, shares and limits as are named, of what the shares of
+/// each row give, one after another; out of memory is told too where they don't fill it.
 fn matrix_of(alloc: Global, named: Named<'_>, told: &[Told<'_>]) -> Result<Matrix, AllocError> {
     let shares = named.shares.len();
     if named.scenarios.len() > 3 || named.origins.len() > 3 || shares == 0 || shares > 3 {
@@ -151,7 +151,7 @@ fn list_of(alloc: Global, names: &[&[u8]]) -> Result<Vec<Vec<u8>>, AllocError> {
     Ok(list)
 }
 
-/// Writes the text where the labels fit; want of memory is told too where they don't.
+/// Writes the text where the labels fit; out of memory is told too where they don't.
 fn write_over<W: Write>(
     alloc: Global,
     feed: &Feed,

@@ -37,8 +37,8 @@ pub(crate) struct Asked {
     pub walk: u32,
 }
 
-/// What five words ask for: the date, the time of the first departure, how many minutes have one, the most rides, and
-/// the longest walk in seconds. None where one of them isn't a date, a time or a number.
+/// What five arguments ask for: the date, the time of the first departure, how many minutes have one, the most rides,
+/// and the longest walk in seconds. None where one of them isn't a date, a time or a number.
 pub(crate) fn read(part: Part, words: &[String]) -> Option<Asked>
     requires { length words.now ≡ 5 }
 {

@@ -13,7 +13,7 @@ pub(crate) fn read_feed_files(rt: &HostRuntime, folder: &str) -> io::Result<Feed
     }
 }
 
-// Reads each file to its place.
+// Reads each file to its field.
 fn fill(rt: &HostRuntime, folder: &str, files: &mut FeedFiles) -> io::Result<()> {
     files.stops = read_file(rt, folder, "stops.txt")?;
     files.routes = read_file(rt, folder, "routes.txt")?;

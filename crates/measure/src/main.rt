@@ -5,7 +5,7 @@
 //! - `reading`: a feed's reading beside `csv_alone`, which is the yardstick.
 //! - `stages`: a study, stage after stage; `tables` and `networks` make two of them, `sizes` says how much was made.
 //! - `origins`: the least durations, origin by origin. `rows`: beside the cells and access of the same rows.
-//! - `asked`: what the words ask for; `feed_files` and `own_files` hold the files in memory.
+//! - `asked`: what the arguments ask for; `feed_files` and `own_files` hold the files in memory.
 //! - `telling` prints the lines of the report, `figures` does the sums.
 #![tactic(auto)]
 
@@ -38,7 +38,7 @@ fn main(rt: HostRuntime) -> io::Result<()> {
     run(&rt, words.as_slice())
 }
 
-/// Measures what the words ask for; the first word is the program's name.
+/// Measures what the arguments ask for; the first is the program's name.
 fn run(rt: &HostRuntime, words: &[String]) -> io::Result<()> {
     match words.len() {
         2 => reading::time_feed(rt, words[1].as_str()),

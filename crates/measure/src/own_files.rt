@@ -9,7 +9,7 @@ pub(crate) struct ScenarioFile {
     pub bytes: Vec<u8>,
 }
 
-/// The bytes of a file, none where the word for its path is `-`.
+/// The bytes of a file, none where the argument for its path is `-`.
 pub(crate) fn read_own(rt: &HostRuntime, path: &str) -> io::Result<Option<Vec<u8>>> {
     if path == "-" {
         return Ok(None);

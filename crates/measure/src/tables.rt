@@ -16,7 +16,7 @@ pub(crate) enum TableFault {
     Table(FeedFault),
     /// A scenario file is refused.
     Scenario(ScenarioFault),
-    /// A growth was refused for want of memory.
+    /// Out of memory.
     Memory,
 }
 

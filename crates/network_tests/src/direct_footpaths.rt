@@ -13,7 +13,7 @@ A,,\nB,,S\nS,1,\nC,0,S\nT,1,\nD,,T\nE,,T\nU,1,\nX,2,S\n";
 // Walks between the stops of S, and from A to B.
 const TRANSFERS: &[u8] = b"from_stop_id,to_stop_id,min_transfer_time\nS,S,30\nA,B,60\n";
 
-/// A feed with these stops and transfers, and no trips. It stands in a box, so that whoever holds it lets go of it in one
+/// A feed with these stops and transfers, and no trips. It stands in a box, so that whoever holds it drops it in one
 /// step.
 fn feed_of<'a>(
     alloc: Global,

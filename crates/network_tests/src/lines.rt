@@ -83,8 +83,8 @@ fn no_walks(alloc: Global) -> Result<Feet, AllocError> {
     }
 }
 
-// The network of three stops, without walks, with these trips. It stands in a box, so that whoever holds it lets go of it
-// in one step.
+// The network of three stops, without walks, with these trips. It stands in a box, so that whoever holds it drops it in
+// one step.
 fn network(alloc: Global, trips: Vec<Trip>) -> Result<Box<Network>, AllocError>
     ensures { IfOk result (λ n. n.value.stops ≡ 3) }
 {
@@ -151,7 +151,7 @@ fn times(arrive: u32, depart: u32) -> Times {
     Times { arrive, depart }
 }
 
-// Whether some line has just these places.
+// Whether some line has just these calls.
 fn has_calls(network: &Network, calls: &[Call]) -> bool {
     let lines = network.lines();
     for line in 0..lines.count() {

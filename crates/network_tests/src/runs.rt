@@ -27,8 +27,8 @@ enum Expected {
     ManyRuns,
 }
 
-// Whether the files are read, and a feed is as expected. One function owns the feeds of all tests, so that letting go
-// of one is proved once.
+// Whether the files are read, and a feed is as expected. One function owns the feeds of all tests, so that the drop of
+// one is proved once.
 fn gives(alloc: Global, expected: Expected, files: FeedBytes<'static>) -> bool {
     match feed_in(alloc, files) {
         Some(feed) => is_as_expected(alloc, &feed, expected),

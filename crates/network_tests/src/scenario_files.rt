@@ -116,8 +116,8 @@ fn is_as_expected(alloc: Global, feed: &Feed, expected: Expected<'_>) -> bool {
     }
 }
 
-// Whether the files are read, and a scenario file over their feed is as expected. One function owns the feeds of all tests,
-// so that letting go of one is proved once.
+// Whether the files are read, and a scenario file over their feed is as expected. One function owns the feeds of all
+// tests, so that the drop of one is proved once.
 fn gives(alloc: Global, files: FeedBytes<'static>, expected: Expected<'_>) -> bool {
     match feed_in(alloc, files) {
         Some(feed) => is_as_expected(alloc, &feed, expected),

@@ -34,8 +34,8 @@ fn short_walk(alloc: Global) -> Option<Feet> {
     }
 }
 
-// The network of the scenario without edits on the first Monday, with so many days before it and one after it; want of memory
-// is told too where the study has no runs.
+// The network of the scenario without edits on the first Monday, with so many days before it and one after it; out of
+// memory is told too where the study has no runs.
 fn network_around_monday(
     alloc: Global,
     feed: &Feed,
@@ -154,8 +154,8 @@ fn is_as_expected(alloc: Global, feed: &Feed, expected: Expected<'_>) -> bool {
     }
 }
 
-// Whether the files are read, and a feed is as expected. One function owns the feeds of all tests, so that letting go
-// of one is proved once.
+// Whether the files are read, and a feed is as expected. One function owns the feeds of all tests, so that the drop of
+// one is proved once.
 fn gives(alloc: Global, files: FeedBytes<'static>, expected: Expected<'_>) -> bool {
     match feed_in(alloc, files) {
         Some(feed) => is_as_expected(alloc, &feed, expected),

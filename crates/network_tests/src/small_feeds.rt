@@ -48,7 +48,7 @@ pub(crate) fn in_may(trips: &'static [u8], stop_times: &'static [u8]) -> FeedByt
     }
 }
 
-// The feed of the files, none where they have a fault. It stands in a box, so that whoever holds it lets go of it in one
+// The feed of the files, none where they have a fault. It stands in a box, so that whoever holds it drops it in one
 // step.
 pub(crate) fn feed_in(alloc: Global, files: FeedBytes<'_>) -> Option<Box<Feed>> {
     if !files.fits() {

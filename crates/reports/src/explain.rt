@@ -200,7 +200,7 @@ fn columns_text(alloc: Global, header: &ByteRecord) -> Result<String, AllocError
     Ok(text)
 }
 
-/// Adds a column at its place.
+/// Adds a column, parted from the one before.
 fn add_column(
     alloc: Global,
     text: &mut String,

@@ -11,7 +11,7 @@
 //! - `option_lines`: the same of an option that is refused ([`explain_option`]). `folder_lines`: what stands in the folder of a feed that
 //!   lacks a file, or why it isn't one ([`explain_folder`]).
 //!
-//! A line tells one fact. Where memory is short for a line it is left out.
+//! A line tells one fact. A line for which memory runs out is left out.
 #![tactic(auto)]
 
 mod advice;

@@ -22,7 +22,8 @@ const NO_LIST: &str =
 /// What is wrong with a list whose numbers don't ascend.
 const NO_ASCENT: &str = "each number of a list is greater than the one before it";
 
-/// Tells what the line of a bad option can't say, if the words ask for a report: its text as it stands there, and what is allowed.
+/// Tells what the line of a bad option can't say, if the arguments ask for a report: its text as it stands there, and
+/// what is allowed.
 pub fn explain_option<C: Console>(console: &C, alloc: Global, words: &[String], option: Opt) {
     if let Some(report) = text_at(alloc, words, "report") {
         if report.as_str() == "true" {
@@ -31,7 +32,7 @@ pub fn explain_option<C: Console>(console: &C, alloc: Global, words: &[String], 
     }
 }
 
-/// The text of an option, if the words give it one and there is memory for it.
+/// The text of an option, if the arguments give it one and there is memory for it.
 fn text_at(alloc: Global, words: &[String], name: &str) -> Option<String> {
     match text_of(alloc, words, name) {
         Ok(text) => text,

@@ -151,7 +151,7 @@ fn are_told_of_reached<R: Row>(
 /// it. Where labels can't tell all of them it gives up, and says so: what is written is then of no use.
 ///
 /// `last` says how late somebody may be at each stop; stops that no journey reaches may be left out of it, found by the
-/// tables `beside`. Want of memory for these is the only refusal.
+/// tables `beside`. Out of memory for these is the only error.
 pub(crate) fn run_window<R: Row>(
     alloc: Global,
     query: Query<'_>,

@@ -1,5 +1,5 @@
 //! Which lines a round scans, and from where: those that one may board at a stop where a label fell, each from the first of
-//! such places on.
+//! such positions on.
 ghost use Rattle.std.specs.Prelude.{◌≡◌, ℕ, ◌<◌, ◌≤◌, length, slice_get, slice_index, Some};
 ghost use Rattle.timetable.specs.FlatLists.{IsIn};
 ghost use Rattle.timetable.specs.declared.limits.TheConstants.{MOST_STOPS};
@@ -8,7 +8,7 @@ ghost use Rattle.trip_lanes.specs.declared.falls.Fall.{Fall as FallValue};
 use timetable::{Lines, StopNo};
 use trip_lanes::Fall;
 
-/// Notes the lines of a list, each from its place on, unless it is noted from an earlier one on.
+/// Notes the lines of a list, each from its position on, unless it is noted from an earlier one on.
 fn note_all(row: &[(u32, u32)], due: &mut [u32])
     requires { (k line place : ℕ) → slice_get row.now k ≡ Some (line, place) → line < length due.old }
     ensures earlier { (line : ℕ) → slice_index due.new line ≤ slice_index due.old line }
@@ -19,7 +19,7 @@ fn note_all(row: &[(u32, u32)], due: &mut [u32])
     }
 }
 
-/// Notes a line from a place on, unless it is noted from an earlier one on.
+/// Notes a line from a position on, unless it is noted from an earlier one on.
 fn note(due: &mut [u32], line: usize, place: u32)
     requires { line < length due.old }
     ensures earlier { (other : ℕ) → slice_index due.new other ≤ slice_index due.old other }
@@ -30,7 +30,7 @@ fn note(due: &mut [u32], line: usize, place: u32)
     }
 }
 
-/// Notes the lines that one may board at a stop where labels fell, each from the first of such places on.
+/// Notes the lines that one may board at a stop where labels fell, each from the first of such positions on.
 pub(crate) fn note_lines(lines: &Lines, falls: &[Fall], due: &mut [u32])
     requires stops { length falls.now ≡ length lines.now.boarded }
     requires few { length falls.now ≤ MOST_STOPS }

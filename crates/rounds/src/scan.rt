@@ -35,7 +35,7 @@ pub(crate) struct Round<'a, 'b, R> {
 }
 
 /// Carries travellers along the trips of a line: who is ready by a departure and was not before. Nobody newly catches a trip
-/// of it before the first place.
+/// of it before the first position.
 fn scan_trips<R: Row>(
     round: Round<'_, '_, R>,
     line: u32,

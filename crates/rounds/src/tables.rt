@@ -26,7 +26,7 @@ pub(crate) struct Tables<R> {
     /// this one, and become its own.
     pub bound_ride: Vec<Kept>,
     pub bound_ready: Vec<Kept>,
-    /// From which place on a line is scanned in this round, or `NEVER`.
+    /// From which position on a line is scanned in this round, or `NEVER`.
     pub due: Vec<u32>,
 }
 
@@ -67,7 +67,7 @@ impl<R: Row> Tables<R> {
     }
 }
 
-/// Makes a table of labels that has so many places, unless it has.
+/// Makes a table of labels that is so long, unless it is.
 fn make_rows<R: Row>(alloc: Global, table: &mut Vec<R>, places: usize) -> Result<(), AllocError>
     ensures { OnOk result (length table.new.items ≡ places) }
 {
@@ -77,7 +77,7 @@ fn make_rows<R: Row>(alloc: Global, table: &mut Vec<R>, places: usize) -> Result
     Ok(())
 }
 
-/// Makes a table of bounds that has so many places, unless it has.
+/// Makes a table of bounds that is so long, unless it is.
 fn make_kept(alloc: Global, table: &mut Vec<Kept>, places: usize) -> Result<(), AllocError>
     ensures { OnOk result (length table.new.items ≡ places) }
 {
@@ -87,7 +87,7 @@ fn make_kept(alloc: Global, table: &mut Vec<Kept>, places: usize) -> Result<(), 
     Ok(())
 }
 
-/// Makes a table of falls that has so many places, unless it has.
+/// Makes a table of falls that is so long, unless it is.
 fn make_falls(alloc: Global, table: &mut Vec<Fall>, places: usize) -> Result<(), AllocError>
     ensures { OnOk result (length table.new.items ≡ places) }
 {
@@ -97,7 +97,7 @@ fn make_falls(alloc: Global, table: &mut Vec<Fall>, places: usize) -> Result<(),
     Ok(())
 }
 
-/// Makes a table of marks that has so many places, unless it has.
+/// Makes a table of marks that is so long, unless it is.
 fn make_marks(alloc: Global, table: &mut Vec<bool>, places: usize) -> Result<(), AllocError>
     ensures { OnOk result (length table.new.items ≡ places) }
 {
@@ -107,7 +107,7 @@ fn make_marks(alloc: Global, table: &mut Vec<bool>, places: usize) -> Result<(),
     Ok(())
 }
 
-/// Makes a table of places of lines, or of times, that is so long, unless it is.
+/// Makes a table of positions on lines, or of times, that is so long, unless it is.
 pub(crate) fn make_times(
     alloc: Global,
     table: &mut Vec<u32>,

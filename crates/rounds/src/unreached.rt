@@ -65,7 +65,7 @@ fn leave_out<R: Row>(ride: &[R], ready: &[R], last: &mut [u32])
 }
 
 /// Makes the number of each stop 0 that no journey of the query reaches: who leaves later reaches no more stops than who
-/// leaves first. Want of memory for the tables is the only refusal.
+/// leaves first. Out of memory is the only error.
 pub(crate) fn leave_out_unreached(
     alloc: Global,
     query: Query<'_>,

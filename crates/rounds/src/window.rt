@@ -46,7 +46,7 @@ impl Window {
 /// The least durations from `origin` to every stop, for each departure of the window and journeys of at most `rides`
 /// rides, in seconds, waiting included.
 ///
-/// Want of memory is the only refusal. Who asks for several origins keeps a [`Search`].
+/// Out of memory is the only error. Who asks for several origins keeps a [`Search`].
 pub fn durations(
     alloc: Global,
     network: &Network,

@@ -19,7 +19,7 @@ pub enum ScenarioWhat {
     ShiftOutOfRange,
     /// The header lacks `action` or `id`.
     MissingColumn,
-    /// There was no memory; nothing is said of the file.
+    /// Out of memory; nothing is said of the file.
     Memory,
     /// More than 100,000 records.
     TooMany,
@@ -49,7 +49,7 @@ impl ScenarioFault {
         }
     }
 
-    // Want of memory, which no record is the cause of.
+    // Out of memory, which no record is the cause of.
     fn memory() -> ScenarioFault
         ensures { result.what ≡ Memory }
     {

@@ -3,9 +3,9 @@
 //! - `scenario`: [`Scenario`] and [`base`], the scenario without edits.
 //! - `files`: [`read_scenario`], the scenario that a file says, or its first [`ScenarioFault`].
 //!   Its records are read by `edit_rows`; `shifted_times` looks for times that are shifted out of range.
-//! - `networks`: [`network_of`], the network of the runs that a scenario keeps.
+//! - `networks`: [`network_of`], the network of the runs that a scenario keeps; `trip_list`, its trips so far.
 //! - `moving`: the events of a trip, moved.
-//! - `edits`: how many records a scenario may have, and how far they may shift times; `trip_list` and `places` keep them by trip and
+//! - `edits`: how many records a scenario may have, and how far they may shift times; `numbered` keeps them by trip and
 //!   by route, and `name` the scenario's name.
 //! - `faults`: why a scenario file is refused; `checks`: what is checked of its fields, as data.
 //!

@@ -9,8 +9,8 @@ use std::alloc::AllocError;
 use timetable::NetFault;
 use workers::RunFault;
 
-/// Why no answer is given, in the order in which a study is made: the first that is true is told.
-/// Want of memory may be told in its place.
+/// Why no answer is given, in the order in which a study is made: the first that is true is told. Out of memory may be
+/// told in its place.
 #[derive(Clone, Copy, Debug, PartialEq, Eq)]
 pub enum StudyFault {
     /// There are more than 15 scenario files.
@@ -33,7 +33,7 @@ pub enum StudyFault {
     Run(RunFault),
     /// The text isn't written.
     Text(TextFault),
-    /// A growth was refused for want of memory.
+    /// Out of memory.
     Memory,
 }
 

@@ -37,7 +37,7 @@ fn no_lists(alloc: Global, stops: u32) -> Result<Vec<Vec<(StopNo, u32)>>, AllocE
     Ok(lists)
 }
 
-/// Want of memory, the one fault that is left where nothing else can be wrong.
+/// Out of memory, the one error that is left where nothing else can be wrong.
 fn only_memory(fault: NetFault) -> AllocError
     requires { fault ≡ NetFault.Memory }
 {
@@ -60,7 +60,7 @@ fn no_feet(alloc: Global, stops: u32) -> Result<Feet, AllocError>
     }
 }
 
-/// Every trip of the feed once, in a box. Only want of memory can refuse it, since the feed's limits are the network's.
+/// Every trip of the feed once, in a box. Its only error is out of memory, since the feed's limits are the network's.
 pub(crate) fn network_once(alloc: Global, feed: &Feed) -> Result<Box<Network>, AllocError>
     ensures { IfOk result (λ network. network.value ≡ spec.network_once feed.now) }
 {

@@ -9,7 +9,7 @@ use crate::children::Children;
 use crate::place::Place;
 use timetable::StopNo;
 
-/// The stops that a place stands for: a stop stands for itself, a station for its stops, another place for none.
+/// The stops that a location stands for: a stop stands for itself, a station for its stops, another for none.
 #[derive(Clone, Copy, Drop)]
 pub enum Ends<'a> {
     /// One stop.
@@ -30,7 +30,7 @@ impl<'a> Ends<'a> {
     }
 }
 
-/// The stops that a place stands for, by the stops of each station.
+/// The stops that a location stands for, by the stops of each station.
 pub fn stops_at(place: Place, children: &Children) -> Ends<'_>
     requires { children_spec.HasChildren children.now place }
     ensures { spec.stops_of result ≡ children_spec.stops_at place children.now }

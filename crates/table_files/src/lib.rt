@@ -9,7 +9,7 @@
 //! - [`read_frequencies`] gives the departures of the trips that run at a headway.
 //! - [`read_transfers`] gives the walks between stops and stations.
 //!
-//! Beside the readers stand `children` and `ends` (the stops for which a place stands), `trip_times` (the records of one
+//! Beside the readers stand `children` and `ends` (the stops of a location), `trip_times` (the records of one
 //! trip, in order), `whole_trips` (what is checked once all records of a trip are known) and `fill` (the times of events that have none).
 //! `specs/` has one module per file, with its checks in their order.
 #![tactic(auto)]

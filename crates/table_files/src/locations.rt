@@ -65,7 +65,7 @@ impl Locations {
         &self.stops
     }
 
-    /// The place with an identifier, none where no record has it.
+    /// The location with an identifier, none where no record has it.
     pub fn place(&self, id: &[u8]) -> Option<Place>
         ensures named { result ≡ spec.location_named self.now.names self.now.locations id.now }
         ensures unknown { is_none result ≡ is_none (position (bytes_eq id.now) self.now.names) }
@@ -83,7 +83,7 @@ impl Locations {
         self.children.at(station)
     }
 
-    /// The stops that a place stands for: a stop stands for itself, a station for its stops.
+    /// The stops that a location stands for: a stop stands for itself, a station for its stops.
     pub fn stops_at(&self, place: Place) -> Ends<'_>
         requires { children_spec.IsPlace (length self.now.stops) (length self.now.stations) place }
         ensures { ends_spec.stops_of result ≡ children_spec.stops_at place self.now.children }
@@ -146,7 +146,7 @@ impl LocationList {
         }
     }
 
-    // Puts a place of a kind after the others; its name is put with the names.
+    // Puts a location of a kind after the others; its name is put with the names.
     fn add(&mut self, alloc: Global, kind: u32, id: &[u8], parent: &[u8]) -> Result<(), AllocError>
         requires stops { length self.old.stops ≤ MOST_STOPS }
         requires stations { length self.old.stations ≤ MOST_STOPS }

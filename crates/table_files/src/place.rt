@@ -2,7 +2,7 @@
 
 use timetable::StopNo;
 
-/// A place that a record of `stops.txt` names. (GTFS Schedule reference, `location_type`.)
+/// A location: what a record of `stops.txt` names. (GTFS Schedule reference, `location_type`.)
 ///
 /// Stops are numbered from 0 in file order, and so are stations.
 #[derive(Clone, Copy, Debug, PartialEq, Eq)]

@@ -19,8 +19,8 @@ use table_records::{
     number, read_records, trim,
 };
 
-/// A walk from one place to another, as a row of `transfers.txt` states it. A station stands for all its stops.
-/// A row of type 2 from a place to itself states a change time too: how long a change between two vehicles there takes at least.
+/// A walk from one location to another, as a row of `transfers.txt` states it. A station stands for all its stops.
+/// A row of type 2 from a location to itself states a change time too: the least that a change of vehicles takes there.
 #[derive(Clone, Copy, Debug, PartialEq, Eq)]
 pub struct Link {
     pub origin: Place,

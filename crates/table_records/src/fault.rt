@@ -53,7 +53,7 @@ pub enum What {
     TimesGoBack,
     /// More records than the limit.
     TooMany,
-    /// There was no memory; nothing is said of the file.
+    /// Out of memory; nothing is said of the file.
     Memory,
 }
 
@@ -62,7 +62,7 @@ pub enum What {
 pub enum HeaderFault {
     /// There is no header, or it lacks a required column.
     MissingColumn,
-    /// There was no memory; nothing is said of the file.
+    /// Out of memory; nothing is said of the file.
     Memory,
 }
 

@@ -90,7 +90,7 @@ impl Identifiers {
 
     /// Puts an identifier last unless it is here already, and says whether it was new.
     ///
-    /// Only for a new identifier is want of memory told.
+    /// Only for a new identifier may it be out of memory.
     pub fn push(&mut self, alloc: Global, id: &[u8]) -> Result<bool, AllocError>
         ensures added { IfOk result (λ added. added ≡ not (list_any (bytes_eq id.now) self.old)) }
         ensures ids { IfOk result (λ added. self.new ≡ (if added then self.old ++ id.now ∷ [] else self.old)) }

@@ -1,4 +1,4 @@
-//! The places of a feed and the walks between them: `location_type`, `parent_station` and `transfers.txt`.
+//! The locations of a feed and the walks between them: `location_type`, `parent_station` and `transfers.txt`.
 
 use crate::test_feeds::{expect_fault, feed_in, small_feed, station_feed};
 use gtfs_tables::{Feed, FeedBytes, FileName, Link, Place, What};
@@ -20,7 +20,8 @@ enum Expected {
     NoTransfers,
 }
 
-// Whether the files are read, and a feed is as expected. One function owns the feeds of all tests, so that letting go of one is proved once.
+// Whether the files are read, and a feed is as expected. One function owns the feeds of all tests, so that the drop of
+// one is proved once.
 fn reads(alloc: Global, expected: Expected, files: FeedBytes<'static>) -> bool {
     match feed_in(alloc, files) {
         Some(feed) => is_as_expected(&feed, expected),
@@ -47,7 +48,7 @@ fn has_children(feed: &Feed, id: &[u8], stops: &[StopNo]) -> bool {
     }
 }
 
-// Whether a place stands for these stops.
+// Whether a location stands for these stops.
 fn stands_for(feed: &Feed, id: &[u8], stops: &[StopNo]) -> bool {
     match feed.place(id) {
         Some(place) => feed.stops_at(place).as_slice() == stops,
@@ -55,7 +56,7 @@ fn stands_for(feed: &Feed, id: &[u8], stops: &[StopNo]) -> bool {
     }
 }
 
-// Whether each of six identifiers is that of its place.
+// Whether each of six identifiers is that of its location.
 fn has_places(feed: &Feed) -> bool {
     feed.place(b"A") == Some(Place::Stop(StopNo(0)))
         && feed.place(b"B") == Some(Place::Stop(StopNo(1)))

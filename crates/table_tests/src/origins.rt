@@ -35,7 +35,8 @@ enum Expected<'a> {
     Opportunities(Option<&'a [u8]>, &'a [u32]),
 }
 
-// Whether a file gives what is expected. One function owns the feeds of all tests, so that letting go of one is proved once.
+// Whether a file gives what is expected. One function owns the feeds of all tests, so that the drop of one is proved
+// once.
 fn gives(alloc: Global, expected: Expected<'_>) -> bool {
     match feed_in(alloc, small_feed()) {
         Some(feed) => is_as_expected(alloc, &feed, expected),

@@ -1,4 +1,4 @@
-//! The stops, stations and other places of `stops.txt`.
+//! The stops, stations and other locations of `stops.txt`.
 
 ghost use Rattle.std.specs.Prelude.{◌≤◌, length};
 
@@ -8,7 +8,7 @@ use table_files::{Locations, Place, read_locations};
 use table_records::{FeedFault, FileName, What};
 use timetable::StopNo;
 
-// Whether a place stands for these stops.
+// Whether a location stands for these stops.
 fn stands_for(places: &Locations, id: &[u8], stops: &[StopNo]) -> bool {
     match places.place(id) {
         Some(place) => places.stops_at(place).as_slice() == stops,
@@ -29,7 +29,7 @@ fn has_six_places(places: &Locations) -> bool {
         && places.place(b"Z") == None
 }
 
-// The places of a file. They stand in a box, so that whoever holds them lets go of them in one step.
+// The locations of a file. They stand in a box, so that whoever holds them drops them in one step.
 fn places_of(alloc: Global, bytes: &[u8]) -> Result<Box<Locations>, Fail>
     requires { length bytes.now ≤ 1073741824 }
 {

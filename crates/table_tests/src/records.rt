@@ -8,7 +8,7 @@ use table_records::{
     FeedFault, FileName, Rows, What, column, field, number, read_date, read_time, trim,
 };
 
-// A box is let go of in one step, where a reader and a record would be in many.
+// A box is dropped in one step, where a reader and a record would be in many.
 fn reader<'a>(alloc: Global, bytes: &'a [u8]) -> Result<Box<Rows<'a>>, AllocError> {
     Ok(Box::new(alloc, Rows::new(alloc, bytes))?)
 }

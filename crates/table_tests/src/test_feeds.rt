@@ -60,7 +60,7 @@ pub(crate) fn feed_of(
     }
 }
 
-/// The feed of the files, none where they have a fault. It stands in a box, so that whoever holds it lets go of it in one
+/// The feed of the files, none where they have a fault. It stands in a box, so that whoever holds it drops it in one
 /// step.
 pub(crate) fn feed_in(alloc: Global, files: FeedBytes<'_>) -> Option<Box<Feed>> {
     if !files.fits() {

@@ -9,7 +9,7 @@ use table_records::FeedFault;
 use timetable::StopNo;
 
 // Stops A and B, station S with the stops B and C, the empty station T, and an entrance E. They stand in a box, so that
-// whoever holds them lets go of them in one step.
+// whoever holds them drops them in one step.
 fn some_places(alloc: Global) -> Option<Box<Locations>> {
     match read_locations(
         alloc,

@@ -1,18 +1,18 @@
-//! When the trips of a line arrive at one of its places, and depart there.
+//! When the trips of a line arrive at one of its positions, and depart there.
 ghost use Rattle.std.specs.Prelude.{◌≡◌, ◌<◌};
 ghost use Rattle.trip_lanes.specs.Columns.{IsColumn, arrives, departs};
 ghost use Rattle.trip_lanes.specs.Cut.{cut};
 
 use timetable::Times;
 
-/// A place of a line, with the times of the line's trips. The trips are known by their ranks, the earliest first.
+/// A position on a line, with the times of the line's trips. The trips are known by their ranks, the earliest first.
 #[derive(Clone, Copy)]
 pub(crate) struct Column<'a> {
-    /// The times of all trips, trip by trip, and of each trip place by place.
+    /// The times of all trips, trip by trip, and of each trip position by position.
     pub times: &'a [Times],
-    /// How many places the line has.
+    /// How many positions the line has.
     pub places: usize,
-    /// The place, counted from 0.
+    /// The position, counted from 0.
     pub place: usize,
     /// How many trips the line has.
     pub trips: usize,

@@ -8,8 +8,8 @@
 //!
 //! - `rows`: [`Row`], over which a search is written once. `wide`, `narrow`: what each width does in each lane.
 //! - `kernels`: [`lower_row`], labels of one stop; [`carry_trip`], one trip as it stands.
-//! - `line_scan`: [`scan_line`], all trips of a line in one pass over its places.
-//! - `columns`: when the trips of a line arrive at one of its places, and depart. `ranks`: which of
+//! - `line_scan`: [`scan_line`], all trips of a line in one pass over its positions.
+//! - `columns`: when the trips of a line arrive at one of its positions, and depart. `ranks`: which of
 //!   them each lane rides.
 //! - `walks`: [`walk`] and [`transfer`], from every stop. `marked_walks`: from marked ones alone.
 //! - `falls`: how far the labels of stops fell since lines were last scanned.

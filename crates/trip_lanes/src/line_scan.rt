@@ -1,5 +1,5 @@
-//! All trips of a line, in one pass over its places and in each lane: a stop's label is read and written once for all
-//! of them, and only trips that some lane newly catches are carried.
+//! All trips of a line, in one pass over its positions and in each lane: a stop's label is read and written once for
+//! all of them, and only trips that some lane newly catches are carried.
 //! (Lines are the routes of the RAPTOR paper: Delling, Pajor, Werneck, ALENEX 2012.)
 ghost use Rattle.std.specs.Prelude.{◌≡◌, ◌+◌, ◌*◌, ℕ, ◌<◌, ◌≤◌, ◌⊎◌, List, length, slice_index, All};
 ghost use Rattle.trip_lanes.specs.Lane.{lane, labels_in, MarksFallenOf};
@@ -17,8 +17,8 @@ use crate::ranks::{Span, arrivals, board};
 use crate::rows::Row;
 use timetable::{Call, Times};
 
-/// The places of a line and the times of its trips, the earliest trip first: trip by trip, and of each trip place by
-/// place.
+/// The positions of a line and the times of its trips, the earliest trip first: trip by trip, and of each trip position
+/// by position.
 #[derive(Clone, Copy)]
 pub struct LineView<'a> {
     pub calls: &'a [Call],
@@ -37,8 +37,8 @@ pub struct Labels<'a, R> {
     pub ready: &'a [R],
 }
 
-/// Carries travellers along the trips of a line, from a place on: in each lane whoever is ready by a departure, and was
-/// not before it. Stops where a label fell are marked.
+/// Carries travellers along the trips of a line, from a position on: in each lane whoever is ready by a departure, and
+/// was not before it. Stops where a label fell are marked.
 pub fn scan_line<R: Row>(
     line: LineView<'_>,
     from: usize,
@@ -150,7 +150,7 @@ fn forth(column: Column<'_>, time: u32, start: usize) -> usize
     first
 }
 
-/// Takes the lanes aboard at a place that newly catch a trip there: of all trips from the first on that somebody
+/// Takes the lanes aboard at a position that newly catch a trip there: of all trips from the first on that somebody
 /// catches.
 fn board_place<R: Row>(column: Column<'_>, first: usize, fall: Fall, ready: R, run: R) -> R
     requires column { IsColumn column }

@@ -13,7 +13,7 @@ use std::{fs, io};
 
 /// Where the files of a study are found, by their paths.
 ///
-/// Contracts name what a read of a path may find, so that they can tell which file goes where, and which fault was met
+/// Contracts name what a read of a path may find, so that they can tell which file goes where, and which error was met
 /// where. What is on a disk no contract knows.
 pub(crate) trait Disk {
     /// A read of this path may find this: the bytes of a file, that there is none, or why it isn't read.

@@ -1,12 +1,14 @@
 //! `ttm`: an analyst's travel time matrices over GTFS timetables.
 //!
-//! With words the program makes the study that they ask for; with none, a study of the small feed that it carries (`example`).
+//! With arguments the program makes the study that they ask for; with none, one of the small feed that it carries
+//! (`example`).
 //!
-//! - `program`: the whole way, from words to a printed matrix. `answers`: what is put out and told of a study, and its report.
-//! - `reading` reads the files that the words name from the `disk` into `study_files`; the crate `studies` makes the
-//!   matrix's text of them.
+//! - `program`: the whole way, from arguments to a printed matrix. `answers`: what is put out and told of a study, and
+//!   its report.
+//! - `reading` reads the files that the arguments name from the `disk` into `study_files`; the crate `studies` makes
+//!   the matrix's text of them.
 //!
-//! What the words ask for and which line tells a fault is the crate `command_line`'s.
+//! What the arguments ask for and which line tells a fault is the crate `command_line`'s.
 #![tactic(auto)]
 
 mod answers;

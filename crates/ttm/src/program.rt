@@ -1,7 +1,7 @@
-//! The program: words name files, the files and settings are a study, and its matrix goes to the standard output.
+//! The program: arguments name files, the files and settings are a study, and its matrix goes to the standard output.
 //!
-//! A report, where the words ask for one, goes to a console, which is another way to the standard error: so what is promised of
-//! the two outputs is said of every run, reported or not.
+//! A report, where the arguments ask for one, goes to a console, which is another way to the standard error: so what is
+//! promised of the two outputs is said of every run, reported or not.
 //!
 //! A fault is told by one line on the standard error, and by the exit status. Nothing but the whole matrix, or the
 //! help or the version that was asked for, is a success.
@@ -36,7 +36,7 @@ use std::thread::Threads;
 use std::{env, io};
 use studies::Inputs;
 
-/// What the program does: it has its words, its files, its console, its threads and memory of the runtime, and the two outputs.
+/// What the program does: it has arguments, files, console, threads and memory of the runtime, and the two outputs.
 pub(crate) fn run<
     R: Env + Disk + Console + AllocGlobal + Threads + Wait + Sync,
     O: Write,
@@ -56,7 +56,7 @@ pub(crate) fn run<
     }
 }
 
-/// Tells why the words can't be had: memory was short, or one of them isn't UTF-8.
+/// Tells why the arguments can't be had: out of memory, or one of them isn't UTF-8.
 fn tell_unread<E: Write>(error: &io::Error, err: &mut E) -> ExitCode
     ensures told { spec.TellsUnread (E.contents err.old) (E.contents err.new) (exit_status result) }
     ensures short { error_kind error.now ≡ OutOfMemory → IsShort (E.contents err.old) (E.contents err.new) (exit_status result) }
@@ -68,7 +68,7 @@ fn tell_unread<E: Write>(error: &io::Error, err: &mut E) -> ExitCode
     }
 }
 
-/// What the program does with its words: its name, and those after it.
+/// What the program does with its arguments: its name, and those after it.
 pub(crate) fn run_words<T: Threads + Wait + Sync, D: Disk, C: Console + Sync, O: Write, E: Write>(
     rt: &T,
     alloc: Global,
@@ -114,7 +114,7 @@ fn example<T: Threads + Wait + Sync, O: Write, E: Write>(
     }
 }
 
-/// The study that the words ask for.
+/// The study that the arguments ask for.
 fn asked<T: Threads + Wait + Sync, D: Disk, C: Console + Sync, O: Write, E: Write>(
     rt: &T,
     alloc: Global,
@@ -131,7 +131,7 @@ fn asked<T: Threads + Wait + Sync, D: Disk, C: Console + Sync, O: Write, E: Writ
     match task_of(alloc, words) {
         Ok(task) => {
             let code = study(rt, alloc, disk, console, &task, out, err);
-            // Let go of here and not on the way out, where the prover would follow each of its strings.
+            // Dropped here and not on the way out, where the prover would follow each of its strings.
             drop(task);
             code
         }
@@ -150,7 +150,7 @@ fn asked<T: Threads + Wait + Sync, D: Disk, C: Console + Sync, O: Write, E: Writ
     }
 }
 
-/// Puts out what `clap` says to words that ask for no study: its help or its version, or what is wrong with them.
+/// Puts out what `clap` says to arguments that ask for no study: its help or its version, or what is wrong with them.
 fn tell_words<O: Write, E: Write>(
     alloc: Global,
     error: &Error,
@@ -193,7 +193,7 @@ fn put_help<O: Write, E: Write>(text: &[u8], out: &mut O, err: &mut E) -> ExitCo
     }
 }
 
-/// The study of a task. It holds the files, and lets go of them at the end: the prover would follow them on each way
+/// The study of a task. It holds the files, and drops them at the end: the prover would follow them on each way
 /// out of a function that had more to do.
 fn study<T: Threads + Wait + Sync, D: Disk, C: Console + Sync, O: Write, E: Write>(
     rt: &T,

@@ -59,7 +59,7 @@ pub(crate) fn read_files<D: Disk, E: Write>(
     )
 }
 
-/// Reads the files of a feed, each to its place. One that isn't found is absent.
+/// Reads the files of a feed, each to its field. One that isn't found is absent.
 pub(crate) fn read_feed_files<D: Disk, E: Write>(
     alloc: Global,
     disk: &D,
@@ -117,7 +117,7 @@ pub(crate) fn read_feed_files<D: Disk, E: Write>(
     )
 }
 
-/// Reads a file of a feed to its place, if it is found.
+/// Reads a file of a feed to its field, if it is found.
 fn feed_file<D: Disk, E: Write>(
     alloc: Global,
     disk: &D,
@@ -140,7 +140,7 @@ fn feed_file<D: Disk, E: Write>(
     }
 }
 
-/// Reads a file that an option names to its place. It has to be there; without the option there is none.
+/// Reads a file that an option names to its field. It has to be there; without the option there is none.
 pub(crate) fn own_file<D: Disk, E: Write>(
     alloc: Global,
     disk: &D,
