@@ -77,7 +77,7 @@ class Packages:
 
 
 def example() -> str:
-    """The worked example of README: what the program prints without words."""
+    """The worked example of README: what the program prints without arguments."""
     found = re.search(r"^    \$ crates/ttm/out/ttm\n((?:    .*\n)+)", (ROOT / "README.md").read_text(), re.M)
     assert found, "README.md: no worked example"
     return re.sub("^    ", "", found[1], flags=re.M)

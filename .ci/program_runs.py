@@ -1,6 +1,6 @@
 #!/usr/bin/env python3
-"""Runs the built program as a user does, with words on folders and files, and compares both outputs and the exit status
-byte for byte.
+"""Runs the built program as a user does, with arguments that name folders and files, and compares both outputs and
+the exit status byte for byte.
 
 program_runs.py PROGRAM: the program as one compiler built it; the other compiler's build, PROGRAM.by-rattle, is run
 where it is there.
@@ -112,7 +112,7 @@ class Shut(Change):
 
 @dataclass(frozen=True)
 class Run:
-    """A run of the program: its words, what it should print, tell and end with, and what is done to the folder."""
+    """A run of the program: its arguments, what it should print, tell and end with, and what is done to the folder."""
 
     name: str
     words: str
@@ -123,7 +123,7 @@ class Run:
 
 
 def refused(name: str, words: str, line: str, *changes: Change) -> Run:
-    """A run whose words or tables are refused by a line."""
+    """A run whose arguments or tables are refused by a line."""
     return Run(name, words, err=f"ttm: {line}\n", status=2, changes=changes)
 
 
@@ -264,7 +264,7 @@ NO_WALKS = (
 
 @dataclass(frozen=True)
 class Report:
-    """A run with a report: its words, and what is told on the standard error; all else is as without a report."""
+    """A run with a report: its arguments, and what is told on the standard error; all else is as without a report."""
 
     name: str
     words: str
@@ -500,7 +500,7 @@ For more information, try '--help'.
 
 
 def wrong_word(program: str) -> tuple[object, object]:
-    """Words that aren't the program's are told on the standard error, with the name that the program was called by."""
+    """Arguments that aren't the program's are told on the standard error, with the name that the program was called by."""
     called = NO_OPTION.replace("Usage: ttm ", f"Usage: {os.path.basename(program)} ")
     return left_by(program, ["--nothing"]), ("", called, 2)
 
@@ -520,7 +520,7 @@ def few_files(program: str) -> tuple[object, object]:
 
 
 def no_text(program: str) -> tuple[object, object]:
-    """Words that are no UTF-8 are told."""
+    """Arguments that are no UTF-8 are told."""
     return left_by(program, [b"--feed", b"\xff"]), ("", "ttm: words that are not UTF-8\n", 2)
 
 

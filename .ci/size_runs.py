@@ -1,5 +1,5 @@
 #!/usr/bin/env python3
-"""Runs the built program over inputs of sizes at which one might give up too early: want of memory told for size alone
+"""Runs the built program over inputs of sizes at which one might give up too early: out of memory told for size alone
 can't be refused by a contract.
 
     size_runs.py PROGRAM
@@ -35,7 +35,7 @@ GREATEST = Path(__file__).resolve().parent.parent / "bench/greatest.py"
 
 @dataclass
 class Run:
-    """A run of the program in a folder: its words, and what it should print, tell and end with."""
+    """A run of the program in a folder: its arguments, and what it should print, tell and end with."""
 
     name: str
     words: list[str]
@@ -227,7 +227,7 @@ def past_a_gibibyte(room: Path) -> Run:
 
 
 def walks(room: Path, count: int, footpaths: Iterator[str], origin: int, walk: int) -> list[str]:
-    """Writes so many stops, footpaths between them and an origin that no trip leaves in time; gives the words."""
+    """Writes so many stops, footpaths between them and an origin that no trip leaves in time; gives the arguments."""
     line_of_stops(room, count)
     (room / "footpaths.csv").write_text("from_stop_id,to_stop_id,seconds\n" + "".join(footpaths))
     (room / "o.csv").write_text(f"stop_id\n{origin}\n")

@@ -37,7 +37,7 @@ USUAL = {
 
 
 def lay_out(case: Case, room: Path) -> list[str]:
-    """Writes a case's files, and gives its words."""
+    """Writes a case's files, and gives its arguments."""
     files: dict[str, str | None] = {**FEED, "origins.csv": "stop_id\nA\n", **case.files}
     words = ["--feed", "feed"]
     words += [str(it) for option, text in {**USUAL, **case.asked}.items() for it in (f"--{option}", text)]

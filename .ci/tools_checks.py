@@ -69,7 +69,7 @@ def lacking_browser() -> list[str]:
 
 
 def run(words: list[str], folder: Path) -> tuple[int, str]:
-    """Runs a command, prints what it says, and gives its status and its words."""
+    """Runs a command, prints what it says, and gives its status and what it said."""
     path = ":".join(str(ROOT / it) for it in CHECKED)
     environment = {**os.environ, "PYTHONDONTWRITEBYTECODE": "1", "MYPYPATH": path}
     ran = subprocess.run(

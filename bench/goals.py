@@ -211,7 +211,7 @@ PARTS: dict[str, Callable[[Asked], Iterator[Figure]]] = {
 
 
 def asked_of(words: Optional[Sequence[str]] = None) -> Asked:
-    """What the words of the command line ask for."""
+    """What the arguments ask for."""
     parser = parser_of(__doc__)
     for size in FILES:
         parser.add_argument("--" + size, metavar="FOLDER", required=True, help="an unpacked feed")

@@ -6,7 +6,7 @@ one byte at a time; each file cut short after every byte.
 
 Over four small studies, the last of several shares and limits: the text of the matrix comes whole and right, or a line
 and the status that belong to what was refused, and nothing else. With the built program of crates/growth_trials each
-public call that takes memory is refused each growth in turn, too: it gives the right value, or tells want of memory and
+public call that takes memory is refused each growth in turn, too: it gives the right value, or tells out of memory and
 gives it when made again. What it tried is counted, and the last line is 'N passed, M failed'. It wants a C compiler
 (`cc`), which builds bench/refuse.c. Standard library only.
 """
@@ -39,7 +39,7 @@ ASKED = "--feed . --date 20260504 --from 08:00 --to 08:00 --trips 2 --walk 300 -
 OWN = "--footpaths walks.csv --opportunities chances.csv --origins origins.csv --destinations to.csv"
 SHARES = ASKED.replace("--share 50 --within 1800", "--share 1,25,50,75,100 --within 700,1800")
 SEVERAL = SHARES.replace("--from 08:00 --to 08:00", "--from 07:58 --to 08:01")
-# the words of each study
+# the arguments of each study
 STUDIES = [
     f"{ASKED} --workers 1 cut.csv late.csv",
     f"{ASKED} --workers 2 cut.csv late.csv",

@@ -272,7 +272,7 @@ def options(words: Sequence[str]) -> argparse.Namespace:
 
 
 def write_matrix(words: Sequence[str], file: TextIO) -> None:
-    """Writes the matrix that these words ask for."""
+    """Writes the matrix that these arguments ask for."""
     asked = options(words)
     feed = Feed(asked.feed)
     feet = closed_footpaths(len(feed.stops), feed.direct_footpaths(asked.footpaths), asked.walk)

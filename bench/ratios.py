@@ -163,7 +163,7 @@ def row_of(folder: str, asked: Asked, programs: Sequence[Program], place: str) -
 
 
 def asked_of(words: Optional[Sequence[str]] = None) -> Asked:
-    """What the words of the command line ask for."""
+    """What the arguments ask for."""
     parser = parser_of(__doc__)
     which = "how many origins, of the folder's origins.csv or else of its stops; or a file of origins, in each folder"
     parser.add_argument("--times", type=int, default=3, help="runs of each program (default: 3)")

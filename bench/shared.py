@@ -14,7 +14,7 @@ DATE = "20260504"  # a Monday on which all trips of the made feeds run
 
 
 def parser_of(text: Optional[str]) -> argparse.ArgumentParser:
-    """A parser whose help shows a script's own words as they stand."""
+    """A parser whose help shows a script's own text as it stands."""
     return argparse.ArgumentParser(description=text, formatter_class=argparse.RawDescriptionHelpFormatter)
 
 
@@ -88,7 +88,7 @@ class Study:
     limits: Sequence[int] = (3600,)  # seconds
 
     def words(self, folder: str, origins: str, workers: int) -> list[str]:
-        """The words of the command line; the folder's `footpaths.csv` is taken where it has one."""
+        """The arguments; the folder's `footpaths.csv` is taken where it has one."""
         last = "%02d:%02d" % divmod(7 * 60 + self.minutes - 1, 60)
         words = ["--feed", folder, "--date", self.date, "--from", "07:00", "--to", last]
         words += ["--trips", str(self.trips), "--walk", str(self.walk)]

@@ -41,7 +41,7 @@ def timed(words: list[str]) -> str:
 
 
 def commands(feed: str, matrix: str, origin: str, share: list[str], counts: str) -> list[tuple[str, str, list[str]]]:
-    """Each command by its name, what it writes, and its words."""
+    """Each command by its name, what it writes, and its arguments."""
     kinds = ["--opportunities", counts, "--decay"]
     return [
         ("compare", "pairs.csv", ["--by", "pair", *share, matrix]),

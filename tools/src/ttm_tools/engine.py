@@ -1,4 +1,4 @@
-"""One run of `ttm` from Python: its words from one dataclass, its faults as exceptions, its matrix as arrays."""
+"""One run of `ttm` from Python: its arguments from one dataclass, its faults as exceptions, its matrix as arrays."""
 
 import os
 import re
@@ -34,7 +34,7 @@ class EngineFault(BadInput):
 
 @dataclass(frozen=True)
 class Run:
-    """What is asked of `ttm`; docs/ANALYSTS.md says what each word means."""
+    """What is asked of `ttm`; docs/ANALYSTS.md says what each argument means."""
 
     feed: Pathlike  # the folder of an unpacked feed
     date: str  # YYYYMMDD
@@ -51,7 +51,7 @@ class Run:
     files: Mapping[str, Pathlike] = field(default_factory=dict)  # origins, opportunities, destinations, footpaths
 
     def words(self) -> list[str]:
-        """The words of the command line, without the program."""
+        """The arguments, without the program."""
         numbers = {"trips": self.trips, "walk": self.walk, "workers": self.workers, "tries": self.tries}
         lists = {"share": ",".join(map(str, self.shares)), "within": ",".join(map(str, self.limits))}
         named: dict[str, object] = {"feed": self.feed, "date": self.date, "from": self.window[0], "to": self.window[1]}

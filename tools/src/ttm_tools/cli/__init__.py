@@ -69,8 +69,8 @@ def told(words: argparse.Namespace) -> int:
 
 
 def main(words: Sequence[str] | None = None) -> int:
-    """The command's exit status: 0 the whole result, 1 bad input, 2 wrong words, 3 want of memory, 128 and a signal's
-    number where that ended it.
+    """The command's exit status: 0 the whole result, 1 bad input, 2 wrong arguments, 3 out of memory, 128 and a
+    signal's number where that ended it.
     """
     asked = parser_of().parse_args(words)
     if words is None:

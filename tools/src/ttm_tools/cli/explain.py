@@ -71,7 +71,7 @@ def describe(parser: argparse.ArgumentParser) -> None:
 
 
 def asked_of(words: argparse.Namespace) -> "Run":
-    """The run of `ttm` that these words ask for."""
+    """The run of `ttm` that these arguments ask for."""
     from ..engine import Run
     from ..faults import WrongWords
 

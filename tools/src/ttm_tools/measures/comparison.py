@@ -76,7 +76,7 @@ def compare(pair: Pair, limit: float, with_pairs: bool) -> Comparison:
 
 
 def put_together(pieces: list[npt.NDArray[Any]]) -> npt.NDArray[Any]:
-    """A column of its pieces, which are let go of."""
+    """A column of its pieces, which are dropped."""
     made: npt.NDArray[Any] = np.concatenate(pieces)
     pieces.clear()
     return made

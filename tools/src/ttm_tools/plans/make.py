@@ -45,7 +45,7 @@ def make(feed: str, path: str, out: str, only: str | None = None) -> Made:
 
 
 def write_words(written: Written, folder: Path, out: str) -> str:
-    """Writes the scenario files, and the words of a run with all of them."""
+    """Writes the scenario files, and the arguments of a run with all of them."""
     names = write_scenarios(written, folder / FOLDER)
     words = ["--feed", out, *(str(Path(out) / FOLDER / name) for name in names)]
     text = " ".join(map(shlex.quote, words))

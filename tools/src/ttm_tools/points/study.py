@@ -269,7 +269,7 @@ def opportunities(asked: Asked, study: Study, column: str, rounded: Rounded) -> 
 
 
 def words(asked: Asked) -> str:
-    """The words of a run, an option a line, as a shell reads them."""
+    """The arguments of a run, an option a line, as a shell reads them."""
     folder = Path(asked.out)
     options = {
         "feed": folder / FEED,

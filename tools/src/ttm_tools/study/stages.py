@@ -30,7 +30,7 @@ class Stage:
     """A step of a study."""
 
     name: str
-    depends: dict[str, Any]  # all that its outputs depend on: words, and sums of files
+    depends: dict[str, Any]  # all that its outputs depend on: arguments, and sums of files
     outputs: Sequence[str]  # files and folders, from the study's folder on
     make: Callable[[], list[str]]  # writes them, and says what was done
     of_tools: bool = True  # whether other tools may make other outputs: done anew, then

@@ -49,7 +49,7 @@ def with_origins(run: Run, origins: str, threads: int) -> Run:
 
 
 def facts_of(run: Run) -> dict[str, Any]:
-    """The words of a run as data, of which `Run(**facts)` makes it again."""
+    """The arguments of a run as data, of which `Run(**facts)` makes it again."""
     return {**vars(run), "files": {name: str(path) for name, path in run.files.items()}}
 
 

@@ -21,7 +21,7 @@ MINUTES, MOST_MINUTES = 30, 120  # of the slider: where it stands first, and whe
 
 @dataclass(frozen=True)
 class Wish:
-    """What is asked for, as words and names of files."""
+    """What is asked for, as arguments and names of files."""
 
     feed: str
     points: str | None

@@ -17,7 +17,7 @@ FEED = "stops routes trips stop_times calendar calendar_dates frequencies transf
 
 @dataclass(frozen=True)
 class Words:
-    """The words of the run, as far as they are told."""
+    """The arguments of the run, as far as they are told."""
 
     text: str = ""
 
