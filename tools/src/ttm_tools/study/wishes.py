@@ -38,7 +38,7 @@ class FeedWish:
 
 @dataclass(frozen=True)
 class RunWish:
-    """The words of ttm: docs/ANALYSTS.md, "One run"."""
+    """The arguments of ttm: docs/ANALYSTS.md, "One run"."""
 
     date: str = told(DATE, "the day of the departures", "2026-05-04")
     first: str = told(TIME, "the first departure of the window", '"07:30"')
