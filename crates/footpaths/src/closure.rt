@@ -22,8 +22,8 @@ pub fn limit_fits(limit: u32) -> bool
 /// The change times stay.
 /// (Closed as the RAPTOR paper asks for: Delling, Pajor, Werneck, ALENEX 2012.)
 ///
-/// `TooMany` where more than 4,000,000 pairs of stops have such a sum, before they are all made; `Memory` where a
-/// growth was refused. A limit is at most 7,200 seconds ([`limit_fits`]).
+/// `TooMany` where more than 4,000,000 pairs of stops have such a sum, before they are all made; `Memory` where memory
+/// ran out. A limit is at most 7,200 seconds ([`limit_fits`]).
 pub fn close(alloc: Global, direct: &Direct, limit: u32) -> Result<Feet, FootFault>
     requires { limit ≤ MOST_FOOT_SECONDS }
     ensures ok { IfOk result (IsClosure direct.now limit) }

@@ -23,8 +23,8 @@ use std::alloc::Global;
 /// A trip runs on the days of its service; with frequency rows only as their departures, which are before a row's end, of
 /// rows that overlap all of them. A trip without events never runs. (GTFS Schedule reference, `frequencies.txt`.)
 ///
-/// `DateRange` where one of the days is outside the calendar's years; else `TooMany` past 1,000,000 runs, before they are
-/// made; `Memory` where a growth was refused.
+/// `DateRange` where one of the days is outside the calendar's years; else `TooMany` past 1,000,000 runs, before they
+/// are made; `Memory` where memory ran out.
 pub fn active(
     alloc: Global,
     feed: &Feed,
