@@ -1,5 +1,5 @@
-//! Trials of the board: threads that draw and settle at one board at once, and what they are told. Its tests are those of
-//! `work_book`'s shared calls; the program times a trial.
+//! Trials of the board: threads that draw and settle at one board at once, and what they are told. Its tests are those
+//! of `work_book`'s shared calls; the program times a trial.
 //!
 //! - `workers`: what one thread does, and what it is told.
 //! - `trials`: a trial from a new board to the closed one.

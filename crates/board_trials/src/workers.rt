@@ -15,8 +15,8 @@ pub(crate) enum Task {
     Settle,
 }
 
-/// How often a seat drew, was told that a job is its own, that it was settled before, and that a job isn't settled that it
-/// had settled itself.
+/// How often a seat drew, was told that a job is its own, that it was settled before, and that a job isn't settled that
+/// it had settled itself.
 #[derive(Clone, Copy)]
 pub(crate) struct Tally {
     pub drawn: u32,

@@ -6,7 +6,8 @@
 //!   [`text_of`] is the text that they give one option. `window`: [`window_of`], the departures that two times name.
 //!   `numbers`: [`numbers_of`], the numbers that a text lists.
 //! - `paths`: the path of a file of the feed, and the name of a scenario. `files`: [`read_all`], a file read whole.
-//! - `lines`: the line and the exit status of each fault. `statuses`: the statuses in numbers. `telling` puts a line out.
+//! - `lines`: the line and the exit status of each fault. `statuses`: the statuses in numbers. `telling` puts a line
+//!   out.
 //!
 //! `specs/Words` says what the arguments ask for, `specs/Numbers` which numbers a text lists, `specs/Lines` which line
 //! tells a fault.

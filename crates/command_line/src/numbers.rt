@@ -21,8 +21,8 @@ pub fn lists_are_of_shares_or_limits()
 
 /// The numbers that a text lists: 1 to 8 numbers parted by single commas, each greater than the one before it.
 ///
-/// A number is one or more digits of a value of at most 4,294,967,295. There is no space, and no part is empty. A text that
-/// is anything else lists nothing.
+/// A number is one or more digits of a value of at most 4,294,967,295. There is no space, and no part is empty. A text
+/// that is anything else lists nothing.
 pub fn numbers_of(alloc: Global, text: &[u8]) -> Result<Option<Vec<u32>>, AllocError>
     ensures listed { IfOk result (λ list. IfSome list (λ numbers. spec.Lists text.now numbers.items)) }
     ensures nothing { IfOk result (λ list. IfNone list ((numbers : List ℕ) → spec.Lists text.now numbers → ⊥)) }

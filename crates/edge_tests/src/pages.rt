@@ -8,7 +8,8 @@ use std::io::ErrorKind;
 use std::sync::atomic::{AtomicU64, Ordering};
 use std::sync::{Mutex, Wait};
 
-/// The folders that a page knows, with the names of what stands in each. What ends in `.zip` is a file, and `shut` can't be looked into.
+/// The folders that a page knows, with the names of what stands in each. What ends in `.zip` is a file, and `shut`
+/// can't be looked into.
 const FOLDERS: &[(&str, &[&str])] = &[
     ("empty", &[]),
     ("town", &["trips.txt", "Stops.txt", "maps"]),

@@ -41,8 +41,8 @@ const FROM_A: &[u8] = b"stop_id
 A
 ";
 
-/// What is asked: the date, the days before and after it that count, and the shares; and what the console is like: when its
-/// clock begins and by how much it goes on, and what the machine has free.
+/// What is asked: the date, the days before and after it that count, and the shares; and what the console is like: when
+/// its clock begins and by how much it goes on, and what the machine has free.
 #[derive(Clone, Copy)]
 pub(crate) struct Asked {
     pub(crate) date: &'static [u8],

@@ -1,4 +1,5 @@
-//! How a study is run: by as many workers as it asks for, with each row begun as often as it asks for, and told in order.
+//! How a study is run: by as many workers as it asks for, with each row begun as often as it asks for, and told in
+//! order.
 
 use crate::small_study::{MONDAY, settings_of, small_inputs};
 use collector::Matrix;

@@ -82,7 +82,8 @@ fn why_not(alloc: Global, place: usize, word: &str, more: &str) -> Option<Refusa
     asked(alloc, changed(alloc, place, word, more)).err()
 }
 
-/// The settings but the date and the lists: the days back and ahead, the window, what is asked of journeys, and of the run.
+/// The settings but the date and the lists: the days back and ahead, the window, what is asked of journeys, and of the
+/// run.
 fn numbers(settings: &Settings) -> [u32; 8] {
     [
         settings.back,

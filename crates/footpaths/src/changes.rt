@@ -8,8 +8,8 @@ use gtfs_tables::Feed;
 use std::alloc::{AllocError, Global};
 use timetable::{MOST_CHANGE_SECONDS, StopNo};
 
-/// The change time of each stop: the greatest that a row states for it or for its station, 0 where none does. A time past
-/// 16,777,216 seconds counts as that, which lets nobody change.
+/// The change time of each stop: the greatest that a row states for it or for its station, 0 where none does. A time
+/// past 16,777,216 seconds counts as that, which lets nobody change.
 pub(crate) fn change_times(alloc: Global, feed: &Feed) -> Result<Vec<u32>, AllocError>
     ensures changes { IfOk result (λ changes. changes.items ≡ spec.change_times feed.now) }
     ensures each { IfOk result (λ changes. length changes.items ≡ length feed.now.stops) }

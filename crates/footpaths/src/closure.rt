@@ -18,9 +18,8 @@ pub fn limit_fits(limit: u32) -> bool
     limit <= MOST_FOOT_SECONDS
 }
 
-/// Closes direct footpaths: from each stop to each other the least sum over chains, where it is at most `limit` seconds.
-/// The change times stay.
-/// (Closed as the RAPTOR paper asks for: Delling, Pajor, Werneck, ALENEX 2012.)
+/// Closes direct footpaths: from each stop to each other the least sum over chains, where it is at most `limit`
+/// seconds. The change times stay. (Closed as the RAPTOR paper asks for: Delling, Pajor, Werneck, ALENEX 2012.)
 ///
 /// `TooMany` where more than 4,000,000 pairs of stops have such a sum, before they are all made; `Memory` where memory
 /// ran out. A limit is at most 7,200 seconds ([`limit_fits`]).

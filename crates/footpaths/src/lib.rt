@@ -3,8 +3,8 @@
 //! A walk is one leg of a journey, so chains are closed here once and never again in the rounds.
 //!
 //! - `direct_list`: [`Direct`], the direct footpaths in the order of their rows, and the change time of each stop.
-//! - `walks`: [`direct`], the direct footpaths of a feed and of a file of footpaths, or the first fault; [`footpath_checks`],
-//!   what is checked of that file.
+//! - `walks`: [`direct`], the direct footpaths of a feed and of a file of footpaths, or the first fault;
+//!   [`footpath_checks`], what is checked of that file.
 //! - `changes`: the change times of a feed's stops.
 //! - `pairs`: the pairs of stops that the two ends of a walk give.
 //! - `closure`: [`close`], and [`limit_fits`] for its limit.
@@ -12,8 +12,8 @@
 //! - `faults`: [`FootFault`], why footpaths aren't closed.
 //! - `laws`: two closures are one, and footpaths that are too many have none.
 //!
-//! `specs/` says which direct footpaths a feed and a file state, and their faults in order (`Walks`), what a chain and a
-//! walking time are (`Chains`), and what closed footpaths are (`Closure`).
+//! `specs/` says which direct footpaths a feed and a file state, and their faults in order (`Walks`), what a chain and
+//! a walking time are (`Chains`), and what closed footpaths are (`Closure`).
 #![tactic(auto)]
 
 mod adjacency;

@@ -64,14 +64,14 @@ pub(crate) struct WalkReader<'a> {
     pub feed: &'a Feed,
 }
 
-/// The direct footpaths of a feed: those of the walks in `transfers.txt`, and then those of the file `own`, in the order of
-/// their rows. Repeats are kept. A row gives the pairs of different stops of its two ends, and may give none. The change times
-/// are those that `transfers.txt` states; the file `own` states none.
+/// The direct footpaths of a feed: those of the walks in `transfers.txt`, and then those of the file `own`, in the
+/// order of their rows. Repeats are kept. A row gives the pairs of different stops of its two ends, and may give none.
+/// The change times are those that `transfers.txt` states; the file `own` states none.
 ///
-/// The file's required columns are `from_stop_id`, `to_stop_id` and `seconds`. An identifier that is empty or of no record of
-/// `stops.txt` is refused, and seconds that are no number. The row with which there are more than 4,000,000 footpaths is
-/// refused in either file, the walks of `transfers.txt` before the file is looked at.
-/// The bytes are at most 2^30, the limit of an input file.
+/// The file's required columns are `from_stop_id`, `to_stop_id` and `seconds`. An identifier that is empty or of no
+/// record of `stops.txt` is refused, and seconds that are no number. The row with which there are more than 4,000,000
+/// footpaths is refused in either file, the walks of `transfers.txt` before the file is looked at. The bytes are at
+/// most 2^30, the limit of an input file.
 pub fn direct(alloc: Global, feed: &Feed, own: Option<&[u8]>) -> Result<Direct, FeedFault>
     requires { IsWithinLimit (bytes_of own) }
     ensures good { IfOk result (λ d. (spec.direct_faults feed.now (bytes_of own.entry) ≡ [])

@@ -19,8 +19,8 @@ pub(crate) enum Call {
 /// The jobs of the board.
 const JOBS: u32 = 1_000;
 
-/// Steps of two seats over two jobs and two tries, in an order that shows each answer. A function, so that proofs don't compute
-/// the whole list.
+/// Steps of two seats over two jobs and two tries, in an order that shows each answer. A function, so that proofs don't
+/// compute the whole list.
 fn steps() -> [Step; 12] {
     [
         Step::Draw(0),
@@ -283,7 +283,8 @@ fn try_rows_again(alloc: Global, rows: Vec<Row>) -> Result<bool, AllocError> {
     Ok(takes_rows(collector, rows))
 }
 
-/// Whether the first row is kept, the second comes back, the others are strangers, and the second origin's place is empty.
+/// Whether the first row is kept, the second comes back, the others are strangers, and the second origin's place is
+/// empty.
 fn takes_rows(mut collector: Collector, rows: Vec<Row>) -> bool {
     let is_right = are_taken(&mut collector, rows);
     match collector.finish() {

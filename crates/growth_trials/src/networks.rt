@@ -1,5 +1,5 @@
-//! The calls that make footpaths and networks: `Feet::new` and `Network::new` of lists that they are given and hand back, `close` and
-//! `network_of` of what was read.
+//! The calls that make footpaths and networks: `Feet::new` and `Network::new` of lists that they are given and hand
+//! back, `close` and `network_of` of what was read.
 ghost use Rattle.std.specs.Prelude.{◌≡◌, All, length};
 ghost use Rattle.service_days.specs.Instances.{IsRun};
 
@@ -16,8 +16,8 @@ use timetable::{Feet, NetFault, Network, StopNo, Trip};
 /// For each stop the stops that one walks to, and how long that takes.
 type Lists = Vec<Vec<(StopNo, u32)>>;
 
-/// What `Feet::new` is given and gives: two stops, a walk of a minute from the first to a stop, and whether there are such
-/// footpaths.
+/// What `Feet::new` is given and gives: two stops, a walk of a minute from the first to a stop, and whether there are
+/// such footpaths.
 #[derive(Clone, Copy)]
 pub(crate) struct FeetCase {
     target: u32,

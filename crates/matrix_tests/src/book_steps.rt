@@ -189,8 +189,8 @@ fn shows(book: &Book, shown: &Shown<'_>) -> bool
 
 const NEW: Shown<'static> = (0, [false, false], [&[], &[]], [&[], &[]]);
 
-/// Whether a new book answers these steps so, and then shows this. Where one of its allocations fails it is as it was, and answers
-/// the same when memory is back.
+/// Whether a new book answers these steps so, and then shows this. Where one of its allocations fails it is as it was,
+/// and answers the same when memory is back.
 fn answers_so(book: &mut Book, steps: &[Step], want: &[Answer], shown: &Shown<'_>) -> bool
     requires jobs { book.old.jobs ≡ 2 }
     requires seats { length book.old.seats ≡ 2 }
@@ -235,7 +235,8 @@ fn answer_one_by_one(book: &mut Book, told: &[(Step, Answer)]) -> bool {
     true
 }
 
-/// Whether a new book of so many jobs, tries and seats answers each of these steps so, one by one, and has this next number.
+/// Whether a new book of so many jobs, tries and seats answers each of these steps so, one by one, and has this next
+/// number.
 fn book_answers(alloc: Global, shape: (u32, u32, u32), told: &[(Step, Answer)], next: u64) -> bool {
     let (jobs, tries, seats) = shape;
     if jobs > 3 || tries < 1 || tries > 8 || seats > 2 {

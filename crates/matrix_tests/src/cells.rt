@@ -169,8 +169,8 @@ fn sum_within(found: &Durations, opportunities: &[u32], share: u32, within: u32)
     None
 }
 
-/// From 07:58 to 08:01 the two trips' cells are 0, 600 and 1,800 for a quarter of the minutes, 0, 660 and 1,860 for half of them,
-/// and 0 alone for all: the share, the opportunities, the limit and the sum.
+/// From 07:58 to 08:01 the two trips' cells are 0, 600 and 1,800 for a quarter of the minutes, 0, 660 and 1,860 for
+/// half of them, and 0 alone for all: the share, the opportunities, the limit and the sum.
 const SUMS: [(u32, [u32; 3], u32, u64); 11] = [
     (25, [0, 10, 5], 1_800, 15),
     (25, [0, 10, 5], 1_799, 10),
@@ -256,7 +256,8 @@ fn far_walks(alloc: Global) -> Result<SmallNetwork, AllocError> {
     network_with(alloc, MOST_STOPS as u32, &walks, Vec::new(alloc))
 }
 
-/// Whether the greatest opportunities at the most stops, all but the first 7,200 seconds away, have this sum within a limit.
+/// Whether the greatest opportunities at the most stops, all but the first 7,200 seconds away, have this sum within a
+/// limit.
 fn greatest_sum(alloc: Global, within: u32, expected: u64) -> bool {
     let minute = Window {
         first: 28_800,

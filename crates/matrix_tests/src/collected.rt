@@ -92,7 +92,8 @@ fn become_so(alloc: Global, collector: &mut Collector, cases: &[Case]) -> bool {
     true
 }
 
-/// How a collector ends: with a first empty place, or with a matrix of so many scenarios, origins, cells, shares and limits.
+/// How a collector ends: with a first empty place, or with a matrix of so many scenarios, origins, cells, shares and
+/// limits.
 #[derive(Clone, Copy, PartialEq, Eq)]
 enum End {
     Empty(u32, u32),
@@ -126,8 +127,8 @@ fn end_of(collector: Collector) -> Option<End> {
     }
 }
 
-/// Whether rows that are offered in turn to a collector of study 1, three scenarios, so many origins, three cells, two shares and
-/// four limits become what they should, and it ends so.
+/// Whether rows that are offered in turn to a collector of study 1, three scenarios, so many origins, three cells, two
+/// shares and four limits become what they should, and it ends so.
 fn ends(alloc: Global, origins: u32, cases: &[Case], end: End) -> bool {
     if origins > 3 {
         return false;
@@ -405,8 +406,8 @@ fn are_told(told: &[CoreAnswer]) -> bool {
         && matches!(&told[13], CoreAnswer::Hand(Offer::Double(_)))
 }
 
-/// Whether the core answers as it should. Where one of its allocations fails the steps come back, the book is as it was, and they
-/// answer the same when memory is back.
+/// Whether the core answers as it should. Where one of its allocations fails the steps come back, the book is as it
+/// was, and they answer the same when memory is back.
 fn answer_so(
     alloc: Global,
     book: &mut Book,

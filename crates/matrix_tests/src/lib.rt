@@ -1,8 +1,8 @@
-//! Tests of the way from a network to the text of a matrix: worked rows of `timetable`, `trip_lanes`, `rounds`, `shares`, `work_book`, `collector`,
-//! `workers` and `matrix_text`, by their public calls.
+//! Tests of the way from a network to the text of a matrix: worked rows of `timetable`, `trip_lanes`, `rounds`,
+//! `shares`, `work_book`, `collector`, `workers` and `matrix_text`, by their public calls.
 //!
-//! - `networks`, `durations`, `changes`, `cells`: networks, the least durations over them, also with change times, and their
-//!   shares (over `small_networks`).
+//! - `networks`, `durations`, `changes`, `cells`: networks, the least durations over them, also with change times, and
+//!   their shares (over `small_networks`).
 //! - `horizons`: durations that narrow labels can't tell, and windows that are no whole batches.
 //! - `lanes`: trips, lines, walks and changes, sixteen or thirty-two departures at a time.
 //! - `windows`: the durations of a window beside those of each of its minutes, and one search for several networks.

@@ -31,8 +31,8 @@ fn feet_of(alloc: Global, stops: u32, footpaths: &[Footpath]) -> Result<Option<F
     .ok())
 }
 
-/// Why a footpath from the first of two stops to the second is refused with these change times, if it is, with how many lists
-/// and change times were handed back.
+/// Why a footpath from the first of two stops to the second is refused with these change times, if it is, with how many
+/// lists and change times were handed back.
 fn change_fault(
     alloc: Global,
     changes: &[u32],

@@ -120,7 +120,8 @@ pub(crate) fn has(matrix: &Matrix, rows: &[Told]) -> bool {
     true
 }
 
-/// Whether a study of one share and one limit fits, and its matrix has so many scenarios, origins and cells, and these rows.
+/// Whether a study of one share and one limit fits, and its matrix has so many scenarios, origins and cells, and these
+/// rows.
 fn gives(alloc: Global, study: &Study, shape: (u32, u32, u32), rows: &[Told]) -> bool {
     if !study.fits() {
         return false;
@@ -221,7 +222,8 @@ fn gives_the_nearest_rank_of_the_minutes(rt: HostRuntime) {
     assert!(rt; are_right(rt.alloc(), BASE, Wanted::Shares));
 }
 
-/// What the shares 1, 25, 50, 75 and 100 of the minutes from 07:58 to 08:01 give from A, within 700 and within 1,800 seconds.
+/// What the shares 1, 25, 50, 75 and 100 of the minutes from 07:58 to 08:01 give from A, within 700 and within 1,800
+/// seconds.
 const GIVEN: [Given<'static>; 5] = [
     (&[2, 3], [Some(0), Some(600), Some(1_800)]),
     (&[2, 3], [Some(0), Some(600), Some(1_800)]),

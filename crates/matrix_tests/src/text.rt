@@ -371,7 +371,8 @@ fn labels_fit(scenarios: &[Vec<u8>], named: Named<'_>, feed: &Feed, matrix: &Mat
     labels.fit(matrix)
 }
 
-/// Labels: the names of scenarios, the origins, the shares, the limits, and whether they fit the matrix of the row from A.
+/// Labels: the names of scenarios, the origins, the shares, the limits, and whether they fit the matrix of the row from
+/// A.
 const LABELS: [(&[&[u8]], &[StopNo], &[u32], &[u32], bool); 9] = [
     (&[b"base"], &[StopNo(0)], &[50], &[1_800], true),
     (&[], &[StopNo(0)], &[50], &[1_800], false),

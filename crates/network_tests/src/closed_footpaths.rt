@@ -85,8 +85,8 @@ fn feed_of(alloc: Global, stops: u32) -> Option<Box<Feed>> {
     feed_in(alloc, files)
 }
 
-/// The direct footpaths of a feed and a file, none where there are none. They stand in a box, so that whoever holds them lets
-/// go of them in one step.
+/// The direct footpaths of a feed and a file, none where there are none. They stand in a box, so that whoever holds
+/// them lets go of them in one step.
 fn direct_in(alloc: Global, feed: &Feed, own: &[u8]) -> Option<Box<Direct>> {
     if !file_fits(Some(own)) {
         return None;

@@ -6,7 +6,8 @@ use std::process::Abort;
 use table_records::{FeedFault, FileName, What};
 use timetable::StopNo;
 
-// The stop A, station S with the stops B and C, station T with the stops D and E, station U without stops, and an entrance X.
+// The stop A, station S with the stops B and C, station T with the stops D and E, station U without stops, and an
+// entrance X.
 const STOPS: &[u8] = b"stop_id,location_type,parent_station\n\
 A,,\nB,,S\nS,1,\nC,0,S\nT,1,\nD,,T\nE,,T\nU,1,\nX,2,S\n";
 

@@ -1,5 +1,5 @@
-//! Tests of the days, footpaths and scenarios of a feed, and of a network's lines: worked rows of `service_days`, `footpaths`, `scenarios` and
-//! `timetable`, by their public calls, over `small_feeds`.
+//! Tests of the days, footpaths and scenarios of a feed, and of a network's lines: worked rows of `service_days`,
+//! `footpaths`, `scenarios` and `timetable`, by their public calls, over `small_feeds`.
 //!
 //! - `direct_footpaths`, `closed_footpaths`: the footpaths that rows state, and the least sums over chains of them.
 //! - `lines`: which trips share a line, how its events lie, and which trips serve a stop.

@@ -50,7 +50,8 @@ fn overtaking(alloc: Global) -> Result<Vec<Trip>, AllocError> {
     Ok(trips)
 }
 
-// Trips 0 and 1 have equal times and run in one line; of 2 nobody may alight at the first stop; 3 has no events; 4 loops.
+// Trips 0 and 1 have equal times and run in one line; of 2 nobody may alight at the first stop; 3 has no events; 4
+// loops.
 fn alike(alloc: Global) -> Result<Vec<Trip>, AllocError> {
     let mut trips = Vec::new(alloc);
     trips.push(trip(alloc, &[at(0, 100, 100), at(1, 200, 200)])?)?;

@@ -179,7 +179,8 @@ fn leap_days_are_days(rt: HostRuntime) {
     assert!(rt; gives(rt.alloc(), Expected::LeapDays, files));
 }
 
-// Whether studies of more days than a week list the runs of those days: from the March before, and from 137 years before.
+// Whether studies of more days than a week list the runs of those days: from the March before, and from 137 years
+// before.
 fn lists_distant_days(alloc: Global, feed: &Feed) -> bool {
     let weeks = [
         (2, 54 * 86_400),

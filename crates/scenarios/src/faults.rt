@@ -27,7 +27,8 @@ pub enum ScenarioWhat {
 
 /// The first fault of the file of a scenario.
 ///
-/// Records are counted from 1 with the header, as a spreadsheet shows them. Where `what` is `Memory`, `at` says nothing.
+/// Records are counted from 1 with the header, as a spreadsheet shows them. Where `what` is `Memory`, `at` says
+/// nothing.
 #[derive(Clone, Copy, Debug, PartialEq, Eq)]
 pub struct ScenarioFault {
     /// The number of the record.

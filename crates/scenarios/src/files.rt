@@ -17,13 +17,13 @@ use gtfs_tables::Feed;
 use std::alloc::{AllocError, Global};
 use table_records::{HeaderFault, OpenTable, RecordTaker, open_records, take_records};
 
-/// The scenario of a name whose edits the bytes of a file say: the columns `action`, `id` and `seconds`, of which the first two
-/// are required, and a record for each edit. The actions are `remove_route`, `remove_trip` and `shift_trip`.
+/// The scenario of a name whose edits the bytes of a file say: the columns `action`, `id` and `seconds`, of which the
+/// first two are required, and a record for each edit. The actions are `remove_route`, `remove_trip` and `shift_trip`.
 ///
-/// The seconds of a shift are read without the spaces around them; other actions don't read theirs. A trip that several records
-/// shift moves by their sum. What is refused is told by the record, counted from 1 with the header: the first record that is
-/// bad; else, of the trips whose times the shifts bring below 0 or past 1,999,999 seconds, the first that is shifted for the
-/// last time. The bytes are at most 2^30, the limit of an input file.
+/// The seconds of a shift are read without the spaces around them; other actions don't read theirs. A trip that several
+/// records shift moves by their sum. What is refused is told by the record, counted from 1 with the header: the first
+/// record that is bad; else, of the trips whose times the shifts bring below 0 or past 1,999,999 seconds, the first
+/// that is shifted for the last time. The bytes are at most 2^30, the limit of an input file.
 pub fn read_scenario(
     alloc: Global,
     name: &[u8],

@@ -15,8 +15,9 @@ use service_days::Run;
 use std::alloc::Global;
 use timetable::{Feet, NetFault, Network, Trip};
 
-/// The network of the runs that a scenario keeps, in their order, with the footpaths: each time of a run's trip is moved
-/// by what the run and the scenario add to it. A departure of a frequency row first arrives when it first departs.
+/// The network of the runs that a scenario keeps, in their order, with the footpaths: each time of a run's trip is
+/// moved by what the run and the scenario add to it. A departure of a frequency row first arrives when it first
+/// departs.
 ///
 /// The runs and the footpaths are of the feed; the runs may be those of any number of days. `TooLarge` where a time is
 /// then past the axis, 16,777,216 seconds, or where the network has more than 1,000,000 trips or 8,000,000 events,

@@ -17,7 +17,8 @@ use crate::scenario::Scenario;
 use gtfs_tables::{Departures, Feed, FeedTrip};
 use std::alloc::{AllocError, Global};
 
-/// Refuses a scenario that shifts a trip too far: `ShiftOutOfRange` at the first record that is the last to shift such a trip.
+/// Refuses a scenario that shifts a trip too far: `ShiftOutOfRange` at the first record that is the last to shift such
+/// a trip.
 pub(crate) fn check_times(
     alloc: Global,
     feed: &Feed,
@@ -54,8 +55,8 @@ fn first_too_far(alloc: Global, feed: &Feed, scenario: &Scenario) -> Result<Opti
     Ok(first)
 }
 
-/// Whether an edit is the last that shifts its trip, and all edits together shift the trip too far. `later` flags the trips
-/// that the edits after it shift, and then its own too.
+/// Whether an edit is the last that shifts its trip, and all edits together shift the trip too far. `later` flags the
+/// trips that the edits after it shift, and then its own too.
 fn is_last_too_far(
     feed: &Feed,
     scenario: &Scenario,
@@ -78,8 +79,8 @@ fn is_last_too_far(
     Ok(!is_in_range(feed.trip(trip), scenario.shift(trip)))
 }
 
-/// Whether all times of a trip, moved by seconds, stay within the times of a service day: those of every departure where it
-/// has frequency rows. Times rise along a trip, so that its first arrival and its last departure decide.
+/// Whether all times of a trip, moved by seconds, stay within the times of a service day: those of every departure
+/// where it has frequency rows. Times rise along a trip, so that its first arrival and its last departure decide.
 fn is_in_range(trip: &FeedTrip, seconds: i64) -> bool
     requires seconds { IsSum seconds }
     requires times { All (λ e. (e.arrive ≤ 604799) × (e.depart ≤ 604799)) trip.now.events }

@@ -8,7 +8,8 @@ use jiff::civil::Date;
 /// The number of the last day, 31 December 9999. Day 0 is 1 January of the year -9999.
 pub const LAST_DAY: u32 = 7_304_483;
 
-/// The latest start of a service day on an axis, in seconds: that of the last day, where the axis begins with the first.
+/// The latest start of a service day on an axis, in seconds: that of the last day, where the axis begins with the
+/// first.
 pub const LAST_START: u64 = 631_107_331_200;
 
 /// A day, and its weekday.

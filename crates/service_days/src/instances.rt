@@ -17,11 +17,11 @@ use gtfs_tables::{Feed, FeedTrip};
 use jiff::civil::Date;
 use std::alloc::Global;
 
-/// The runs of a study: of all trips that run on the service days from `back` days before a date to `ahead` days after it.
-/// They are ordered by day, then by trip, then by frequency row, then by departure.
+/// The runs of a study: of all trips that run on the service days from `back` days before a date to `ahead` days after
+/// it. They are ordered by day, then by trip, then by frequency row, then by departure.
 ///
-/// A trip runs on the days of its service; with frequency rows only as their departures, which are before a row's end, of
-/// rows that overlap all of them. A trip without events never runs. (GTFS Schedule reference, `frequencies.txt`.)
+/// A trip runs on the days of its service; with frequency rows only as their departures, which are before a row's end,
+/// of rows that overlap all of them. A trip without events never runs. (GTFS Schedule reference, `frequencies.txt`.)
 ///
 /// `DateRange` where one of the days is outside the calendar's years; else `TooMany` past 1,000,000 runs, before they
 /// are made; `Memory` where memory ran out.

@@ -15,7 +15,8 @@ use std::alloc::{AllocError, Global};
 /// Whether a service runs on a date: an exception adds the date; or a row of the calendar covers it, both ends
 /// included, and names its weekday, and no exception removes it. (GTFS Schedule reference, `calendar_dates.txt`.)
 ///
-/// The service is named by its number in the feed; a number that the feed gives to no service never runs. Takes no memory.
+/// The service is named by its number in the feed; a number that the feed gives to no service never runs. Takes no
+/// memory.
 pub fn runs(feed: &Feed, service: u32, date: Date) -> bool
     ensures { result ≡ runs_on feed.now service (day_number date) }
 {

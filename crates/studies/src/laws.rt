@@ -12,7 +12,8 @@ pub fn texts_are_unique()
     matrices_are_unique();
 }
 
-/// A law: the text of a study with destinations is that of the same study without them, with the other columns left out.
+/// A law: the text of a study with destinations is that of the same study without them, with the other columns left
+/// out.
 ///
 /// So no number depends on which columns are asked for, and neither do the sums of access.
 pub fn texts_have_their_columns()

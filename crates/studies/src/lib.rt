@@ -1,12 +1,13 @@
 //! Studies of files: from the bytes of a feed and of an analyst's own files to the text of the matrix.
 //!
-//! - `study`: [`run_study`], the text of the matrix that the files ([`Inputs`], [`NamedFile`]) and the [`Settings`] mean, or the
-//!   first [`StudyFault`]. Its stages, each making one value of those before it: `names`, `tables`, `networks` (with
-//!   `scenario_files`), `matrix`; `parts` has what they hand on, and `boxes` puts it in boxes.
+//! - `study`: [`run_study`], the text of the matrix that the files ([`Inputs`], [`NamedFile`]) and the [`Settings`]
+//!   mean, or the first [`StudyFault`]. Its stages, each making one value of those before it: `names`, `tables`,
+//!   `networks` (with `scenario_files`), `matrix`; `parts` has what they hand on, and `boxes` puts it in boxes.
 //! - `watch`: [`watch_study`] is [`run_study`] with a [`Watch`], who is told what each stage has made.
-//! - `inputs`, `named_file`, `settings`: what a study is made of, and `limits`, within which; `fault`: why there is none.
-//! - `laws`: a study has one text, which with destinations has some of the columns of the text without; and no files are both refused
-//!   and accepted.
+//! - `inputs`, `named_file`, `settings`: what a study is made of, and `limits`, within which; `fault`: why there is
+//!   none.
+//! - `laws`: a study has one text, which with destinations has some of the columns of the text without; and no files
+//!   are both refused and accepted.
 //! - `feed_files`: [`FeedFiles`], the files of a feed as a program holds them.
 //! - `minute`: [`minute_line`], a door for other programs: the durations of one minute over each trip of a feed once
 //!   (`once`, `line`).

@@ -16,7 +16,8 @@ use std::thread::Threads;
 use work_book::Board;
 use workers::{Gate, RunFault, Study, run_workers};
 
-/// The matrix of a study, in a box, by as many workers as the settings say, who begin each row as often as they say at most.
+/// The matrix of a study, in a box, by as many workers as the settings say, who begin each row as often as they say at
+/// most.
 pub(crate) fn matrix_of<G: Gate + Sync, W: Watch, R: Threads + Wait + Sync>(
     rt: &R,
     alloc: Global,

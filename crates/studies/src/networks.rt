@@ -21,8 +21,8 @@ use service_days::{Run, active};
 use std::alloc::Global;
 use timetable::{Feet, Network};
 
-/// What the networks of a study are made of, in a box: the scenario files are read, the runs of the study's days are listed,
-/// and then the footpaths are closed; else the first fault.
+/// What the networks of a study are made of, in a box: the scenario files are read, the runs of the study's days are
+/// listed, and then the footpaths are closed; else the first fault.
 pub(crate) fn network_parts(
     alloc: Global,
     inputs: &Inputs<'_>,

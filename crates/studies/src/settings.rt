@@ -32,11 +32,11 @@ pub struct Settings {
     pub rides: u32,
     /// The longest walk between two rides, in seconds, at most 7,200.
     pub walk: u32,
-    /// Of a hundred minutes, for how many a cell's travel time must suffice, 1 to 100; each share has its own cells. There are
-    /// 1 to 8, each above the one before.
+    /// Of a hundred minutes, for how many a cell's travel time must suffice, 1 to 100; each share has its own cells.
+    /// There are 1 to 8, each above the one before.
     pub shares: Vec<u32>,
-    /// The longest travel times, in seconds, at which a stop counts for access; each has its own sum. There are 1 to 8, each
-    /// above the one before.
+    /// The longest travel times, in seconds, at which a stop counts for access; each has its own sum. There are 1 to 8,
+    /// each above the one before.
     pub withins: Vec<u32>,
     /// How many worker threads there are, 1 to 64.
     pub workers: u32,
@@ -53,9 +53,9 @@ impl Model for Settings {
 }
 
 impl Settings {
-    /// Whether all settings are within their limits, as [`run_study`](crate::study::run_study) asks: 6 days back and ahead
-    /// at most; 1 minute or more, all on one day; 1 to 8 rides; a walk of at most 7,200 seconds; 1 to 8 shares of 1 to 100,
-    /// and 1 to 8 longest travel times, each above the one before; 1 to 64 workers; and 1 to 8 tries.
+    /// Whether all settings are within their limits, as [`run_study`](crate::study::run_study) asks: 6 days back and
+    /// ahead at most; 1 minute or more, all on one day; 1 to 8 rides; a walk of at most 7,200 seconds; 1 to 8 shares of
+    /// 1 to 100, and 1 to 8 longest travel times, each above the one before; 1 to 64 workers; and 1 to 8 tries.
     pub fn fits(&self) -> bool
         ensures { IsTrue result ↔ SettingsFit self.now }
     {

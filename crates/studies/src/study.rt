@@ -31,9 +31,9 @@ use workers::{Gate, Study};
 /// The text of the matrix of the study that the files mean, or why there is none.
 ///
 /// Of what is refused the first is told, in the order of [`StudyFault`]; out of memory may be told in its place. The
-/// condition is that the files and the settings fit ([`Inputs::fits`], [`Settings::fits`]). The rows are computed by as many
-/// worker threads as the settings say, and the gate decides what becomes of each lease. The text is the same for every
-/// number of workers and every gate.
+/// condition is that the files and the settings fit ([`Inputs::fits`], [`Settings::fits`]). The rows are computed by as
+/// many worker threads as the settings say, and the gate decides what becomes of each lease. The text is the same for
+/// every number of workers and every gate.
 pub fn run_study<G: Gate + Sync, R: Threads + Wait + Sync>(
     rt: &R,
     alloc: Global,
@@ -53,9 +53,9 @@ pub fn run_study<G: Gate + Sync, R: Threads + Wait + Sync>(
 /// The text of the matrix of the study that the files mean, or why there is none.
 ///
 /// Of what is refused the first is told, in the order of [`StudyFault`]; out of memory may be told in its place. The
-/// condition is that the files and the settings fit ([`Inputs::fits`], [`Settings::fits`]). The rows are computed by as many
-/// worker threads as the settings say, and the gate decides what becomes of each lease. The text is the same for every
-/// number of workers, every gate and every watch, which is told what each stage has made.
+/// condition is that the files and the settings fit ([`Inputs::fits`], [`Settings::fits`]). The rows are computed by as
+/// many worker threads as the settings say, and the gate decides what becomes of each lease. The text is the same for
+/// every number of workers, every gate and every watch, which is told what each stage has made.
 pub fn watch_study<G: Gate + Sync, W: Watch, R: Threads + Wait + Sync>(
     rt: &R,
     alloc: Global,

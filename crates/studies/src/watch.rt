@@ -9,8 +9,8 @@ use service_days::Run;
 use timetable::{Feet, StopNo};
 use workers::{RunFault, Study};
 
-/// Is told what each stage of a study has made, in the order of its methods, by the thread that runs the study. Nothing that it
-/// does changes the study. A stage that refuses is the last one that is told of.
+/// Is told what each stage of a study has made, in the order of its methods, by the thread that runs the study. Nothing
+/// that it does changes the study. A stage that refuses is the last one that is told of.
 ///
 /// Contracts know of a watch which stages it was told, and in which order: its calls alone can show that.
 pub trait Watch {
@@ -21,12 +21,13 @@ pub trait Watch {
     // that it was told these stages, one after the other
     ghost saw: { Self → List Stage → Type 0 } = { λ _ _. Unit {0} };
 
-    /// The feed and the analyst's own tables are read: the direct footpaths, the stops at which journeys begin, and those that a
-    /// row has cells for.
+    /// The feed and the analyst's own tables are read: the direct footpaths, the stops at which journeys begin, and
+    /// those that a row has cells for.
     fn tables_read(&self, feed: &Feed, direct: &Direct, origins: &[StopNo], destinations: &[StopNo])
         ensures told { saw self.now read };
 
-    /// The scenario files are read, the runs of the study's days are listed, and the footpaths are closed; no network is made yet.
+    /// The scenario files are read, the runs of the study's days are listed, and the footpaths are closed; no network
+    /// is made yet.
     fn days_listed(
         &self,
         feed: &Feed,

@@ -242,7 +242,8 @@ fn one_calendar_is_enough(rt: HostRuntime) {
     assert!(rt; reads(rt.alloc(), Expected::OneException, files));
 }
 
-// Whether the second trip of the small feed departs every ten minutes from eight to nine, and then never, and the first has no departures.
+// Whether the second trip of the small feed departs every ten minutes from eight to nine, and then never, and the first
+// has no departures.
 fn has_departures(feed: &Feed) -> bool {
     let early = Departures {
         start: 28_800,

@@ -1,7 +1,8 @@
 //! Tests of the tables: worked rows of `table_records`, `table_files` and `gtfs_tables`, by their public calls.
 //!
 //! - `records`: records, columns, fields and identifiers.
-//! - `calendar`, `calendar_dates`, `feed_trips`, `frequencies`, `places`, `routes`, `stop_times`, `transfers`: one file each.
+//! - `calendar`, `calendar_dates`, `feed_trips`, `frequencies`, `places`, `routes`, `stop_times`, `transfers`: one file
+//!   each.
 //! - `feeds`, `feed_places`, `origins`: whole feeds (`test_feeds`), and an analyst's own files.
 //! Files that are refused are data (`.ci/fault_cases.py`), and so are those past a limit (`.ci/size_runs.py`).
 //!

@@ -1,4 +1,5 @@
-//! A feed of three stops and two trips for the tests, with and without stations, and what is asserted of feeds and of refusals.
+//! A feed of three stops and two trips for the tests, with and without stations, and what is asserted of feeds and of
+//! refusals.
 
 use gtfs_tables::{Feed, FeedBytes, FeedFault, FileName, What, read_feed};
 use std::alloc::Global;

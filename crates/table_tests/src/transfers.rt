@@ -78,7 +78,8 @@ fn rows_without_a_walk_are_counted(rt: HostRuntime) -> Result<(), Fail> {
         changes: false,
         at: 10,
     };
-    // A forbidden change, one of a route, one of a trip, no time, no stop, equal stops, a station without stops, an entrance.
+    // A forbidden change, one of a route, one of a trip, no time, no stop, equal stops, a station without stops, an
+    // entrance.
     let holds = gives(
         rt.alloc(),
         b"from_stop_id,to_stop_id,transfer_type,min_transfer_time,from_route_id,to_trip_id\n\
@@ -112,7 +113,8 @@ fn change_times_are_stated(rt: HostRuntime) -> Result<(), Fail> {
         at: 4,
         ..station
     };
-    // a stop, a station, the same of another type, then a station without stops, an entrance, an empty type, and a trip's
+    // a stop, a station, the same of another type, then a station without stops, an entrance, an empty type, and a
+    // trip's
     let holds = gives(
         rt.alloc(),
         b"from_stop_id,to_stop_id,transfer_type,min_transfer_time,from_trip_id\n\
