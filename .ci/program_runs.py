@@ -500,7 +500,7 @@ For more information, try '--help'.
 
 
 def wrong_word(program: str) -> tuple[object, object]:
-    """Arguments that aren't the program's are told on the standard error, with the name that the program was called by."""
+    """Arguments that aren't the program's are told on standard error, with the name that the program was called by."""
     called = NO_OPTION.replace("Usage: ttm ", f"Usage: {os.path.basename(program)} ")
     return left_by(program, ["--nothing"]), ("", called, 2)
 
