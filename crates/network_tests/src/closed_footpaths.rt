@@ -86,7 +86,7 @@ fn feed_of(alloc: Global, stops: u32) -> Option<Box<Feed>> {
 }
 
 /// The direct footpaths of a feed and a file, none where there are none. They stand in a box, so that whoever holds
-/// them lets go of them in one step.
+/// them drops them in one step.
 fn direct_in(alloc: Global, feed: &Feed, own: &[u8]) -> Option<Box<Direct>> {
     if !file_fits(Some(own)) {
         return None;
