@@ -5,6 +5,9 @@ A test promises nothing, so crates that have tests alone are built and run, with
 beside the proofs of all others; `--all` proves these crates too. What else needs no built program runs beside the
 proofs, too, on processors that these leave idle.
 
+`rt ci` gives a crate a second processor only where no other waits for one, and most crates wait for one chain of them.
+So a run of that chain alone begins a little before that of all crates, which takes over what it has proved.
+
 A crate's edits are tried where something that their refusal rests on changed since they were last refused: a file of
 the crate, a definition or contract of a crate below it, or the toolchain. Two more crates are tried each time, drawn by
 the commit's name. What changed comes first. What was refused stands in .ci/refused.txt, which this script alone writes.
@@ -24,7 +27,7 @@ import sys
 import tempfile
 import time
 from collections.abc import Callable
-from concurrent.futures import ThreadPoolExecutor
+from concurrent.futures import ThreadPoolExecutor, wait
 from dataclasses import dataclass
 from pathlib import Path
 
@@ -37,6 +40,8 @@ MEMORY_OF_A_CHECK = 4_000_000  # kilobytes
 MINUTES = 100
 USED = 0.98  # of a budget, until edits are cut off: the rest is for clearing away
 SECONDS_OF_TESTS = 900  # that those of a crate may take together
+CHAIN = "scenarios"  # the last crate of the longest chain below the whole study
+HEAD_START = 10.0  # seconds, in which the run of the chain begins its first proofs
 NICENESS = "10"  # of what runs beside the proofs, which wait for one another and not for it
 CLOSING = re.compile(r"(\d+) passed, (\d+) failed(?:, (\d+) skipped)?")
 CLOSING_OF_TESTS = re.compile(r"test result: \w+\. (\d+) passed; (\d+) failed()\b.*")
@@ -189,29 +194,39 @@ def try_edits(room: Path, names: list[str], refusals: Refusals, clock: Clock) ->
     return count
 
 
-def prove_and_test(root: Path, proved: Path, tried: Path, aside: Path, tests: list[str]) -> Count:
+def prove_chain(room: Path) -> None:
+    """Proves the longest chain of crates alone, and prints what came of it; what counts is what the run of all says."""
+    crates = repository.crates_of(room)
+    if CHAIN in crates:
+        repository.keep_alone(room, [CHAIN, *repository.below(crates, CHAIN)])
+        run_told(room, ["rt", "ci"], "rt ci of the longest chain", dict(os.environ))
+
+
+def prove_and_test(root: Path, rooms: dict[str, Path], tests: list[str]) -> Count:
     """Proves and runs all but crates of tests, and then the scripts on the programs; meanwhile their tests, and what
-    needs no program, run in the other copy.
+    needs no program, run in another copy.
     """
-    with ThreadPoolExecutor(1) as pool:
-        beside = pool.submit(run_beside, tried, tests)
+    with ThreadPoolExecutor(2) as pool:
+        ahead = pool.submit(prove_chain, rooms["chain"])
+        wait([ahead], HEAD_START)
+        beside = pool.submit(run_beside, rooms["tried"], tests)
         # rt ci would try edits one by one; scripts look for those that ASSURANCE names, so they come back
-        with repository.set_aside(proved, aside, tests):
-            count = prove(proved)
-        count += run_scripts(root, proved)
-        return count + beside.result()
+        with repository.set_aside(rooms["proved"], rooms["aside"], tests):
+            count = prove(rooms["proved"])
+        ahead.result()
+        return count + run_scripts(root, rooms["proved"]) + beside.result()
 
 
 def gate(root: Path, all_of_them: bool, chosen: list[str], refusals: Refusals, clock: Clock) -> Count:
     """Proves, runs and tries all, and returns how many passed, failed and were skipped."""
     with tempfile.TemporaryDirectory(prefix="ttm-gate-") as made:
-        proved, tried, aside = (Path(made) / name for name in ("proved", "tried", "aside"))
-        for room in (proved, tried):
-            room.mkdir()
-            repository.copy_files(root, room)
+        rooms = {name: Path(made) / name for name in ("proved", "chain", "tried", "aside")}
+        for name in ("proved", "chain", "tried"):
+            rooms[name].mkdir()
+            repository.copy_files(root, rooms[name])
         tests = [] if all_of_them else repository.tests_of(repository.crates_of(root))
-        count = prove_and_test(root, proved, tried, aside, tests)
-        return count + try_edits(tried, chosen, refusals, clock)
+        count = prove_and_test(root, rooms, tests)
+        return count + try_edits(rooms["tried"], chosen, refusals, clock)
 
 
 def options_of(words: list[str]) -> argparse.Namespace:

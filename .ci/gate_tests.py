@@ -304,6 +304,18 @@ class CratesOfTests(WithStandIn):
         self.assertEqual(gate.counted(2, ["no answer"], gate.CLOSING_OF_TESTS), gate.Count(0, 1))
 
 
+class Chain(WithStandIn):
+    """The longest chain of crates, which a run of its own begins with."""
+
+    def test_it_is_proved_alone_and_again_with_all_and_counts_once(self) -> None:
+        with mock.patch.object(gate, "CHAIN", "upper"), mock.patch.object(gate, "HEAD_START", 0.1):
+            status, said, _ = self.repository.gate()
+        self.assertEqual((status, said[-1]), (0, "5 passed, 0 failed"), said)
+        self.assertIn("rt ci sees lower upper and lists lower upper ", said)
+        self.assertIn("rt ci sees lower one two upper and lists lower upper one two ", said)
+        self.assertEqual(said.count("rt ci sees 0 edits"), 2)
+
+
 class Time(WithStandIn):
     """What the budget does, each case with a clock of its own."""
 
