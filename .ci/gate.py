@@ -2,7 +2,11 @@
 """The merge gate: every proof from nothing, every test, every program; and then, while time is left, must-fail edits.
 
 A test promises nothing, so crates that have tests alone are built and run, with checks of each access, by `rt try`,
-beside the proofs of all others; `--all` proves these crates too.
+beside the proofs of all others; `--all` proves these crates too. What else needs no built program runs beside the
+proofs, too, on processors that these leave idle.
+
+`rt ci` gives a crate a second processor only where no other waits for one, and most crates wait for one chain of them.
+So a run of that chain alone begins a little before that of all crates, which takes over what it has proved.
 
 A crate's edits are tried where something that their refusal rests on changed since they were last refused: a file of
 the crate, a definition or contract of a crate below it, or the toolchain. Two more crates are tried each time, drawn by
@@ -23,7 +27,7 @@ import sys
 import tempfile
 import time
 from collections.abc import Callable
-from concurrent.futures import ThreadPoolExecutor
+from concurrent.futures import ThreadPoolExecutor, wait
 from dataclasses import dataclass
 from pathlib import Path
 
@@ -36,6 +40,9 @@ MEMORY_OF_A_CHECK = 4_000_000  # kilobytes
 MINUTES = 100
 USED = 0.98  # of a budget, until edits are cut off: the rest is for clearing away
 SECONDS_OF_TESTS = 900  # that those of a crate may take together
+CHAIN = "scenarios"  # the last crate of the longest chain below the whole study
+HEAD_START = 10.0  # seconds, in which the run of the chain begins its first proofs
+NICENESS = "10"  # of what runs beside the proofs, which wait for one another and not for it
 CLOSING = re.compile(r"(\d+) passed, (\d+) failed(?:, (\d+) skipped)?")
 CLOSING_OF_TESTS = re.compile(r"test result: \w+\. (\d+) passed; (\d+) failed()\b.*")
 
@@ -105,20 +112,23 @@ def prove(room: Path) -> Count:
     return counted(status, lines)
 
 
+def scripts_beside(room: Path) -> list[list[str]]:
+    """What is looked at without a built program: the gate's own tests, the Python, the pages."""
+    every = [[".ci/gate_tests.py"], [".ci/tools_checks.py"], [".ci/names.py"], [".ci/same.py"]]
+    return [it for it in every if (room / it[0]).is_file()]
+
+
 def scripts(room: Path) -> list[list[str]]:
-    """What is run on the built programs, and the tests of the gate itself; the longest first."""
+    """What is run on the built programs; the longest first."""
     program, trials = str(room / "crates/ttm/out/ttm"), str(room / "crates/growth_trials/out/growth_trials")
     every = [
-        ["bench/hostile.py", program, trials],
-        [".ci/size_runs.py", program],
-        [".ci/gate_tests.py"],
         [".ci/tools_checks.py", program],
+        ["bench/hostile.py", program, trials],
         [".ci/packaging_checks.py", program],
+        [".ci/size_runs.py", program],
         [".ci/random_feeds.py", program],
         [".ci/program_runs.py", program],
         [".ci/study_runs.py", program],
-        [".ci/names.py"],
-        [".ci/same.py"],
     ]
     return [it for it in every if (room / it[0]).is_file()]
 
@@ -144,29 +154,30 @@ def run_told(folder: Path, words: list[str], title: str, environment: dict[str, 
     return status, said.splitlines()
 
 
-def run_script(room: Path, words: list[str], environment: dict[str, str]) -> Count:
-    """Runs a script of the repository."""
-    return counted(*run_told(room, [sys.executable, *words], words[0], environment))
-
-
-def run_tests(room: Path, names: list[str]) -> Count:
-    """Runs the tests of these crates, one crate after another, before any proof."""
-    words = ["rt", "try", "--test", "--seconds", str(SECONDS_OF_TESTS)]
-    count = Count()
+def run_beside(room: Path, names: list[str]) -> Count:
+    """Runs the tests of these crates, and the scripts that need no program, one after another, while proofs go on."""
+    low, environment, count = ["nice", "-n", NICENESS], dict(os.environ), Count()
+    words = [*low, "rt", "try", "--test", "--seconds", str(SECONDS_OF_TESTS)]
     for name in names:
-        told = run_told(room / "crates" / name, words, f"tests of {name}", dict(os.environ))
+        told = run_told(room / "crates" / name, words, f"tests of {name}", environment)
         count += counted(*told, CLOSING_OF_TESTS)
+    for script in scripts_beside(room):
+        count += counted(*run_told(room, [*low, sys.executable, *script], script[0], environment))
     return count
 
 
 def run_scripts(root: Path, room: Path) -> Count:
-    """Runs the scripts on the copy, so many at once; what they make bears the commit's time, as the copy is no
-    clone.
+    """Runs the scripts on the programs of the copy, so many at once; what they make bears the commit's time, as the
+    copy is no clone.
     """
     made_at = output_of(root, "git", "log", "-1", "--format=%ct") or "0"
     environment = {"SOURCE_DATE_EPOCH": made_at, **os.environ}
+
+    def run_script(words: list[str]) -> Count:
+        return counted(*run_told(room, [sys.executable, *words], words[0], environment))
+
     with ThreadPoolExecutor(jobs()) as pool:
-        return sum(pool.map(lambda words: run_script(room, words, environment), scripts(room)), Count())
+        return sum(pool.map(run_script, scripts(room)), Count())
 
 
 def try_edits(room: Path, names: list[str], refusals: Refusals, clock: Clock) -> Count:
@@ -183,27 +194,39 @@ def try_edits(room: Path, names: list[str], refusals: Refusals, clock: Clock) ->
     return count
 
 
-def prove_and_test(proved: Path, tried: Path, aside: Path, tests: list[str]) -> Count:
-    """Proves and runs all but crates of tests; meanwhile their tests run in the other copy."""
-    with ThreadPoolExecutor(1) as beside:
-        tested = beside.submit(run_tests, tried, tests)
+def prove_chain(room: Path) -> None:
+    """Proves the longest chain of crates alone, and prints what came of it; what counts is what the run of all says."""
+    crates = repository.crates_of(room)
+    if CHAIN in crates:
+        repository.keep_alone(room, [CHAIN, *repository.below(crates, CHAIN)])
+        run_told(room, ["rt", "ci"], "rt ci of the longest chain", dict(os.environ))
+
+
+def prove_and_test(root: Path, rooms: dict[str, Path], tests: list[str]) -> Count:
+    """Proves and runs all but crates of tests, and then the scripts on the programs; meanwhile their tests, and what
+    needs no program, run in another copy.
+    """
+    with ThreadPoolExecutor(2) as pool:
+        ahead = pool.submit(prove_chain, rooms["chain"])
+        wait([ahead], HEAD_START)
+        beside = pool.submit(run_beside, rooms["tried"], tests)
         # rt ci would try edits one by one; scripts look for those that ASSURANCE names, so they come back
-        with repository.set_aside(proved, aside, tests):
-            count = prove(proved)
-        return count + tested.result()
+        with repository.set_aside(rooms["proved"], rooms["aside"], tests):
+            count = prove(rooms["proved"])
+        ahead.result()
+        return count + run_scripts(root, rooms["proved"]) + beside.result()
 
 
 def gate(root: Path, all_of_them: bool, chosen: list[str], refusals: Refusals, clock: Clock) -> Count:
     """Proves, runs and tries all, and returns how many passed, failed and were skipped."""
     with tempfile.TemporaryDirectory(prefix="ttm-gate-") as made:
-        proved, tried, aside = (Path(made) / name for name in ("proved", "tried", "aside"))
-        for room in (proved, tried):
-            room.mkdir()
-            repository.copy_files(root, room)
+        rooms = {name: Path(made) / name for name in ("proved", "chain", "tried", "aside")}
+        for name in ("proved", "chain", "tried"):
+            rooms[name].mkdir()
+            repository.copy_files(root, rooms[name])
         tests = [] if all_of_them else repository.tests_of(repository.crates_of(root))
-        count = prove_and_test(proved, tried, aside, tests)
-        count += run_scripts(root, proved)
-        return count + try_edits(tried, chosen, refusals, clock)
+        count = prove_and_test(root, rooms, tests)
+        return count + try_edits(rooms["tried"], chosen, refusals, clock)
 
 
 def options_of(words: list[str]) -> argparse.Namespace:

@@ -228,6 +228,16 @@ class Choice(WithStandIn):
         self.stand_in(STAND_IN.replace("kit of a test", "another kit"))
         self.assertEqual(self.tried()[0], ["lower", "one", "two", "upper"])
 
+    def test_what_a_toolchain_of_the_same_logic_refused_counts_and_is_drawn_first(self) -> None:
+        self.stand_in(STAND_IN.replace("kit of a test", "kit-a logic 1"))
+        self.tried()
+        self.stand_in(STAND_IN.replace("kit of a test", "kit-b logic 1"))
+        because, drawn = self.tried()
+        self.assertEqual((because, len(drawn)), ([], 2))
+        self.assertEqual(self.tried(), ([], sorted({"lower", "upper", "one", "two"} - set(drawn))))
+        self.stand_in(STAND_IN.replace("kit of a test", "kit-b logic 2"))
+        self.assertEqual(self.tried()[0], ["lower", "one", "two", "upper"])
+
     def test_what_another_toolchain_refused_stays_written_down(self) -> None:
         self.tried()
         self.stand_in(STAND_IN.replace("kit of a test", "another kit"))
@@ -276,11 +286,34 @@ class CratesOfTests(WithStandIn):
         self.assertEqual([it for it in self.calls() if it.startswith("try ")], [])
 
     def test_scripts_find_it_again(self) -> None:
-        self.repository.write(".ci/names.py", "import os\nprint(f'{len(os.listdir(\"crates\"))} passed, 0 failed')\n")
-        self.assertEqual(self.repository.gate()[1][-1], "13 passed, 0 failed")
+        script = "import os\nprint(f'{len(os.listdir(\"crates\"))} passed, 0 failed')\n"
+        for name in (".ci/study_runs.py", ".ci/names.py"):
+            self.repository.write(name, script)
+        self.assertEqual(self.repository.gate()[1][-1], "18 passed, 0 failed")
+
+    def test_what_needs_no_program_runs_beside_the_proofs_and_steps_back_for_them(self) -> None:
+        """The stand-in's proof waits for a file that the script makes; the script passes as often as it is nice."""
+        waits = 'for _ in $(seq 200); do [ -e "$RT_LOG.made" ] || sleep 0.05; done; [ -e "$RT_LOG.made" ] || exit 1'
+        self.stand_in(STAND_IN.replace("ci)\n", f"ci)\n    {waits}\n"))
+        script = "import os\nopen(os.environ['RT_LOG'] + '.made', 'w').close()\nprint(f'{os.nice(0)} passed, 0 failed')\n"
+        self.repository.write(".ci/names.py", script)
+        nice = min(19, os.nice(0) + int(gate.NICENESS))
+        self.assertEqual(self.repository.gate()[1][-1], f"{8 + nice} passed, 0 failed")
 
     def test_a_run_of_tests_without_a_closing_line_fails(self) -> None:
         self.assertEqual(gate.counted(2, ["no answer"], gate.CLOSING_OF_TESTS), gate.Count(0, 1))
+
+
+class Chain(WithStandIn):
+    """The longest chain of crates, which a run of its own begins with."""
+
+    def test_it_is_proved_alone_and_again_with_all_and_counts_once(self) -> None:
+        with mock.patch.object(gate, "CHAIN", "upper"), mock.patch.object(gate, "HEAD_START", 0.1):
+            status, said, _ = self.repository.gate()
+        self.assertEqual((status, said[-1]), (0, "5 passed, 0 failed"), said)
+        self.assertIn("rt ci sees lower upper and lists lower upper ", said)
+        self.assertIn("rt ci sees lower one two upper and lists lower upper one two ", said)
+        self.assertEqual(said.count("rt ci sees 0 edits"), 2)
 
 
 class Time(WithStandIn):

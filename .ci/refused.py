@@ -2,12 +2,13 @@
 again.
 
 A row is for a crate and a toolchain: a sum of all that the refusal of the crate's edits rests on, once each of them was
-refused.
+refused. It counts for each toolchain of the same logic: they differ in what they find, not in what can be proved.
 """
 
 from __future__ import annotations
 
 import random
+from collections.abc import Iterable
 from pathlib import Path
 
 import repository
@@ -34,6 +35,11 @@ def write_rows(file: Path, rows: Rows) -> None:
     file.write_text(HEAD + "".join(f"{name} {made} {toolchain}\n" for (name, toolchain), made in sorted(rows.items())))
 
 
+def logic_of(toolchain: str) -> str:
+    """What a toolchain proves by, whichever letter its kit has; all that it tells of itself where it doesn't say."""
+    return toolchain.partition(" logic ")[2] or toolchain
+
+
 class Refusals:
     """What was refused, and what it rests on now."""
 
@@ -41,28 +47,36 @@ class Refusals:
         self.file, self.toolchain = root / ".ci/refused.txt", toolchain
         self.names = [name for name in crates if repository.edits_of(root, name)]
         self.sums = {name: repository.sum_of(root, crates, name, toolchain) for name in self.names}
-        self.elsewhere = {
-            name
-            for (name, other), made in read_rows(self.file).items()
-            if name in self.sums and other != toolchain and made == repository.sum_of(root, crates, name, other)
+        self.rows = read_rows(self.file)
+        self.refused = {
+            (name, other)
+            for (name, other), made in self.rows.items()
+            if name in self.sums and made == repository.sum_of(root, crates, name, other)
         }
 
+    @staticmethod
+    def logics(rows: Iterable[tuple[str, str]], name: str) -> set[str]:
+        """The logics of the toolchains in a crate's rows."""
+        return {logic_of(toolchain) for crate, toolchain in rows if crate == name}
+
     def choose(self, commit: str, all_of_them: bool) -> dict[str, str]:
-        """The crates whose edits are tried, each with the reason; what changed comes first, then what this toolchain
-        never saw, then what is drawn.
+        """The crates whose edits are tried, each with the reason: what changed comes first, then what this logic never
+        saw, then what is drawn; of that what this very toolchain hasn't seen goes before the rest.
         """
-        rows = read_rows(self.file)
+        logic, draw = logic_of(self.toolchain), random.Random(commit)
         changed, unseen, rest = {}, {}, []
-        for name, made in self.sums.items():
-            if rows.get((name, self.toolchain)) == made:
+        for name in self.names:
+            refused = self.logics(self.refused, name)
+            if logic in refused:
                 rest.append(name)
-            elif name in self.elsewhere:
+            elif refused:
                 unseen[name] = "refused by another toolchain alone"
-            elif (name, self.toolchain) in rows:
+            elif logic in self.logics(self.rows, name):
                 changed[name] = "what they rest on changed"
             else:
                 changed[name] = "never refused so far as they are"
-        drawn = rest if all_of_them else random.Random(commit).sample(sorted(rest), min(DRAWN, len(rest)))
+        rest.sort(key=lambda name: ((name, self.toolchain) in self.refused, draw.random()))
+        drawn = rest if all_of_them else rest[:DRAWN]
         return {**changed, **unseen, **{name: "all are" if all_of_them else "drawn" for name in drawn}}
 
     def note(self, name: str) -> None:

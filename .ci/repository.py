@@ -151,6 +151,15 @@ def copy_files(root: Path, room: Path) -> None:
             shutil.copy(root / name, room / name)
 
 
+def keep_alone(room: Path, names: list[str]) -> None:
+    """Leaves these crates in a copy of the repository, without their must-fail edits, and no other crate."""
+    crates = crates_of(room)
+    for name in crates:
+        folder = room / "crates" / name
+        shutil.rmtree(folder / "must-fail" if name in names else folder, ignore_errors=True)
+    (room / "crates.txt").write_text("".join(f"{crate.line}\n" for crate in crates.values() if crate.name in names))
+
+
 @contextmanager
 def set_aside(room: Path, aside: Path, names: list[str]) -> Iterator[None]:
     """Takes all must-fail edits and these crates out of a copy of the repository, and puts them back at the end."""

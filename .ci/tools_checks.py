@@ -1,11 +1,13 @@
 #!/usr/bin/env python3
 """Checks the Python of this repository: its layout, its types, and the tests of the tools.
 
-    tools_checks.py [PROGRAM]        with the built `ttm`, the tests that run it too
+    tools_checks.py                  layout, types, and the tests that don't run the program
+    tools_checks.py PROGRAM          the tests that run the built `ttm`
 
-`black`, `flake8` and `mypy --strict` look at the folders below, and `pytest` runs the tests of the tools. What is
-missing is installed from Debian where that can be had, in five minutes at most; a linter, and a test that needs a
-package, counts as skipped where it can't. Each linter counts as one. The last line is 'N passed, M failed, K skipped'.
+`black`, `flake8` and `mypy --strict` look at the folders below, and `pytest` runs the tests of the tools, by as many
+processes as there are processors. What is missing is installed from Debian where that can be had, in five minutes at
+most; a linter, and a test that needs a package, counts as skipped where it can't. Each linter counts as one. The last
+line is 'N passed, M failed, K skipped'.
 """
 
 import os
@@ -21,7 +23,6 @@ from installing import install
 ROOT = Path(__file__).resolve().parent.parent
 PYTHON = "/usr/bin/python3"  # that of Debian's packages
 CHECKED = ["tools", "bench", ".ci", "packaging"]  # folders that pass all linters
-TESTED = ["tools", "bench"]  # folders with tests
 COMMANDS = {"black": "black", "flake8": "flake8", "mypy": "mypy"}
 PACKAGES = {
     "numpy": "python3-numpy",
@@ -31,6 +32,7 @@ PACKAGES = {
     "geopandas": "python3-geopandas",
     "scipy": "python3-scipy",
     "pytest": "python3-pytest",
+    "xdist": "python3-pytest-xdist",
     "tqdm": "python3-tqdm",
     "tables": "python3-tables",
     "shapely": "python3-shapely",
@@ -64,8 +66,8 @@ def lacking() -> list[str]:
 
 def lacking_browser() -> list[str]:
     """The Debian packages of the browser that aren't there."""
-    found = subprocess.run([PYTHON, "-c", "import selenium"], stderr=subprocess.DEVNULL).returncode == 0
-    return [package for name, package in BROWSER.items() if not (found if name == "selenium" else shutil.which(name))]
+    found = {name: there(name) if name == "selenium" else shutil.which(name) for name in BROWSER}
+    return [package for name, package in BROWSER.items() if not found[name]]
 
 
 def run(words: list[str], folder: Path) -> tuple[int, str]:
@@ -121,20 +123,34 @@ def packages() -> list[str]:
     return ["tools/src", "tools/tests", *python_files([it for it in CHECKED if it != "tools"])]
 
 
+def there(*modules: str) -> bool:
+    """Whether the Python of Debian's packages has these modules."""
+    return subprocess.run([PYTHON, "-c", f"import {', '.join(modules)}"], stderr=subprocess.DEVNULL).returncode == 0
+
+
 def test(counts: Counts, program: str | None) -> None:
-    """The tests of the tools and of the bench."""
-    if subprocess.run([PYTHON, "-c", "import pytest, numpy"], stderr=subprocess.DEVNULL).returncode != 0:
+    """The tests of the tools that run this program; without one the others, and those of the bench."""
+    if not there("pytest", "numpy"):
         print("the tests of the tools are skipped: without python3-pytest and python3-numpy")
         counts.add(0, 0, 1)
         return
-    for folder in TESTED:
-        own = [f"--program={Path(program).resolve()}"] if program and folder == "tools" else []
-        status, said = run([PYTHON, "-m", "pytest", "-rs", "-p", "no:cacheprovider", *own], ROOT / folder)
-        last = said.splitlines()[-1] if said else ""
-        told = re.findall(r"(\d+) (passed|failed|error|errors|skipped)\b", last)
-        found = {word: int(number) for number, word in told}
-        failed = found.get("failed", 0) + found.get("error", 0) + found.get("errors", 0)
-        counts.add(found.get("passed", 0), max(failed, 1 if status else 0), found.get("skipped", 0))
+    there("matplotlib.font_manager")  # lists the fonts, once for all processes: where that is slow, it is told
+    common = [PYTHON, "-m", "pytest", "-rs", "-p", "no:cacheprovider"]
+    at_once = ["-n", str(len(os.sched_getaffinity(0))), "--dist", "loadgroup"] if there("xdist") else []
+    chosen = ["-m", "program", f"--program={Path(program).resolve()}"] if program else ["-m", "not program"]
+    add_tests(counts, [*common, *at_once, *chosen], "tools")
+    if not program:
+        add_tests(counts, common, "bench")
+
+
+def add_tests(counts: Counts, words: list[str], folder: str) -> None:
+    """Runs the tests of a folder, and counts what their last line says."""
+    status, said = run(words, ROOT / folder)
+    last = said.splitlines()[-1] if said else ""
+    told = re.findall(r"(\d+) (passed|failed|error|errors|skipped)\b", last)
+    found = {word: int(number) for number, word in told}
+    failed = found.get("failed", 0) + found.get("error", 0) + found.get("errors", 0)
+    counts.add(found.get("passed", 0), max(failed, 1 if status else 0), found.get("skipped", 0))
 
 
 def main() -> int:
@@ -142,8 +158,10 @@ def main() -> int:
     missing, counts = lacking() + lacking_browser(), Counts()
     if missing:
         print(f"what needs {', '.join(missing)} is skipped: apt-get can't install that here")
-    lint(counts)
-    test(counts, sys.argv[1] if len(sys.argv) > 1 else None)
+    program = sys.argv[1] if len(sys.argv) > 1 else None
+    if not program:
+        lint(counts)
+    test(counts, program)
     print(f"{counts.passed} passed, {counts.failed} failed, {counts.skipped} skipped")
     return 1 if counts.failed else 0
 

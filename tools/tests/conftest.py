@@ -1,6 +1,7 @@
 """Each test has a room of its own.
 
-`pytest --program=PATH`: with the built `ttm`, that it takes what the tools write, and they what it prints.
+`pytest --program=PATH`: with the built `ttm`, that it takes what the tools write, and they what it prints. `-m program`
+chooses the tests that run it. Where several processes share the tests (pytest-xdist), one has the browser.
 """
 
 from pathlib import Path
@@ -9,9 +10,22 @@ import pytest
 
 from helpers import Room, Town
 
+LONGEST = ("test_page.py", "test_pages.py", "test_study.py")
+
 
 def pytest_addoption(parser: pytest.Parser) -> None:
     parser.addoption("--program", default=None, help="the built ttm (without it, tests that run it are skipped)")
+
+
+def pytest_collection_modifyitems(items: list[pytest.Item]) -> None:
+    """Marks the tests that run the program, and those in a browser; the files whose tests take longest come first."""
+    for item in items:
+        fixtures = getattr(item, "fixturenames", ())
+        if "program" in fixtures:
+            item.add_marker("program")
+        if "browser" in fixtures:
+            item.add_marker(pytest.mark.xdist_group("browser"))
+    items.sort(key=lambda item: item.path.name not in LONGEST)
 
 
 @pytest.fixture
