@@ -8,6 +8,7 @@ ghost use Rattle.table_records.specs.Checks.{Explains};
 ghost use Rattle.table_records.specs.Faults.{Tells};
 ghost use Rattle.table_records.specs.Fields.{is_empty, number_of, time_of, trimmed};
 ghost use Rattle.table_records.specs.declared.fault.What.TheVariants.{BadNumber, BadTime, UnknownStop};
+ghost use Rattle.table_records.specs.declared.limits.TheConstants.{MOST_BYTES};
 ghost use Rattle.table_files.specs.Services.{number_in};
 ghost use Rattle.table_files.specs.StopTimes.{is_wrong};
 ghost use Rattle.table_files.specs.StopTimes as spec;
@@ -310,7 +311,7 @@ pub fn read_stop_times(
 ) -> Result<StopTimes, FeedFault>
     requires few { length stops.now ≤ MOST_STOPS }
     requires trips { length trips.now ≤ MOST_TRIPS }
-    requires size { length bytes.now ≤ 1073741824 }
+    requires size { length bytes.now ≤ MOST_BYTES }
     ensures good { IfOk result (λ t. (spec.time_faults trips.now stops.now bytes.now ≡ [])
         × (t.trips.items ≡ spec.trip_events trips.now stops.now (spec.time_rows bytes.now))
         × (t.aside ≡ spec.trips_aside trips.now (spec.time_rows bytes.now))) }
