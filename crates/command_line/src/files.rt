@@ -1,6 +1,6 @@
 //! Files read whole.
 
-ghost use Rattle.std.specs.Prelude.{◌≡◌, ◌≤◌, ◌^◌, length, IfOk, IfErr, IfSome};
+ghost use Rattle.std.specs.Prelude.{◌≡◌, ◌≤◌, length, IfOk, IfErr, IfSome};
 ghost use Rattle.command_line.specs.Files.{Tells, words_of};
 
 use gtfs_tables::MOST_BYTES;
@@ -36,7 +36,7 @@ impl ReadFault {
 /// All the bytes that a reader has left, at most 1,073,741,824.
 pub fn read_all<R: Read>(alloc: Global, r: &mut R) -> Result<Vec<u8>, ReadFault>
     ensures bytes { IfOk result (λ bytes. IfSome (R.remaining r.old) (λ all. bytes.items ≡ all)) }
-    ensures limit { IfOk result (λ bytes. length bytes.items ≤ 2 ^ 30) }
+    ensures limit { IfOk result (λ bytes. length bytes.items ≤ MOST_BYTES) }
     ensures fault { IfErr result (λ fault. Tells fault (R.remaining r.old)) }
 {
     let mut bytes = Vec::new(alloc);

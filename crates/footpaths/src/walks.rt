@@ -7,6 +7,7 @@ ghost use Rattle.gtfs_tables.specs.Files.{IsWithinLimit, bytes_of};
 ghost use Rattle.table_files.specs.Children.{IsPlace};
 ghost use Rattle.table_records.specs.Checks.{Explains};
 ghost use Rattle.table_records.specs.Faults.{Tells};
+ghost use Rattle.table_records.specs.declared.limits.TheConstants.{MOST_BYTES};
 ghost use Rattle.footpaths.specs.Pairs.{IsRefusal, with_more};
 ghost use Rattle.footpaths.specs.Walks as spec;
 
@@ -110,7 +111,7 @@ fn paths_of_links(alloc: Global, feed: &Feed) -> Result<Direct, FeedFault>
 
 /// Adds the footpaths of a file's bytes.
 fn add_walks(alloc: Global, direct: &mut Direct, feed: &Feed, bytes: &[u8]) -> Result<(), FeedFault>
-    requires few { length bytes.now ≤ 1073741824 }
+    requires few { length bytes.now ≤ MOST_BYTES }
     requires links { direct.old ≡ spec.lists_with feed.now [] }
     ensures good { OnOk result ((spec.walk_faults feed.now bytes.now ≡ [])
         × (direct.new ≡ spec.lists_with feed.now (spec.walk_rows bytes.now))) }

@@ -8,6 +8,7 @@ use Rattle.std.specs.Str.{bytes_eq}
 use Rattle.table_records.specs.declared.fault.FeedFault.{FeedFault}
 use Rattle.table_records.specs.declared.fault.FileName.{FileName}
 use Rattle.table_records.specs.declared.fault.FileName.TheVariants as file
+use Rattle.table_records.specs.declared.limits.TheConstants.{MOST_BYTES}
 use Rattle.table_files.specs.Calendar as calendar
 use Rattle.table_files.specs.CalendarDates as dates
 use Rattle.table_files.specs.FeedTrips as trips
@@ -124,7 +125,7 @@ module _ (f : FeedFiles) where
 
   -- the feed that the files state, where they have no fault
   pub is_feed : files.faults_of_routes f ≡ [] → files.faults_of_calendar f ≡ [] → files.faults_of_trips f ≡ [] → files.faults_of_frequencies f ≡ []
-      → AreLocations (files.locations_in f) → length (files.routes_in f) ≤ 1073741824 → length (files.services_in f) ≤ 2148483650
+      → AreLocations (files.locations_in f) → length (files.routes_in f) ≤ MOST_BYTES → length (files.services_in f) ≤ 2148483650
       → AreEvents (length (files.stops_in f)) (files.events_in f) → files.aside_in f ≤ length (files.trip_ids_in f)
       → All (IsLink (length (files.stops_in f)) (length (files.locations_in f).children)) (files.links_in f) → IsFeed (files.feed_of f)
   is_feed no_routes no_calendar no_trips no_frequencies locations routes services are aside links =
@@ -175,7 +176,7 @@ module _ (f : FeedFiles) where
 
   -- the catalog that was read file by file: the rows of both calendars keep the numbers of their services
   pub is_catalog : (p : LocationData) (routes : List (List ℕ)) (c : Calendar) (d : CalendarDates) (t : FeedTrips)
-      → (p ≡ files.locations_in f) × AreLocations p → (routes ≡ files.routes_in f) × (length routes ≤ 1073741824) → calendar.IsCalendar c (rows_in calendar.service_rows f.calendar)
+      → (p ≡ files.locations_in f) × AreLocations p → (routes ≡ files.routes_in f) × (length routes ≤ MOST_BYTES) → calendar.IsCalendar c (rows_in calendar.service_rows f.calendar)
       → dates.AreExceptions c.services d (rows_in dates.date_rows f.calendar_dates) × (length d.services ≤ 2147483650)
       → trips.AreTrips routes d.services t (rows_in trips.trip_rows f.trips) × (files.faults_of_trips f ≡ [])
       → IsCatalog (record { locations = p; routes = routes; calendar = c.rows; exceptions = d.rows; trips = t }) f
@@ -265,7 +266,7 @@ module _ (f : FeedFiles) where
             let (no_routes, no_calendar, no_trips) =
             none_each (files.faults_of_stops f) (files.faults_of_routes f) (files.faults_of_calendar f) (files.faults_of_calendar_dates f) (files.faults_of_trips f) none in
             subst IsFeed (sym data_is) (is_feed no_routes no_calendar no_trips no_frequencies sound_locations
-            (subst (λ (l : List (List ℕ)). length l ≤ 1073741824) is.routes is.few_routes)
+            (subst (λ (l : List (List ℕ)). length l ≤ MOST_BYTES) is.routes is.few_routes)
             (subst (λ (l : List (List ℕ)). length l ≤ 2148483650) is.services is.few_services)
             (subst (AreEvents (length (files.stops_in f))) are_events (subst (λ (p : LocationData). AreEvents (length p.stops) events) is.locations are))
             (let ids = ap length is.trip_ids in omega (arith, few_aside, are_aside, ids))

@@ -1,6 +1,7 @@
 -- The catalog of a feed: its locations, routes, services and trips, by number, before their times are read.
 use Rattle.std.specs.Prelude.{◌≡◌, ◌≤◌, length, map}
 use Rattle.timetable.specs.declared.limits.TheConstants.{MOST_TRIPS}
+use Rattle.table_records.specs.declared.limits.TheConstants.{MOST_BYTES}
 use Rattle.table_files.specs.Locations.{AreLocations}
 use Rattle.gtfs_tables.specs.Feed.{calendar_data, exception_data}
 use Rattle.gtfs_tables.specs.Files.{FeedFiles, calendar_in, exceptions_in, locations_in, numbers_in, routes_in, services_in, trip_ids_in}
@@ -16,6 +17,6 @@ pub record IsCatalog (c : Catalog) (files : FeedFiles) : Type 0 where
   pub trip_ids : c.trips.ids ≡ trip_ids_in files
   pub numbers : c.trips.numbers.items ≡ numbers_in files
   pub sound_locations : AreLocations c.locations
-  pub few_routes : length c.routes ≤ 1073741824
+  pub few_routes : length c.routes ≤ MOST_BYTES
   pub few_services : length c.trips.services ≤ 2148483650
   pub few_trips : length c.trips.ids ≤ MOST_TRIPS

@@ -6,6 +6,7 @@ use Rattle.std.specs.Str.{bytes_eq}
 use Rattle.timetable.specs.declared.limits.TheConstants.{MOST_EVENTS, MOST_STOPS, MOST_TRIPS}
 use Rattle.timetable.specs.Trips.{EventsRise}
 use Rattle.timetable.specs.declared.trips.StopNo.{StopNo}
+use Rattle.table_records.specs.declared.limits.TheConstants.{MOST_BYTES}
 use Rattle.table_files.specs.Children.{AreChildren, IsPlace}
 use Rattle.table_files.specs.Transfers.{IsLink}
 use Rattle.table_files.specs.declared.place.Place.{Place}
@@ -49,7 +50,7 @@ pub record IsDeparting (row : Departures) : Type 0 where
 pub record IsFeed (d : FeedData) : Type 0 where
   pub few_names : length d.names ≤ MOST_STOPS
   pub few_stops : length d.stops ≤ MOST_STOPS
-  pub few_routes : length d.routes ≤ 1073741824
+  pub few_routes : length d.routes ≤ MOST_BYTES
   pub few_services : length d.services ≤ 2148483650
   pub distinct_stops : IsDistinct bytes_eq d.stops
   pub distinct_routes : IsDistinct bytes_eq d.routes

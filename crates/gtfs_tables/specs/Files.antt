@@ -8,6 +8,7 @@ use Rattle.table_records.specs.declared.fault.FeedFault.{FeedFault}
 use Rattle.table_records.specs.declared.fault.FileName.{FileName}
 use Rattle.table_records.specs.declared.fault.FileName.TheVariants as file
 use Rattle.table_records.specs.declared.fault.What.TheVariants.{MissingFile}
+use Rattle.table_records.specs.declared.limits.TheConstants.{MOST_BYTES}
 use Rattle.table_files.specs.Locations as locations
 use Rattle.table_files.specs.Transfers as transfers
 use Rattle.table_files.specs.Routes.{route_faults, route_ids}
@@ -57,7 +58,7 @@ files_of b = record {
 
 -- a file, where it is there, has at most 2^30 bytes
 abbrev pub IsWithinLimit : Option Bytes → Type 0
-IsWithinLimit file = ForSome file (λ bytes. length bytes ≤ 1073741824)
+IsWithinLimit file = ForSome file (λ bytes. length bytes ≤ MOST_BYTES)
 
 -- each file that is there keeps the limit of an input file
 pub record AreWithinLimit (files : FeedFiles) : Type 0 where

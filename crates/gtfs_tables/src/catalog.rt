@@ -2,6 +2,7 @@
 
 ghost use Rattle.std.specs.Prelude.{◌≡◌, ◌≤◌, [], length, IfOk, IfErr};
 ghost use Rattle.table_records.specs.Faults.{Tells};
+ghost use Rattle.table_records.specs.declared.limits.TheConstants.{MOST_BYTES};
 ghost use Rattle.table_files.specs.Calendar.{IsCalendar, service_rows};
 ghost use Rattle.table_files.specs.CalendarDates.{AreExceptions, date_rows};
 ghost use Rattle.table_files.specs.FeedTrips.{AreTrips, trip_rows};
@@ -74,7 +75,7 @@ fn locations_of(alloc: Global, files: &FeedBytes<'_>) -> Result<Box<Locations>, 
 fn routes_of(alloc: Global, files: &FeedBytes<'_>) -> Result<Identifiers, FeedFault>
     requires { spec.IsWithinLimit (spec.bytes_of files.now.routes) }
     ensures good { IfOk result (λ ids. (spec.faults_of_routes (spec.files_of files.now) ≡ []) × (ids ≡ spec.routes_in (spec.files_of files.now))) }
-    ensures few { IfOk result (λ ids. length ids ≤ 1073741824) }
+    ensures few { IfOk result (λ ids. length ids ≤ MOST_BYTES) }
     ensures fault { IfErr result (λ e. Tells e (spec.faults_of_routes (spec.files_of files.now))) }
 {
     match files.routes {
@@ -88,7 +89,7 @@ fn calendar_of(alloc: Global, files: &FeedBytes<'_>) -> Result<Calendar, FeedFau
     requires { spec.IsWithinLimit (spec.bytes_of files.now.calendar) }
     ensures good { IfOk result (λ c. (spec.faults_of_calendar (spec.files_of files.now) ≡ [])
         × IsCalendar c (spec.rows_in service_rows (spec.bytes_of files.now.calendar))) }
-    ensures few { IfOk result (λ c. length c.services ≤ 1073741824) }
+    ensures few { IfOk result (λ c. length c.services ≤ MOST_BYTES) }
     ensures fault { IfErr result (λ e. Tells e (spec.faults_of_calendar (spec.files_of files.now))) }
 {
     match files.calendar {
@@ -110,7 +111,7 @@ fn dates_of(
     services: Identifiers,
 ) -> Result<CalendarDates, FeedFault>
     requires size { spec.IsWithinLimit (spec.bytes_of files.now.calendar_dates) }
-    requires known { length services ≤ 1073741824 }
+    requires known { length services ≤ MOST_BYTES }
     ensures good { IfOk result (λ d. (spec.faults_of_calendar_dates (spec.files_of files.now) ≡ [])
         × AreExceptions services d (spec.rows_in date_rows (spec.bytes_of files.now.calendar_dates))) }
     ensures few { IfOk result (λ d. length d.services ≤ 2147483650) }
@@ -134,7 +135,7 @@ fn trips_of(
 ) -> Result<FeedTrips, FeedFault>
     requires size { spec.IsWithinLimit (spec.bytes_of files.now.trips) }
     requires routes { routes.now ≡ spec.routes_in (spec.files_of files.now) }
-    requires few { length routes.now ≤ 1073741824 }
+    requires few { length routes.now ≤ MOST_BYTES }
     requires known { length services ≤ 2147483650 }
     ensures good { IfOk result (λ t. (spec.faults_of_trips (spec.files_of files.now) ≡ [])
         × AreTrips routes.now services t (spec.rows_in trip_rows (spec.bytes_of files.now.trips))) }

@@ -4,10 +4,7 @@ ghost use Rattle.std.specs.Prelude.{◌≡◌, ◌↔◌, IsTrue};
 ghost use Rattle.table_records.specs.declared.fault.What.TheVariants as what;
 ghost use Rattle.gtfs_tables.specs.Files.{AreWithinLimit, IsWithinLimit, bytes_of, files_of};
 
-use table_records::{FeedFault, FileName, What};
-
-/// The most bytes of an input file.
-pub const MOST_BYTES: usize = 1_073_741_824;
+use table_records::{FeedFault, FileName, MOST_BYTES, What};
 
 /// The bytes of each file of a feed, none where the file is absent.
 #[derive(Clone, Copy, Drop)]

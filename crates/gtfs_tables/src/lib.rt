@@ -27,7 +27,7 @@ mod read;
 mod trip;
 
 pub use feed::Feed;
-pub use feed_bytes::{FeedBytes, MOST_BYTES, file_fits};
+pub use feed_bytes::{FeedBytes, file_fits};
 pub use opportunities::{opportunity_checks, read_opportunities};
 pub use origins::{origin_checks, read_origins};
 pub use read::read_feed;
@@ -36,5 +36,7 @@ pub use table_files::{
     calendar_date_checks, feed_trip_checks, frequency_checks, location_checks, route_checks,
     stop_time_checks, transfer_checks,
 };
-pub use table_records::{Check, Checks, FeedFault, FileName, Rule, What, read_date, read_time};
+pub use table_records::{
+    Check, Checks, FeedFault, FileName, MOST_BYTES, Rule, What, read_date, read_time,
+};
 pub use trip::{DepartureList, FeedTrip, TripId};

@@ -4,6 +4,7 @@ ghost use Rattle.std.specs.Prelude.{◌≡◌, ◌≤◌, ℕ, List, [], length,
 ghost use Rattle.csv.specs.Records.{fields_of};
 ghost use Rattle.table_records.specs.Checks.{Explains};
 ghost use Rattle.table_records.specs.Faults.{Tells};
+ghost use Rattle.table_records.specs.declared.limits.TheConstants.{MOST_BYTES};
 ghost use Rattle.gtfs_tables.specs.Files.{IsWithinLimit, bytes_of};
 ghost use Rattle.gtfs_tables.specs.Opportunities as spec;
 
@@ -136,7 +137,7 @@ fn at_each(alloc: Global, feed: &Feed, count: u32) -> Result<Vec<u32>, AllocErro
 
 // The opportunities that the bytes of a file state.
 fn named_opportunities(alloc: Global, bytes: &[u8], feed: &Feed) -> Result<Vec<u32>, FeedFault>
-    requires { length bytes.now ≤ 1073741824 }
+    requires { length bytes.now ≤ MOST_BYTES }
     ensures good { IfOk result (λ v. (spec.faults_in bytes.now feed.now.stops ≡ [])
         × (v.items ≡ map (spec.at_stop (spec.opportunity_rows bytes.now)) feed.now.stops)) }
     ensures fault { IfErr result (λ e. Tells e (spec.faults_in bytes.now feed.now.stops)) }

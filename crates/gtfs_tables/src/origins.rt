@@ -5,6 +5,7 @@ ghost use Rattle.std.specs.List.{range_with_len};
 ghost use Rattle.csv.specs.Records.{fields_of};
 ghost use Rattle.table_records.specs.Checks.{Explains};
 ghost use Rattle.table_records.specs.Faults.{Tells};
+ghost use Rattle.table_records.specs.declared.limits.TheConstants.{MOST_BYTES};
 ghost use Rattle.gtfs_tables.specs.Files.{IsWithinLimit, bytes_of};
 ghost use Rattle.gtfs_tables.specs.Origins as spec;
 
@@ -128,7 +129,7 @@ fn all_stops(alloc: Global, feed: &Feed) -> Result<Vec<StopNo>, AllocError>
 
 // The stops that the bytes of a file name.
 fn named_origins(alloc: Global, bytes: &[u8], feed: &Feed) -> Result<Vec<StopNo>, FeedFault>
-    requires { length bytes.now ≤ 1073741824 }
+    requires { length bytes.now ≤ MOST_BYTES }
     ensures good { IfOk result (λ v. (spec.faults_in bytes.now feed.now.stops ≡ [])
         × (v.items ≡ map (spec.origin_of feed.now.stops) (spec.origin_rows bytes.now))) }
     ensures stops { IfOk result (λ v. All (λ s. s.0 < length feed.now.stops) v.items) }

@@ -2,7 +2,7 @@
 
 use crate::scenario_networks::mondays;
 use crate::small_feeds::feed_in;
-use gtfs_tables::{Feed, FeedBytes};
+use gtfs_tables::{Feed, FeedBytes, MOST_BYTES};
 use scenarios::{Scenario, ScenarioFault, ScenarioWhat, read_scenario};
 use std::alloc::{AllocError, Global};
 use std::process::Abort;
@@ -20,7 +20,7 @@ fn with_departures() -> FeedBytes<'static> {
 
 // The scenario of a file over a feed, none where the file is refused.
 fn scenario_over(alloc: Global, feed: &Feed, bytes: &[u8]) -> Option<Scenario> {
-    if bytes.len() > 1_073_741_824 {
+    if bytes.len() > MOST_BYTES {
         return None;
     }
     read_scenario(alloc, b"case", bytes, feed).ok()
@@ -90,7 +90,7 @@ fn shifts_of_a_trip_add_up(rt: HostRuntime) {
 
 // The fault of a file over a feed, none where the file is accepted.
 fn fault_over(alloc: Global, feed: &Feed, bytes: &[u8]) -> Option<ScenarioFault> {
-    if bytes.len() > 1_073_741_824 {
+    if bytes.len() > MOST_BYTES {
         return None;
     }
     read_scenario(alloc, b"case", bytes, feed).err()

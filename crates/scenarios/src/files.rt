@@ -3,6 +3,7 @@ ghost use Rattle.std.specs.Prelude.{◌≡◌, ◌≤◌, ◌⊎◌, ◌∷◌, 
 ghost use Rattle.csv.specs.Records.{fields_of};
 ghost use Rattle.table_records.specs.Reading.{lacks_column};
 ghost use Rattle.table_records.specs.Table.{records_of};
+ghost use Rattle.table_records.specs.declared.limits.TheConstants.{MOST_BYTES};
 ghost use Rattle.scenarios.specs.declared.faults.ScenarioWhat.TheVariants.{Memory};
 ghost use Rattle.scenarios.specs.Faults.{Tells};
 ghost use Rattle.scenarios.specs.Files.{edits_of, missing_column, required, rows_in, scenario_faults, scenario_in};
@@ -30,7 +31,7 @@ pub fn read_scenario(
     bytes: &[u8],
     feed: &Feed,
 ) -> Result<Scenario, ScenarioFault>
-    requires { length bytes.now ≤ 1073741824 }
+    requires { length bytes.now ≤ MOST_BYTES }
     ensures good { IfOk result (λ s. (scenario_faults bytes.now feed.now ≡ []) × (s ≡ scenario_in name.now bytes.now feed.now)) }
     ensures fault { IfErr result (λ e. Tells e (scenario_faults bytes.now feed.now)) }
 {
@@ -46,7 +47,7 @@ fn read_edits(
     feed: &Feed,
     scenario: &mut Scenario,
 ) -> Result<(), ScenarioFault>
-    requires few { length bytes.now ≤ 1073741824 }
+    requires few { length bytes.now ≤ MOST_BYTES }
     requires first { scenario.old.edits ≡ [] }
     ensures good { OnOk result ((scenario_faults bytes.now feed.now ≡ [])
         × (scenario.new ≡ record scenario.old { edits = edits_of feed.now (rows_in bytes.now) })) }
@@ -65,10 +66,10 @@ fn read_edits(
 
 /// Reads the header of a file, which must name each required column.
 fn open_file<'a>(alloc: Global, bytes: &'a [u8]) -> Result<OpenTable<'a>, ScenarioFault>
-    requires { length bytes.now ≤ 1073741824 }
+    requires { length bytes.now ≤ MOST_BYTES }
     ensures columns { IfOk result (λ _. lacks_column required (records_of bytes.now) ≡ false) }
     ensures records { IfOk result (λ t. records_of bytes.now ≡ fields_of t.header ∷ t.rows) }
-    ensures few { IfOk result (λ t. length t.rows ≤ 1073741824) }
+    ensures few { IfOk result (λ t. length t.rows ≤ MOST_BYTES) }
     ensures fault { IfErr result (λ e. (e.what ≡ Memory)
         ⊎ ((lacks_column required (records_of bytes.now) ≡ true) × (e ≡ missing_column))) }
 {

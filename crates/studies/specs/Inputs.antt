@@ -1,5 +1,6 @@
 -- What goes into a study: the bytes of the feed's files and of the analyst's own, of which some may be absent.
 use Rattle.std.specs.Prelude.{◌≤◌, List, Option, All, length}
+use Rattle.table_records.specs.declared.limits.TheConstants.{MOST_BYTES}
 use Rattle.gtfs_tables.specs.Files as files
 use Rattle.studies.specs.NamedFile.{NamedBytes}
 use Rattle.studies.specs.declared.inputs.Inputs.{Inputs}
@@ -31,4 +32,4 @@ pub record AreWithinLimit (i : InputFiles) : Type 0 where
   pub origins : files.IsWithinLimit i.origins
   pub opportunities : files.IsWithinLimit i.opportunities
   pub destinations : files.IsWithinLimit i.destinations
-  pub scenarios : All (λ f. length f.bytes ≤ 1073741824) i.scenarios
+  pub scenarios : All (λ f. length f.bytes ≤ MOST_BYTES) i.scenarios

@@ -38,14 +38,14 @@ impl Inputs<'_> {
 
 /// Whether each scenario file keeps the limit of an input file.
 fn have_room(files: &[NamedFile]) -> bool
-    ensures { IsTrue result ↔ All (λ f. length f.bytes ≤ 1073741824) files.now }
+    ensures { IsTrue result ↔ All (λ f. length f.bytes ≤ MOST_BYTES) files.now }
 {
     files.iter().all(is_within_limit)
 }
 
 /// Whether a scenario file keeps the limit of an input file.
 fn is_within_limit(file: &NamedFile) -> bool
-    ensures { IsTrue result ↔ (length file.now.bytes ≤ 1073741824) }
+    ensures { IsTrue result ↔ (length file.now.bytes ≤ MOST_BYTES) }
 {
     file.bytes.len() <= MOST_BYTES
 }

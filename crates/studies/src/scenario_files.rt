@@ -1,5 +1,6 @@
 //! The scenarios that files state.
 ghost use Rattle.std.specs.Prelude.{◌≡◌, ◌≤◌, [], All, IfErr, IfOk, length};
+ghost use Rattle.table_records.specs.declared.limits.TheConstants.{MOST_BYTES};
 ghost use Rattle.studies.specs.Parts.{edit_faults, scenarios_of};
 ghost use Rattle.studies.specs.Stages.{IsOfNoRun, TellsEdits};
 
@@ -16,7 +17,7 @@ pub(crate) fn read_scenarios(
     files: &[NamedFile],
     feed: &Feed,
 ) -> Result<Vec<Scenario>, StudyFault>
-    requires { All (λ f. length f.bytes ≤ 1073741824) files.now }
+    requires { All (λ f. length f.bytes ≤ MOST_BYTES) files.now }
     ensures good { IfOk result (λ _. edit_faults feed.now 0 files.now ≡ []) }
     ensures scenarios { IfOk result (λ v. v.items ≡ scenarios_of feed.now files.now) }
     ensures fault { IfErr result (λ e. TellsEdits e feed.now files.now) }

@@ -8,6 +8,7 @@ use Rattle.std.proofs.lemmas.List.Elements.{All-cons, All-nil, filter_map-append
 use Rattle.std.proofs.lemmas.Option.{get_or_from_slice_get, slice_get_within}
 use Rattle.table_records.specs.Reading.{table_rows}
 use Rattle.table_records.specs.Table.{Gives, records_of}
+use Rattle.table_records.specs.declared.limits.TheConstants.{MOST_BYTES}
 use Rattle.table_records.proofs.ReadingFacts.{few_records}
 use Rattle.table_files.specs.declared.transfers.Link.{Link}
 use Rattle.table_files.specs.declared.transfers.Transfers.{Transfers}
@@ -78,8 +79,8 @@ pub rows_after : (records rest : List (List (List ℕ))) (found : Bool) (fields 
 rows_after [] rest found fields g = rw (g.1) refl
 rows_after (r ∷ rs) rest found fields g = λ k. map (row_of (sym g.1 k)) (sym g.2 k)
 
-pub few_after : (bytes : List ℕ) (records rest : List (List (List ℕ))) (found : Bool) (fields : List (List ℕ)) → records ≡ records_of bytes → length bytes ≤ 1073741824 → Gives records found fields rest
-    → length rest ≤ 1073741824
+pub few_after : (bytes : List ℕ) (records rest : List (List (List ℕ))) (found : Bool) (fields : List (List ℕ)) → records ≡ records_of bytes → length bytes ≤ MOST_BYTES → Gives records found fields rest
+    → length rest ≤ MOST_BYTES
 few_after bytes [] rest found fields is few g = rw (g.1) (omega arith)
 few_after bytes (r ∷ rs) rest found fields is few g = rw (g.2) (few_records bytes r rs (sym is) few)
 

@@ -4,6 +4,7 @@ ghost use Rattle.std.specs.Prelude.{◌≡◌, ◌≤◌, [], length, map, IfOk,
 ghost use Rattle.csv.specs.Records.{fields_of};
 ghost use Rattle.table_records.specs.Checks.{Explains};
 ghost use Rattle.table_records.specs.Faults.{Tells};
+ghost use Rattle.table_records.specs.declared.limits.TheConstants.{MOST_BYTES};
 ghost use Rattle.table_files.specs.Calendar as spec;
 ghost use Rattle.table_files.specs.Calendar.{IsCalendar, calendar_faults, columns_of, days_of, row_at, service_rows};
 
@@ -177,9 +178,9 @@ fn columns_in(header: &ByteRecord) -> CalendarColumns
 ///
 /// The bytes are at most 2^30, the limit of an input file.
 pub fn read_calendar(alloc: Global, bytes: &[u8]) -> Result<Calendar, FeedFault>
-    requires { length bytes.now ≤ 1073741824 }
+    requires { length bytes.now ≤ MOST_BYTES }
     ensures good { IfOk result (λ c. (calendar_faults bytes.now ≡ []) × IsCalendar c (service_rows bytes.now)) }
-    ensures few { IfOk result (λ c. length c.services ≤ 1073741824) }
+    ensures few { IfOk result (λ c. length c.services ≤ MOST_BYTES) }
     ensures fault { IfErr result (λ e. Tells e (calendar_faults bytes.now)) }
 {
     let mut file = open_table(alloc, bytes, FileName::Calendar, CHECKS.required)?;

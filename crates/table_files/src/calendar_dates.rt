@@ -4,6 +4,7 @@ ghost use Rattle.std.specs.Prelude.{◌≡◌, ◌≤◌, ◌+◌, [], length, m
 ghost use Rattle.csv.specs.Records.{fields_of};
 ghost use Rattle.table_records.specs.Checks.{Explains};
 ghost use Rattle.table_records.specs.Faults.{Tells};
+ghost use Rattle.table_records.specs.declared.limits.TheConstants.{MOST_BYTES};
 ghost use Rattle.table_files.specs.CalendarDates as spec;
 ghost use Rattle.table_files.specs.CalendarDates.{AreExceptions, columns_of, date_rows, exception_faults};
 
@@ -76,7 +77,7 @@ impl RecordReader for ExceptionColumns {
 
     ghost After = { λ _ start rows now. AreExceptions start.services now rows };
 
-    ghost HasRoom = { λ _ table at. length table.services ≤ 1073741824 + at };
+    ghost HasRoom = { λ _ table at. length table.services ≤ MOST_BYTES + at };
 
     fn add(
         &self,
@@ -124,8 +125,8 @@ pub fn read_calendar_dates(
     bytes: &[u8],
     services: Identifiers,
 ) -> Result<CalendarDates, FeedFault>
-    requires size { length bytes.now ≤ 1073741824 }
-    requires known { length services ≤ 1073741824 }
+    requires size { length bytes.now ≤ MOST_BYTES }
+    requires known { length services ≤ MOST_BYTES }
     ensures good { IfOk result (λ d. (exception_faults bytes.now ≡ []) × AreExceptions services d (date_rows bytes.now)) }
     ensures few { IfOk result (λ d. length d.services ≤ 2147483650) }
     ensures fault { IfErr result (λ e. Tells e (exception_faults bytes.now)) }

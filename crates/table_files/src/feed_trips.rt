@@ -4,6 +4,7 @@ ghost use Rattle.std.specs.Prelude.{◌≡◌, ◌≤◌, ℕ, List, [], length,
 ghost use Rattle.csv.specs.Records.{fields_of};
 ghost use Rattle.table_records.specs.Checks.{Explains};
 ghost use Rattle.table_records.specs.Faults.{Tells};
+ghost use Rattle.table_records.specs.declared.limits.TheConstants.{MOST_BYTES};
 ghost use Rattle.table_files.specs.FeedTrips as spec;
 ghost use Rattle.table_files.specs.FeedTrips.{AreTrips, columns_of, trip_faults, trip_rows};
 
@@ -84,7 +85,7 @@ impl<'a> RecordReader for TripReader<'a> {
 
     ghost After = { λ s start rows now. AreTrips s.routes.now start.services now rows };
 
-    ghost HasRoom = { λ s table at. (length s.routes.now ≤ 1073741824) × (length table.services ≤ 2147483650 + at) };
+    ghost HasRoom = { λ s table at. (length s.routes.now ≤ MOST_BYTES) × (length table.services ≤ 2147483650 + at) };
 
     fn add(
         &self,
@@ -154,8 +155,8 @@ pub fn read_feed_trips(
     routes: &Identifiers,
     services: Identifiers,
 ) -> Result<FeedTrips, FeedFault>
-    requires size { length bytes.now ≤ 1073741824 }
-    requires routes { length routes.now ≤ 1073741824 }
+    requires size { length bytes.now ≤ MOST_BYTES }
+    requires routes { length routes.now ≤ MOST_BYTES }
     requires known { length services ≤ 2147483650 }
     ensures good { IfOk result (λ t. (trip_faults routes.now bytes.now ≡ []) × AreTrips routes.now services t (trip_rows bytes.now)) }
     ensures fault { IfErr result (λ e. Tells e (trip_faults routes.now bytes.now)) }

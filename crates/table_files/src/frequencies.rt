@@ -7,6 +7,7 @@ ghost use Rattle.csv.specs.Records.{fields_of};
 ghost use Rattle.table_records.specs.Checks.{Explains};
 ghost use Rattle.table_records.specs.Faults.{Tells};
 ghost use Rattle.table_records.specs.Fields.{trimmed};
+ghost use Rattle.table_records.specs.declared.limits.TheConstants.{MOST_BYTES};
 ghost use Rattle.table_files.specs.declared.frequencies.Departures.{Departures};
 ghost use Rattle.table_files.specs.Frequencies as spec;
 ghost use Rattle.table_files.specs.Frequencies.{columns_of, departures_by_trip, frequency_faults, frequency_rows, headway_of};
@@ -173,7 +174,7 @@ pub fn read_frequencies(
     bytes: &[u8],
     trips: &Identifiers,
 ) -> Result<Vec<Vec<Departures>>, FeedFault>
-    requires { length bytes.now ≤ 1073741824 }
+    requires { length bytes.now ≤ MOST_BYTES }
     ensures good { IfOk result (λ v. (frequency_faults trips.now bytes.now ≡ [])
         × (map (λ rows. rows.items) v.items ≡ departures_by_trip trips.now (frequency_rows bytes.now))) }
     ensures fault { IfErr result (λ e. Tells e (frequency_faults trips.now bytes.now)) }

@@ -6,6 +6,7 @@ ghost use Rattle.std.specs.Str.{bytes_eq};
 ghost use Rattle.csv.specs.Records.{fields_of};
 ghost use Rattle.table_records.specs.Checks.{Explains};
 ghost use Rattle.table_records.specs.Faults.{Tells};
+ghost use Rattle.table_records.specs.declared.limits.TheConstants.{MOST_BYTES};
 ghost use Rattle.table_files.specs.Children as children_spec;
 ghost use Rattle.table_files.specs.Ends as ends_spec;
 ghost use Rattle.table_files.specs.Locations as spec;
@@ -267,7 +268,7 @@ fn columns_in(header: &ByteRecord) -> LocationColumns
 /// Records of `location_type` empty or 0 are stops, those of 1 stations. A stop's `parent_station` counts where it names a station.
 /// The bytes are at most 2^30, the limit of an input file.
 pub fn read_locations(alloc: Global, bytes: &[u8]) -> Result<Locations, FeedFault>
-    requires { length bytes.now ≤ 1073741824 }
+    requires { length bytes.now ≤ MOST_BYTES }
     ensures good { IfOk result (λ p. (spec.stop_faults bytes.now ≡ []) × (p ≡ spec.locations_in (spec.location_records bytes.now))) }
     ensures fault { IfErr result (λ e. Tells e (spec.stop_faults bytes.now)) }
 {

@@ -4,6 +4,7 @@ ghost use Rattle.std.specs.Prelude.{◌≡◌, ◌≤◌, [], length, map, IfOk,
 ghost use Rattle.csv.specs.Records.{fields_of};
 ghost use Rattle.table_records.specs.Checks.{Explains};
 ghost use Rattle.table_records.specs.Faults.{Tells};
+ghost use Rattle.table_records.specs.declared.limits.TheConstants.{MOST_BYTES};
 ghost use Rattle.table_files.specs.Routes as spec;
 ghost use Rattle.table_files.specs.Routes.{columns_of, route_faults, route_ids};
 
@@ -85,9 +86,9 @@ fn columns_in(header: &ByteRecord) -> RouteColumns
 ///
 /// The bytes are at most 2^30, the limit of an input file.
 pub fn read_routes(alloc: Global, bytes: &[u8]) -> Result<Identifiers, FeedFault>
-    requires { length bytes.now ≤ 1073741824 }
+    requires { length bytes.now ≤ MOST_BYTES }
     ensures good { IfOk result (λ ids. (route_faults bytes.now ≡ []) × (ids ≡ route_ids bytes.now)) }
-    ensures few { IfOk result (λ ids. length ids ≤ 1073741824) }
+    ensures few { IfOk result (λ ids. length ids ≤ MOST_BYTES) }
     ensures fault { IfErr result (λ e. Tells e (route_faults bytes.now)) }
 {
     let mut file = open_table(alloc, bytes, FileName::Routes, CHECKS.required)?;

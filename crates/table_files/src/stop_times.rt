@@ -1,12 +1,14 @@
 //! The events of each trip: `stop_times.txt`.
 
-ghost use Rattle.std.specs.Prelude.{◌≡◌, ◌≤◌, ◌<◌, [], true, false, length, position, replicate, slice_get, IfOk, IfErr, IfSome, IsTrue, if◌then◌else◌};
+ghost use Rattle.std.specs.Prelude.{◌≡◌, ◌≤◌, ◌<◌, ℕ, List, [], true, false, length, map, position, replicate, slice_get, IfOk, IfErr, IfSome, IsTrue, if◌then◌else◌};
 ghost use Rattle.timetable.specs.declared.limits.TheConstants.{MOST_STOPS, MOST_TRIPS};
 ghost use Rattle.std.specs.Str.{bytes_eq};
 ghost use Rattle.csv.specs.Records.{fields_of};
+ghost use Rattle.table_records.specs.Checks.{Explains};
 ghost use Rattle.table_records.specs.Faults.{Tells};
 ghost use Rattle.table_records.specs.Fields.{is_empty, number_of, time_of, trimmed};
 ghost use Rattle.table_records.specs.declared.fault.What.TheVariants.{BadNumber, BadTime, UnknownStop};
+ghost use Rattle.table_records.specs.declared.limits.TheConstants.{MOST_BYTES};
 ghost use Rattle.table_files.specs.Services.{number_in};
 ghost use Rattle.table_files.specs.StopTimes.{is_wrong};
 ghost use Rattle.table_files.specs.StopTimes as spec;
@@ -18,10 +20,35 @@ use crate::whole_trips::{StopTimes, events_of_trips};
 use csv::ByteRecord;
 use std::alloc::{AllocError, Global};
 use table_records::{
-    FeedFault, FileName, Identifiers, RecordReader, What, column, field, number, open_table,
-    read_records, read_time, trim,
+    Check, Checks, FeedFault, FileName, Identifiers, RecordReader, Rule, What, column, field,
+    number, open_table, read_records, read_time, trim,
 };
 use timetable::MOST_EVENTS;
+
+const CHECKS: Checks = Checks {
+    required: &[b"trip_id", b"stop_id", b"stop_sequence"],
+    fields: &[
+        Check(b"trip_id", Rule::Filled, What::EmptyId),
+        Check(b"trip_id", Rule::Trip, What::UnknownTrip),
+        Check(b"stop_id", Rule::Stop, What::UnknownStop),
+        Check(b"stop_sequence", Rule::Number, What::BadNumber),
+        Check(b"stop_sequence", Rule::OnceInTrip, What::DuplicateId),
+        Check(b"arrival_time", Rule::OpenTime, What::BadTime),
+        Check(b"departure_time", Rule::OpenTime, What::BadTime),
+        Check(b"pickup_type", Rule::OpenNumber, What::BadNumber),
+        Check(b"drop_off_type", Rule::OpenNumber, What::BadNumber),
+        Check(b"trip_id", Rule::Timed, What::NoTime),
+    ],
+};
+
+/// What is checked of `stop_times.txt`, beside its limit: each fault of a record is that of a check. The last is that of
+/// a whole trip, which is looked at after all records.
+pub fn stop_time_checks() -> Checks
+    ensures required { map (λ name. name.now) result.required.now ≡ spec.required }
+    ensures explains { (trips stops : List (List ℕ)) → Explains result.fields.now spec.row_of (spec.checks trips stops) }
+{
+    CHECKS
+}
 
 /// The columns of `stop_times.txt` that are read.
 #[derive(Clone, Copy)]
@@ -284,7 +311,7 @@ pub fn read_stop_times(
 ) -> Result<StopTimes, FeedFault>
     requires few { length stops.now ≤ MOST_STOPS }
     requires trips { length trips.now ≤ MOST_TRIPS }
-    requires size { length bytes.now ≤ 1073741824 }
+    requires size { length bytes.now ≤ MOST_BYTES }
     ensures good { IfOk result (λ t. (spec.time_faults trips.now stops.now bytes.now ≡ [])
         × (t.trips.items ≡ spec.trip_events trips.now stops.now (spec.time_rows bytes.now))
         × (t.aside ≡ spec.trips_aside trips.now (spec.time_rows bytes.now))) }
@@ -296,12 +323,7 @@ pub fn read_stop_times(
         trips: no_records(alloc, trips.len())?,
         likely: Likely::new(alloc, stops.len())?,
     };
-    let mut file = open_table(
-        alloc,
-        bytes,
-        FileName::StopTimes,
-        &[b"trip_id", b"stop_id", b"stop_sequence"],
-    )?;
+    let mut file = open_table(alloc, bytes, FileName::StopTimes, CHECKS.required)?;
     let reader = TimeReader {
         columns: columns_in(&file.header),
         trips,

@@ -7,6 +7,7 @@ ghost use Rattle.table_records.specs.Columns as columns_spec;
 ghost use Rattle.table_records.specs.Fields.{is_empty};
 ghost use Rattle.table_records.specs.Faults.{IsFirst, Tells};
 ghost use Rattle.table_records.specs.declared.fault.FileName.TheVariants as file_name;
+ghost use Rattle.table_records.specs.declared.limits.TheConstants.{MOST_BYTES};
 ghost use Rattle.table_files.specs.Transfers as spec;
 
 use crate::ends::have_pair;
@@ -266,9 +267,9 @@ fn columns_in(header: &ByteRecord) -> TransferColumns
 
 // The header, which may be absent since no column is required, and the records after it.
 fn open_file(alloc: Global, bytes: &[u8]) -> Result<OpenTable<'_>, AllocError>
-    requires { length bytes.now ≤ 1073741824 }
+    requires { length bytes.now ≤ MOST_BYTES }
     ensures rows { IfOk result (λ t. spec.transfer_rows bytes.now ≡ map (spec.row_of (fields_of t.header)) t.rows) }
-    ensures few { IfOk result (λ t. length t.rows ≤ 1073741824) }
+    ensures few { IfOk result (λ t. length t.rows ≤ MOST_BYTES) }
 {
     let mut rows = Rows::new(alloc, bytes);
     let mut header = ByteRecord::new(alloc);
@@ -286,7 +287,7 @@ pub fn read_transfers(
     bytes: &[u8],
     locations: &Locations,
 ) -> Result<Transfers, FeedFault>
-    requires { length bytes.now ≤ 1073741824 }
+    requires { length bytes.now ≤ MOST_BYTES }
     ensures good { IfOk result (λ t. (spec.transfer_faults locations.now.names bytes.now ≡ [])
         × (t.links.items ≡ spec.links_of locations.now (spec.transfer_rows bytes.now))
         × (t.unused ≡ spec.unused_of locations.now (spec.transfer_rows bytes.now))) }

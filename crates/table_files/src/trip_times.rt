@@ -68,6 +68,10 @@ impl TripTimes {
         ensures taken { IfNone result (has_number sequence self.now ≡ true) }
         ensures free { IfSome result (λ i. FitsAt i sequence self.now) }
     {
+        // Nearly all records come last.
+        if is_past_all(&self.items, sequence) {
+            return Some(self.items.len());
+        }
         position_of(&self.items, sequence)
     }
 
@@ -108,7 +112,7 @@ fn insert_at(
     ensures ascending { IsAscending 0 trip_times.new.items }
     ensures err { OnErr result (trip_times.new.items ≡ trip_times.old.items) }
 {
-    // Nearly all come last, where nothing has to move.
+    // Last, nothing has to move.
     if place == trip_times.len() {
         trip_times.push_back(stop_time)?;
     } else {
@@ -130,16 +134,13 @@ fn position_of(trip_times: &VecDeque<StopTime>, sequence: u32) -> Option<usize>
     Some(i)
 }
 
-// How many records have a lesser sequence number. In most files that is all of them, so the last is looked at first.
+// How many records have a lesser sequence number.
 fn count_below(trip_times: &VecDeque<StopTime>, sequence: u32) -> usize
     requires { IsAscending 0 trip_times.now.items }
     ensures within { result ≤ length trip_times.now.items }
     ensures below { (k : ℕ) (d : StopTime) → k < result → (slice_index_or trip_times.now.items k d).sequence < sequence }
     ensures from { (k : ℕ) (d : StopTime) → result ≤ k → k < length trip_times.now.items → sequence ≤ (slice_index_or trip_times.now.items k d).sequence }
 {
-    if is_past_all(trip_times, sequence) {
-        return trip_times.len();
-    }
     trip_times.partition_point(|stop_time| stop_time.sequence < sequence)
 }
 

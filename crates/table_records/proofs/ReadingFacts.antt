@@ -15,6 +15,7 @@ use Rattle.table_records.specs.declared.fault.FeedFault.{FeedFault}
 use Rattle.table_records.specs.declared.fault.FileName.{FileName}
 use Rattle.table_records.specs.declared.fault.What.{What}
 use Rattle.table_records.specs.declared.fault.What.TheVariants as what
+use Rattle.table_records.specs.declared.limits.TheConstants.{MOST_BYTES}
 use Rattle.table_records.specs.Reading.{lacks_column, missing_column, table_faults, table_rows}
 
 -- a record that was given was among those left
@@ -45,7 +46,7 @@ stripped (a ∷ b ∷ c ∷ rest) = by (is_bom a b c)
     by false = omega arith
 
 -- so has what is left after the header
-pub few_records : (bytes : List ℕ) (header : List (List ℕ)) (rest : List (List (List ℕ))) → records_of bytes ≡ header ∷ rest → length bytes ≤ 1073741824 → length rest ≤ 1073741824
+pub few_records : (bytes : List ℕ) (header : List (List ℕ)) (rest : List (List (List ℕ))) → records_of bytes ≡ header ∷ rest → length bytes ≤ MOST_BYTES → length rest ≤ MOST_BYTES
 few_records bytes header rest e h =
     let all = records_few default_config (length (strip_bom bytes) + 1) st.StartRecord (strip_bom bytes) in
     let same = ap length e in

@@ -6,6 +6,7 @@
 //! - `columns`: [`column`] finds a column in the header, [`field`] its text in a record.
 //! - `fields`: [`trim`], [`number`], [`read_time`] and [`read_date`] give texts their values.
 //! - `identifiers`: [`Identifiers`] numbers stops, routes, trips and services.
+//! - `limits`: [`MOST_BYTES`] is the most bytes of a file.
 //! - `reading`: [`open_table`] reads a header with its required columns, and [`read_records`] record after record by a
 //!   [`RecordReader`], up to the first fault. [`open_records`] and [`take_records`] do the same for a file with faults of its
 //!   own, by a [`RecordTaker`].
@@ -21,6 +22,7 @@ mod columns;
 mod fault;
 mod fields;
 mod identifiers;
+mod limits;
 mod reading;
 mod rows;
 
@@ -29,6 +31,7 @@ pub use columns::{column, field};
 pub use fault::{FeedFault, FileName, HeaderFault, What};
 pub use fields::{number, read_date, read_time, trim};
 pub use identifiers::Identifiers;
+pub use limits::{MOST_BYTES, limits_are_as_stated};
 pub use reading::{
     OpenTable, RecordReader, RecordTaker, open_records, open_table, read_records, take_records,
 };

@@ -10,6 +10,7 @@ ghost use Rattle.table_records.specs.declared.fault.FileName.{FileName};
 ghost use Rattle.table_records.specs.declared.fault.HeaderFault.TheVariants as header_fault;
 ghost use Rattle.table_records.specs.declared.fault.What.{What};
 ghost use Rattle.table_records.specs.declared.fault.What.TheVariants.{Memory};
+ghost use Rattle.table_records.specs.declared.limits.TheConstants.{MOST_BYTES};
 ghost use Rattle.table_records.specs.Reading.{lacks_column, missing_column};
 
 use crate::columns::column;
@@ -103,7 +104,7 @@ pub fn take_records<T: RecordTaker>(
     table: &mut T::Table,
     rows: &mut Rows<'_>,
 ) -> Result<(), T::Fault>
-    requires few { length rows.old ≤ 2 ^ 30 }
+    requires few { length rows.old ≤ MOST_BYTES }
     requires room { T.HasRoom taker.now table.old 2 }
     requires empty { T.Makes taker.now table.old [] table.old }
     ensures good { IfOk result (λ _. T.Makes taker.now table.old rows.old table.new) }
@@ -141,7 +142,7 @@ pub fn read_records<R: RecordReader>(
     table: &mut R::Table,
     rows: &mut Rows<'_>,
 ) -> Result<(), FeedFault>
-    requires few { length rows.old ≤ 2 ^ 30 }
+    requires few { length rows.old ≤ MOST_BYTES }
     requires room { R.HasRoom reader.now table.old 2 }
     requires empty { R.After reader.now table.old [] table.old }
     ensures good { IfOk result (λ _. (faults_after R.file (R.checks reader.now) [] (map (R.row_of reader.now) rows.old) ≡ [])
@@ -206,10 +207,10 @@ pub fn open_table<'a>(
     file: FileName,
     required: &[&[u8]],
 ) -> Result<OpenTable<'a>, FeedFault>
-    requires { length bytes.now ≤ 1073741824 }
+    requires { length bytes.now ≤ MOST_BYTES }
     ensures columns { IfOk result (λ _. lacks_column (map (λ name. name.now) required.now) (records_of bytes.now) ≡ false) }
     ensures records { IfOk result (λ t. records_of bytes.now ≡ fields_of t.header ∷ t.rows) }
-    ensures few { IfOk result (λ t. length t.rows ≤ 1073741824) }
+    ensures few { IfOk result (λ t. length t.rows ≤ MOST_BYTES) }
     ensures fault { IfErr result (λ e. (e.what ≡ Memory)
         ⊎ ((lacks_column (map (λ name. name.now) required.now) (records_of bytes.now) ≡ true) × (e ≡ missing_column file))) }
 {
@@ -226,10 +227,10 @@ pub fn open_records<'a>(
     bytes: &'a [u8],
     required: &[&[u8]],
 ) -> Result<OpenTable<'a>, HeaderFault>
-    requires { length bytes.now ≤ 1073741824 }
+    requires { length bytes.now ≤ MOST_BYTES }
     ensures columns { IfOk result (λ _. lacks_column (map (λ name. name.now) required.now) (records_of bytes.now) ≡ false) }
     ensures records { IfOk result (λ t. records_of bytes.now ≡ fields_of t.header ∷ t.rows) }
-    ensures few { IfOk result (λ t. length t.rows ≤ 1073741824) }
+    ensures few { IfOk result (λ t. length t.rows ≤ MOST_BYTES) }
     ensures fault { IfErr result (λ e. (e ≡ header_fault.Memory)
         ⊎ ((lacks_column (map (λ name. name.now) required.now) (records_of bytes.now) ≡ true) × (e ≡ header_fault.MissingColumn))) }
 {

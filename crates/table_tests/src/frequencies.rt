@@ -1,6 +1,7 @@
 //! The departures of `frequencies.txt`.
 
 ghost use Rattle.std.specs.Prelude.{◌≤◌, length};
+ghost use Rattle.table_records.specs.declared.limits.TheConstants.{MOST_BYTES};
 
 use crate::test_identifiers::identifiers;
 use std::alloc::Global;
@@ -15,7 +16,7 @@ fn has_departures(rows: &[Vec<Departures>], second: &[Departures]) -> bool {
 
 // Whether the rows of a file are the departures of the second of two trips.
 fn gives(alloc: Global, bytes: &[u8], second: &[Departures]) -> Result<bool, FeedFault>
-    requires { length bytes.now ≤ 1073741824 }
+    requires { length bytes.now ≤ MOST_BYTES }
 {
     let trips = identifiers(alloc, &[b"T1", b"T2"])?;
     let rows = read_frequencies(alloc, bytes, &trips)?;

@@ -5,7 +5,7 @@ ghost use Rattle.std.specs.Prelude.{◌≤◌, length};
 use std::alloc::{AllocError, Global};
 use std::test::Fail;
 use table_files::{Locations, Place, read_locations};
-use table_records::{FeedFault, FileName, What};
+use table_records::{FeedFault, FileName, MOST_BYTES, What};
 use timetable::StopNo;
 
 // Whether a location stands for these stops.
@@ -31,7 +31,7 @@ fn has_six_places(places: &Locations) -> bool {
 
 // The locations of a file. They stand in a box, so that whoever holds them drops them in one step.
 fn places_of(alloc: Global, bytes: &[u8]) -> Result<Box<Locations>, Fail>
-    requires { length bytes.now ≤ 1073741824 }
+    requires { length bytes.now ≤ MOST_BYTES }
 {
     match read_locations(alloc, bytes) {
         Ok(places) => Ok(Box::new(alloc, places)?),
@@ -71,7 +71,7 @@ fn a_station_stands_for_its_stops(rt: HostRuntime) -> Result<(), Fail> {
 
 // The fault of a file, none where it has none.
 fn fault_of(alloc: Global, bytes: &[u8]) -> Option<FeedFault>
-    requires { length bytes.now ≤ 1073741824 }
+    requires { length bytes.now ≤ MOST_BYTES }
 {
     read_locations(alloc, bytes).err()
 }
@@ -89,7 +89,7 @@ fn stops_file(alloc: Global, stops: u32) -> Result<Vec<u8>, AllocError> {
 // The fault of a file of so many stops.
 fn fault_of_many(alloc: Global, stops: u32) -> Result<Option<FeedFault>, AllocError> {
     let bytes = stops_file(alloc, stops)?;
-    if bytes.len() > 1_073_741_824 {
+    if bytes.len() > MOST_BYTES {
         return Ok(None);
     }
     Ok(fault_of(alloc, &bytes))

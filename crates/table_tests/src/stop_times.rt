@@ -1,6 +1,7 @@
 //! `stop_times.txt`, read for the trips T1 and T2 at the stops A, B and C.
 
 ghost use Rattle.std.specs.Prelude.{◌≤◌, length};
+ghost use Rattle.table_records.specs.declared.limits.TheConstants.{MOST_BYTES};
 
 use crate::test_identifiers::identifiers;
 use std::alloc::Global;
@@ -13,7 +14,7 @@ use timetable::{Event, StopNo};
 const NINE: u32 = 32_400;
 
 fn read(alloc: Global, bytes: &[u8]) -> Result<StopTimes, FeedFault>
-    requires { length bytes.now ≤ 1073741824 }
+    requires { length bytes.now ≤ MOST_BYTES }
 {
     let trips = identifiers(alloc, &[b"T1", b"T2"])?;
     let stops = identifiers(alloc, &[b"A", b"B", b"C"])?;
@@ -56,7 +57,7 @@ fn gives(
     second: &[Event],
     aside: u32,
 ) -> Result<bool, FeedFault>
-    requires { length bytes.now ≤ 1073741824 }
+    requires { length bytes.now ≤ MOST_BYTES }
 {
     let times = read(alloc, bytes)?;
     Ok(has_events(&times, first, second, aside))
@@ -64,14 +65,14 @@ fn gives(
 
 // The fault of a file, none where it has none.
 fn fault_of(alloc: Global, bytes: &[u8]) -> Option<FeedFault>
-    requires { length bytes.now ≤ 1073741824 }
+    requires { length bytes.now ≤ MOST_BYTES }
 {
     read(alloc, bytes).err()
 }
 
 // A file is refused for this fault.
 fn expect_fault(rt: &impl Abort, alloc: Global, bytes: &'static [u8], at: u64, what: What)
-    requires { length bytes.now ≤ 1073741824 }
+    requires { length bytes.now ≤ MOST_BYTES }
 {
     let fault = fault_of(alloc, bytes);
     assert_eq!(rt; fault, Some(FeedFault::at(FileName::StopTimes, at, what)));

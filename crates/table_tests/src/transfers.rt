@@ -1,6 +1,7 @@
 //! The walks of `transfers.txt`.
 
 ghost use Rattle.std.specs.Prelude.{◌≤◌, length};
+ghost use Rattle.table_records.specs.declared.limits.TheConstants.{MOST_BYTES};
 
 use std::alloc::Global;
 use std::test::Fail;
@@ -27,7 +28,7 @@ fn has_links(transfers: &Transfers, links: &[Link], unused: u32) -> bool {
 
 // Whether a file gives these walks, and so many of its rows give none.
 fn gives(alloc: Global, bytes: &[u8], links: &[Link], unused: u32) -> Result<bool, FeedFault>
-    requires { length bytes.now ≤ 1073741824 }
+    requires { length bytes.now ≤ MOST_BYTES }
 {
     let Some(places) = some_places(alloc) else {
         return Ok(false);

@@ -4,7 +4,7 @@ use Rattle.std.specs.Str.{bytes_eq}
 use Rattle.table_records.proofs.CheckFacts.{also, both, by_check, by_limit, by_others, only}
 use Rattle.table_files.specs.StopTimes.{is_wrong, of_trip, row_of, sequence_of, stop_times_of, trip_of}
 use Rattle.table_files.specs.TripTimes.{has_number}
-use Rattle.table_files.proofs.time_checks.stop_time_checks.Goals as goal
+use Rattle.table_files.proofs.stop_times.stop_time_checks.Goals as goal
 
 pub returns-clause-explains : goal.returns-clause-explains
 returns-clause-explains c trips stops before header fields =
