@@ -1,9 +1,9 @@
 -- The trips of stop_times.txt are those of trips.txt.
 use Rattle.std.proofs.Common.{◌≡◌, ◌+◌, ◌∙◌, ℕ, List, [], ◌∷◌, length, arith, refl}
 use Rattle.std.proofs.lemmas.List.{length-map}
-use Rattle.table_files.specs.StopTimes.{TimeRow, sorted_from, sorted_trips, stop_times_of, trip_events}
-use Rattle.table_files.specs.WholeTrips.{events_of}
-use Rattle.table_files.specs.declared.trip_times.StopTime.{StopTime}
+use Rattle.trip_events.specs.StopTimes.{TimeRow, sorted_from, sorted_trips, stop_times_of, trip_events}
+use Rattle.trip_events.specs.WholeTrips.{events_of}
+use Rattle.trip_events.specs.declared.trip_times.StopTime.{StopTime}
 
 sorted_length : (trip_times : List (ℕ × StopTime)) (t : ℕ) (ids : List (List ℕ)) → length (sorted_from trip_times t ids) ≡ length ids
 sorted_length trip_times t [] = refl

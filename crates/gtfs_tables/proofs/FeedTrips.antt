@@ -8,7 +8,7 @@ use Rattle.std.specs.declared.vec.Vec.{Vec}
 use Rattle.std.specs.declared.alloc.Global.{Global}
 use Rattle.table_files.proofs.FrequencyFacts.{all_listed}
 use Rattle.table_files.specs.Frequencies.{FrequencyRow, departures_at, departures_by_trip, departures_from, of_trip}
-use Rattle.table_files.specs.Services.{number_in}
+use Rattle.table_records.specs.Identifiers.{number_in}
 use Rattle.table_files.specs.declared.feed_trips.TripNumbers.{TripNumbers}
 use Rattle.table_files.specs.declared.frequencies.Departures.{Departures}
 use Rattle.timetable.specs.declared.trips.Event.{Event}

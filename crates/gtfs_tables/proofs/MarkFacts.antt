@@ -13,9 +13,9 @@ use Rattle.table_records.specs.Faults.{IsFirst, Tells, when}
 use Rattle.table_records.specs.declared.fault.FileName.{FileName}
 use Rattle.table_records.specs.declared.fault.What.{What}
 use Rattle.table_records.specs.declared.fault.What.TheVariants as what
-use Rattle.table_files.specs.Services.{number_in}
+use Rattle.table_records.specs.Identifiers.{number_in}
 use Rattle.gtfs_tables.specs.NamedStops.{AreMarked, stop_checks}
-use Rattle.table_files.proofs.TimeFacts.{found_below}
+use Rattle.trip_events.proofs.TimeFacts.{found_below}
 use Rattle.gtfs_tables.proofs.NoFaults.{none_both, passes}
 use Rattle.gtfs_tables.proofs.StopIds.{at_position}
 

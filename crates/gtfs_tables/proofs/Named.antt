@@ -6,7 +6,8 @@ use Rattle.std.proofs.lemmas.List.Folds.{list_any-append}
 use Rattle.std.specs.Prelude.{All, unwrap_or}
 use Rattle.std.specs.List.{IsDistinct, list_all, list_any}
 use Rattle.std.specs.Str.{bytes_eq}
-use Rattle.table_files.specs.Services.{named, number_in}
+use Rattle.table_records.specs.Identifiers.{number_in}
+use Rattle.table_files.specs.Services.{named}
 use Rattle.table_files.proofs.ServiceFacts.{all_listed, found, lost, number_old, same_text}
 use Rattle.table_files.proofs.NewIds.{distinct_push}
 

@@ -19,10 +19,10 @@ use Rattle.table_files.specs.Calendar as calendar
 use Rattle.table_files.specs.Days.{date_of}
 use Rattle.table_files.specs.FeedTrips as trips
 use Rattle.table_files.specs.Frequencies as frequencies
-use Rattle.table_files.specs.Services.{number_in}
+use Rattle.table_records.specs.Identifiers.{number_in}
 use Rattle.table_files.proofs.ServiceFacts.{found}
 use Rattle.table_files.proofs.NewIds.{distinct_push}
-use Rattle.table_files.proofs.TimeFacts.{time_small}
+use Rattle.trip_events.proofs.TimeFacts.{time_small}
 use Rattle.gtfs_tables.specs.Feed.{IsDeparting}
 
 pub none_both : {X : Type 0} (xs ys : List X) → xs ++ ys ≡ [] → (xs ≡ []) × (ys ≡ [])

@@ -6,7 +6,7 @@ use Rattle.std.proofs.lemmas.List.FromFn.{get_or-map-range_with_len, length-map-
 use Rattle.std.specs.Prelude.{All, is_none}
 use Rattle.std.specs.List.{range_with_len}
 use Rattle.std.specs.Str.{bytes_eq}
-use Rattle.table_files.specs.Services.{number_in}
+use Rattle.table_records.specs.Identifiers.{number_in}
 use Rattle.timetable.specs.declared.trips.StopNo.{StopNo}
 use Rattle.gtfs_tables.specs.NamedStops.{AreMarked}
 use Rattle.gtfs_tables.specs.Origins.{AreOrigins, OriginRow, origin_of, stops_named}

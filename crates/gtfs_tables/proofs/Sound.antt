@@ -16,10 +16,11 @@ use Rattle.table_files.specs.Frequencies.{departures_at, frequency_faults, frequ
 use Rattle.table_files.specs.Children.{IsPlace}
 use Rattle.table_files.specs.Locations.{AreLocations, LocationData}
 use Rattle.table_files.specs.Routes.{route_faults, route_ids}
-use Rattle.table_files.specs.Services.{named, number_in}
-use Rattle.table_files.specs.StopTimes.{time_rows}
+use Rattle.table_records.specs.Identifiers.{number_in}
+use Rattle.table_files.specs.Services.{named}
+use Rattle.trip_events.specs.StopTimes.{time_rows}
 use Rattle.table_files.specs.Transfers.{IsLink}
-use Rattle.table_files.specs.WholeTrips.{AreEvents}
+use Rattle.trip_events.specs.WholeTrips.{AreEvents}
 use Rattle.table_files.specs.declared.calendar.Calendar.{Calendar}
 use Rattle.table_files.specs.declared.calendar_dates.CalendarDates.{CalendarDates}
 use Rattle.table_files.specs.declared.feed_trips.FeedTrips.{FeedTrips}

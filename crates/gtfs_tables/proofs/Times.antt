@@ -4,8 +4,8 @@ use Rattle.std.specs.declared.result.Result.{Result}
 use Rattle.table_records.specs.Faults.{Tells}
 use Rattle.table_records.specs.declared.fault.FeedFault.{FeedFault}
 use Rattle.table_records.specs.declared.fault.FileName.TheVariants.{StopTimes}
-use Rattle.table_files.specs.StopTimes.{time_faults, time_rows, trip_events, trips_aside}
-use Rattle.table_files.specs.declared.whole_trips.StopTimes as whole
+use Rattle.trip_events.specs.StopTimes.{time_faults, time_rows, trip_events, trips_aside}
+use Rattle.trip_events.specs.declared.whole_trips.StopTimes as whole
 use Rattle.gtfs_tables.specs.Files.{required, rows_in}
 
 module _ (trips ids stops names : List (List ℕ)) (file : Option (List ℕ)) (bytes : List ℕ) (same_trips : trips ≡ ids) (same_stops : stops ≡ names) (is : file ≡ Some bytes) where

@@ -16,7 +16,7 @@ use Rattle.table_files.specs.Calendar as calendar
 use Rattle.table_files.specs.CalendarDates as dates
 use Rattle.table_files.specs.FeedTrips as trips
 use Rattle.table_files.specs.Frequencies.{departures_by_trip, frequency_faults, frequency_rows}
-use Rattle.table_files.specs.StopTimes.{time_faults, time_rows, trip_events, trips_aside}
+use Rattle.trip_events.specs.StopTimes.{time_faults, time_rows, trip_events, trips_aside}
 use Rattle.table_files.specs.declared.feed_trips.TripNumbers.{TripNumbers}
 use Rattle.table_files.specs.declared.frequencies.Departures.{Departures}
 use Rattle.table_files.specs.declared.transfers.Link.{Link}

@@ -6,7 +6,7 @@ use Rattle.table_records.specs.Fields.{is_empty}
 use Rattle.table_records.specs.Faults.{when}
 use Rattle.table_records.specs.declared.fault.What.{What}
 use Rattle.table_records.specs.declared.fault.What.TheVariants as what
-use Rattle.table_files.specs.Services.{number_in}
+use Rattle.table_records.specs.Identifiers.{number_in}
 
 -- what is wrong with a record's stop, in the order of the checks: no identifier, no stop's, or one that was named before
 abbrev pub stop_checks : List (List ℕ) → List (List ℕ) → List ℕ → List What

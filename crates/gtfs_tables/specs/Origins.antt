@@ -7,7 +7,7 @@ use Rattle.table_records.specs.Table.{records_of}
 use Rattle.table_records.specs.declared.fault.FeedFault.{FeedFault}
 use Rattle.table_records.specs.declared.fault.FileName.TheVariants as file
 use Rattle.table_records.specs.declared.fault.What.{What}
-use Rattle.table_files.specs.Services.{number_in}
+use Rattle.table_records.specs.Identifiers.{number_in}
 use Rattle.timetable.specs.declared.trips.StopNo.{StopNo}
 use Rattle.gtfs_tables.specs.Feed.{FeedData}
 use Rattle.gtfs_tables.specs.Files.{Bytes, optional}

@@ -14,7 +14,7 @@
 //!
 //! `specs/Files` says what the files state and which fault comes first, `specs/Feed` what is true of every feed.
 //! `specs/Origins` and `specs/Opportunities` say the same of their files.
-//! How the single files are read is in the crate `table_files`, and how their fields are in `table_records`.
+//! How the single files are read is in the crates `table_files` and `trip_events`, and how their fields are in `table_records`.
 #![tactic(auto)]
 
 mod catalog;
@@ -34,9 +34,10 @@ pub use read::read_feed;
 pub use table_files::{
     CalendarRow, Departures, Ends, ExceptionRow, Link, Place, calendar_checks,
     calendar_date_checks, feed_trip_checks, frequency_checks, location_checks, route_checks,
-    stop_time_checks, transfer_checks,
+    transfer_checks,
 };
 pub use table_records::{
     Check, Checks, FeedFault, FileName, MOST_BYTES, Rule, What, read_date, read_time,
 };
 pub use trip::{DepartureList, FeedTrip, TripId};
+pub use trip_events::stop_time_checks;

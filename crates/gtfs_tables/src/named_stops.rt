@@ -2,7 +2,7 @@
 
 ghost use Rattle.std.specs.Prelude.{◌≡◌, ◌<◌, ◌∷◌, ◌++◌, [], ℕ, List, false, length, replicate, IfOk, IfErr};
 ghost use Rattle.table_records.specs.Faults.{IsFirst};
-ghost use Rattle.table_files.specs.Services.{number_in};
+ghost use Rattle.table_records.specs.Identifiers.{number_in};
 ghost use Rattle.gtfs_tables.specs.NamedStops.{AreMarked, stop_checks};
 
 use crate::feed::Feed;

@@ -5,7 +5,7 @@ ghost use Rattle.std.specs.Prelude.{◌≡◌, ◌≤◌, ◌++◌, [], All, len
 ghost use Rattle.timetable.specs.declared.limits.TheConstants.{MOST_STOPS, MOST_TRIPS};
 ghost use Rattle.table_records.specs.Faults.{Tells};
 ghost use Rattle.table_files.specs.Transfers.{IsLink};
-ghost use Rattle.table_files.specs.WholeTrips.{AreEvents};
+ghost use Rattle.trip_events.specs.WholeTrips.{AreEvents};
 ghost use Rattle.gtfs_tables.specs.Catalog.{IsCatalog};
 ghost use Rattle.gtfs_tables.specs.Files as spec;
 
@@ -15,11 +15,11 @@ use crate::feed_bytes::{FeedBytes, missing};
 use crate::trip::{DepartureList, FeedTrip, TripId};
 use std::alloc::{AllocError, Global};
 use table_files::{
-    Departures, FeedTrips, Locations, StopTimes, Transfers, no_departures, read_frequencies,
-    read_stop_times, read_transfers,
+    Departures, FeedTrips, Locations, Transfers, no_departures, read_frequencies, read_transfers,
 };
 use table_records::{FeedFault, FileName, Identifiers};
 use timetable::Events;
+use trip_events::{StopTimes, read_stop_times};
 
 /// What the files of a feed state, or the first fault among them: by file, then by record, then by check.
 ///

@@ -5,7 +5,8 @@ use Rattle.std.specs.Prelude.{unwrap_or}
 use Rattle.table_records.specs.Fields.{is_empty}
 use Rattle.table_files.specs.CalendarDates.{AreExceptions, DateRow, checks, data_of, shown}
 use Rattle.table_files.specs.Days.{adds_of, date_of, day_number}
-use Rattle.table_files.specs.Services.{named, number_in}
+use Rattle.table_records.specs.Identifiers.{number_in}
+use Rattle.table_files.specs.Services.{named}
 use Rattle.table_files.specs.declared.calendar_dates.CalendarDates.{CalendarDates}
 use Rattle.table_files.specs.declared.calendar_dates.ExceptionRow.{ExceptionRow}
 use Rattle.table_files.proofs.ServiceFacts.{named-append, values_stay_named}

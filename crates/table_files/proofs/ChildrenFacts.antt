@@ -11,7 +11,8 @@ use Rattle.std.proofs.lemmas.List.Elements.{All-cons, All-nil, filter-append}
 use Rattle.std.proofs.lemmas.List.Kept.{AllPairs-cons}
 use Rattle.std.proofs.lemmas.Option.{slice_get-get_or, slice_get-map}
 use Rattle.timetable.specs.declared.trips.StopNo.{StopNo}
-use Rattle.table_files.specs.Children.{AreChildren, Ascend, children_at, children_of, is_number}
+use Rattle.table_records.specs.Fields.{is_number}
+use Rattle.table_files.specs.Children.{AreChildren, Ascend, children_at, children_of}
 use Rattle.table_files.proofs.ServiceFacts.{found}
 
 -- a stop put after those of its station

@@ -6,7 +6,8 @@ use Rattle.std.specs.List.{list_any}
 use Rattle.std.specs.Str.{bytes_eq}
 use Rattle.table_records.specs.Fields.{is_empty}
 use Rattle.table_files.specs.FeedTrips.{AreTrips, TripRow, checks, numbers_of, trip_ids}
-use Rattle.table_files.specs.Services.{named, number_in}
+use Rattle.table_records.specs.Identifiers.{number_in}
+use Rattle.table_files.specs.Services.{named}
 use Rattle.table_files.specs.declared.feed_trips.FeedTrips.{FeedTrips}
 use Rattle.table_files.specs.declared.feed_trips.TripNumbers.{TripNumbers}
 use Rattle.table_files.proofs.ServiceFacts.{named-append, values_stay_named}

@@ -9,7 +9,7 @@ use Rattle.std.proofs.lemmas.List.Elements.{filter-append}
 use Rattle.table_records.specs.Fields.{is_empty, time_of}
 use Rattle.table_files.specs.declared.frequencies.Departures.{Departures}
 use Rattle.table_files.specs.Frequencies.{AreDepartures, FrequencyRow, checks, departures_at, departures_by_trip, departures_from, headway_of, of_trip}
-use Rattle.table_files.specs.Services.{number_in}
+use Rattle.table_records.specs.Identifiers.{number_in}
 
 -- lists that are all empty, with one more
 pub more_empty : {D : Type 0} (xs : List (Vec D Global)) (x : Vec D Global) → ((t : ℕ) (d : Vec D Global) → t < length xs → (get_or xs t d).items ≡ []) → x.items ≡ []

@@ -1,10 +1,4 @@
-pub mod FillFacts
-pub mod EventFacts
-pub mod OneOrder
-pub mod SortedFacts
-pub mod TripTimeFacts
 pub mod NewIds
-pub mod TimeFacts
 pub mod ServiceFacts
 pub mod CalendarFacts
 pub mod CalendarDateFacts
@@ -14,5 +8,4 @@ pub mod ChildrenFacts
 pub mod LocationFacts
 pub mod EndFacts
 pub mod TransferFacts
-pub mod RowFacts
 pub mod RuleFacts

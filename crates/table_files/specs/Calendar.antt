@@ -16,7 +16,7 @@ use Rattle.table_files.specs.declared.calendar.CalendarColumns.{CalendarColumns}
 use Rattle.table_files.specs.declared.calendar.CalendarRow.{CalendarRow}
 use Rattle.table_files.specs.Days.{date_of, day_number, flag_of}
 use Rattle.table_records.specs.Reading.{table_faults, table_rows}
-use Rattle.table_files.specs.Services.{number_in}
+use Rattle.table_records.specs.Identifiers.{number_in}
 
 -- what counts of a record; the days from Monday on
 pub record ServiceRow : Type 0 where

@@ -14,7 +14,8 @@ use Rattle.table_files.specs.declared.calendar_dates.ExceptionColumns.{Exception
 use Rattle.table_files.specs.declared.calendar_dates.ExceptionRow.{ExceptionRow}
 use Rattle.table_files.specs.Days.{adds_of, date_of, day_number}
 use Rattle.table_records.specs.Reading.{table_faults, table_rows}
-use Rattle.table_files.specs.Services.{named, number_in}
+use Rattle.table_records.specs.Identifiers.{number_in}
+use Rattle.table_files.specs.Services.{named}
 
 -- what counts of a record
 pub record DateRow : Type 0 where

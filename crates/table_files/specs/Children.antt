@@ -7,11 +7,6 @@ use Rattle.timetable.specs.declared.trips.StopNo.{StopNo}
 use Rattle.table_files.specs.declared.place.Place.{Place}
 use Rattle.table_files.specs.declared.place.Place.TheVariants.{Stop, Station, Other}
 
--- a number that is there, and is this one
-abbrev pub is_number : ℕ → Option ℕ → Bool
-is_number n None = false
-is_number n (Some m) = m == n
-
 -- the stops, by their parents in the order of their numbers, whose parent is the station with this number
 abbrev pub children_at : List (List ℕ) → List (List ℕ) → ℕ → List StopNo
 children_at stations parents station =

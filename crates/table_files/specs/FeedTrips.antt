@@ -16,7 +16,8 @@ use Rattle.table_files.specs.declared.feed_trips.FeedTrips.{FeedTrips}
 use Rattle.table_files.specs.declared.feed_trips.TripColumns.{TripColumns}
 use Rattle.table_files.specs.declared.feed_trips.TripNumbers.{TripNumbers}
 use Rattle.table_records.specs.Reading.{table_faults, table_rows}
-use Rattle.table_files.specs.Services.{named, number_in}
+use Rattle.table_records.specs.Identifiers.{number_in}
+use Rattle.table_files.specs.Services.{named}
 
 -- what counts of a record
 pub record TripRow : Type 0 where

@@ -15,7 +15,7 @@ use Rattle.table_records.specs.declared.fault.What.TheVariants as what
 use Rattle.table_files.specs.declared.frequencies.Departures.{Departures}
 use Rattle.table_files.specs.declared.frequencies.FrequencyColumns.{FrequencyColumns}
 use Rattle.table_records.specs.Reading.{table_faults, table_rows}
-use Rattle.table_files.specs.Services.{number_in}
+use Rattle.table_records.specs.Identifiers.{number_in}
 
 -- what counts of a record
 pub record FrequencyRow : Type 0 where

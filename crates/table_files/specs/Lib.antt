@@ -1,8 +1,3 @@
-pub mod Order
-pub mod TripTimes
-pub mod Fill
-pub mod StopTimes
-pub mod WholeTrips
 pub mod Routes
 pub mod Services
 pub mod Days

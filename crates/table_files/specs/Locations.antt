@@ -19,7 +19,8 @@ use Rattle.table_files.specs.declared.place.Place.{Place}
 use Rattle.table_files.specs.declared.place.Place.TheVariants.{Stop, Station, Other}
 use Rattle.table_files.specs.declared.locations.LocationColumns.{LocationColumns}
 use Rattle.table_files.specs.declared.locations.LocationList.{LocationList}
-use Rattle.table_files.specs.Children.{AreChildren, IsPlace, children_of, is_number}
+use Rattle.table_records.specs.Fields.{is_number}
+use Rattle.table_files.specs.Children.{AreChildren, IsPlace, children_of}
 
 -- the fields of a record that are read
 pub record LocationRecord : Type 0 where

@@ -1,5 +1,5 @@
 -- The services of a feed, numbered as they are first named.
-use Rattle.std.specs.Prelude.{ℕ, List, [], ◌∷◌, ◌++◌, position, unwrap_or, if◌then◌else◌}
+use Rattle.std.specs.Prelude.{ℕ, List, [], ◌∷◌, ◌++◌, if◌then◌else◌}
 use Rattle.std.specs.List.{list_any}
 use Rattle.std.specs.Str.{bytes_eq}
 
@@ -7,7 +7,3 @@ use Rattle.std.specs.Str.{bytes_eq}
 abbrev pub named : List (List ℕ) → List (List ℕ) → List (List ℕ)
 named known [] = known
 named known (id ∷ ids) = named (if list_any (bytes_eq id) known then known else known ++ id ∷ []) ids
-
--- the number of an identifier: how many were named before it
-abbrev pub number_in : List (List ℕ) → List ℕ → ℕ
-number_in ids id = unwrap_or (position (bytes_eq id) ids) 0

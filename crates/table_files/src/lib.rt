@@ -1,17 +1,15 @@
-//! The files of a feed, one module for each: what their records say, or the first fault among them.
-//! (GTFS Schedule reference: `stops.txt`, `routes.txt`, `calendar.txt`, `calendar_dates.txt`, `trips.txt`, `stop_times.txt`, `frequencies.txt`,
+//! The files of a feed but `stop_times.txt`, one module for each: what their records say, or the first fault among them.
+//! (GTFS Schedule reference: `stops.txt`, `routes.txt`, `calendar.txt`, `calendar_dates.txt`, `trips.txt`, `frequencies.txt`,
 //! `transfers.txt`.)
 //!
 //! - [`read_locations`] gives the stops, stations and other locations, and the stops of each station.
 //! - [`read_routes`] gives the identifiers of the routes, and [`read_feed_trips`] the trips with their routes and services.
 //! - [`read_calendar`] and [`read_calendar_dates`] give the days of the services.
-//! - [`read_stop_times`] gives the events of each trip, in the order in which the vehicle makes them, with the times that the file leaves open.
 //! - [`read_frequencies`] gives the departures of the trips that run at a headway.
 //! - [`read_transfers`] gives the walks between stops and stations.
 //!
-//! Beside the readers stand `children` and `ends` (the stops of a location), `trip_times` (the records of one
-//! trip, in order), `whole_trips` (what is checked once all records of a trip are known) and `fill` (the times of events that have none).
-//! `specs/` has one module per file, with its checks in their order.
+//! Beside the readers stand `children` and `ends` (the stops for which a location stands). `stop_times.txt` is read by
+//! `trip_events`. `specs/` has one module per file, with its checks in their order.
 #![tactic(auto)]
 
 mod calendar;
@@ -20,18 +18,12 @@ mod children;
 mod days;
 mod ends;
 mod feed_trips;
-mod fill;
 mod frequencies;
-mod likely;
 mod locations;
-mod order;
 mod place;
 mod routes;
 mod services;
-mod stop_times;
 mod transfers;
-mod trip_times;
-mod whole_trips;
 
 pub use calendar::{Calendar, CalendarRow, calendar_checks, read_calendar};
 pub use calendar_dates::{CalendarDates, ExceptionRow, calendar_date_checks, read_calendar_dates};
@@ -40,10 +32,6 @@ pub use ends::Ends;
 pub use feed_trips::{FeedTrips, TripNumbers, feed_trip_checks, read_feed_trips};
 pub use frequencies::{Departures, frequency_checks, no_departures, read_frequencies};
 pub use locations::{Locations, location_checks, read_locations};
-pub use order::one_order;
 pub use place::Place;
 pub use routes::{read_routes, route_checks};
-pub use stop_times::{read_stop_times, stop_time_checks};
 pub use transfers::{Link, Transfers, read_transfers, transfer_checks};
-pub use trip_times::{StopTime, Times};
-pub use whole_trips::StopTimes;

@@ -1,7 +1,8 @@
 //! The services of a feed, numbered as they are first named.
 
 ghost use Rattle.std.specs.Prelude.{◌≡◌, ◌≤◌, ◌+◌, ◌<◌, ◌^◌, ◌∷◌, [], length, IfOk};
-ghost use Rattle.table_files.specs.Services.{named, number_in};
+ghost use Rattle.table_records.specs.Identifiers.{number_in};
+ghost use Rattle.table_files.specs.Services.{named};
 
 use std::alloc::{AllocError, Global};
 use table_records::Identifiers;

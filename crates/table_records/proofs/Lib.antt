@@ -9,3 +9,4 @@ pub mod TableFacts
 pub mod Near
 pub mod PlainTimes
 pub mod CheckFacts
+pub mod RowFacts

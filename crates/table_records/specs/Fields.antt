@@ -45,6 +45,11 @@ abbrev pub number_of : List ℕ → Option ℕ
 number_of text =
     if not (is_empty text) && list_all is_digit text && nat_le (value_after 0 text) 4294967295 then Some (value_after 0 text) else None
 
+-- a number that is there, and is this one
+abbrev pub is_number : ℕ → Option ℕ → Bool
+is_number n None = false
+is_number n (Some m) = m == n
+
 -- two digits that write 00 to 59
 abbrev pub sixty : ℕ → ℕ → Option ℕ
 sixty a b = if nat_le 48 a && nat_le a 53 && is_digit b then Some (10 * (a - 48) + (b - 48)) else None

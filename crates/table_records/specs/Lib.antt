@@ -5,3 +5,4 @@ pub mod Columns
 pub mod Faults
 pub mod Reading
 pub mod Checks
+pub mod Identifiers

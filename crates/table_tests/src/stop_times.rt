@@ -7,9 +7,9 @@ use crate::test_identifiers::identifiers;
 use std::alloc::Global;
 use std::process::Abort;
 use std::test::Fail;
-use table_files::{StopTimes, read_stop_times};
 use table_records::{FeedFault, FileName, What};
 use timetable::{Event, StopNo};
+use trip_events::{StopTimes, read_stop_times};
 
 const NINE: u32 = 32_400;
 

@@ -4,7 +4,7 @@ use Rattle.std.proofs.lemmas.Result.{err_from_is_err_and}
 use Rattle.std.specs.declared.vec.Vec.{Vec}
 use Rattle.std.specs.declared.alloc.Global.{Global}
 use Rattle.table_files.specs.declared.frequencies.Departures.{Departures}
-use Rattle.table_files.specs.WholeTrips.{AreEvents}
+use Rattle.trip_events.specs.WholeTrips.{AreEvents}
 use Rattle.gtfs_tables.specs.Catalog.{IsCatalog}
 use Rattle.gtfs_tables.specs.Feed.{IsFeed}
 use Rattle.gtfs_tables.specs.FeedParts.{data_of}

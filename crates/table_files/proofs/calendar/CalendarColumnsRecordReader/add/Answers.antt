@@ -9,7 +9,7 @@ use Rattle.table_records.specs.declared.fault.What.TheVariants as what
 use Rattle.table_files.specs.Calendar.{ServiceRow, checks, days_of, row_at}
 use Rattle.table_files.specs.Days.{date_of, day_number}
 use Rattle.table_files.proofs.CalendarFacts.{calendar_more, date_is, no_fault}
-use Rattle.table_files.proofs.RowFacts.{is_old, tells_row}
+use Rattle.table_records.proofs.RowFacts.{is_old, tells_row}
 use Rattle.table_files.proofs.NewIds.{empty_length, is_new}
 use Rattle.table_files.proofs.calendar.CalendarColumnsRecordReader.add.Goals as goal
 

@@ -6,7 +6,7 @@ use Rattle.table_records.specs.declared.fault.What.TheVariants as what
 use Rattle.table_records.specs.Fields.{is_empty}
 use Rattle.table_files.specs.CalendarDates.{DateRow, checks, row_at}
 use Rattle.table_files.specs.Days.{adds_of, date_of, day_number}
-use Rattle.table_files.proofs.RowFacts.{tells_row}
+use Rattle.table_records.proofs.RowFacts.{tells_row}
 use Rattle.table_files.proofs.CalendarFacts.{date_is}
 use Rattle.table_files.proofs.CalendarDateFacts.{exceptions_more, no_fault}
 use Rattle.table_files.proofs.NewIds.{empty_length}

@@ -8,7 +8,7 @@ use Rattle.table_records.specs.declared.fault.What.TheVariants as what
 use Rattle.std.proofs.lemmas.Bool.{le-leb, lt-leb}
 use Rattle.table_records.specs.Fields.{is_empty}
 use Rattle.table_files.specs.FeedTrips.{TripRow, checks, row_at}
-use Rattle.table_files.proofs.RowFacts.{is_old, tells_row}
+use Rattle.table_records.proofs.RowFacts.{is_old, tells_row}
 use Rattle.table_files.proofs.FeedTripFacts.{no_fault, trips_more}
 use Rattle.table_files.proofs.NewIds.{empty_length, is_new}
 use Rattle.table_files.proofs.feed_trips.TripReaderRecordReader.add.Goals as goal

@@ -7,7 +7,7 @@ use Rattle.table_records.specs.declared.fault.What.TheVariants as what
 use Rattle.table_records.specs.Fields.{is_empty, time_of}
 use Rattle.table_files.specs.Frequencies.{FrequencyRow, checks, headway_of, row_at}
 use Rattle.table_files.specs.declared.frequencies.Departures.{Departures}
-use Rattle.table_files.proofs.RowFacts.{tells_row}
+use Rattle.table_records.proofs.RowFacts.{tells_row}
 use Rattle.table_files.proofs.FrequencyFacts.{departures_more, no_fault}
 use Rattle.table_files.proofs.ServiceFacts.{found}
 use Rattle.table_files.proofs.NewIds.{empty_length}

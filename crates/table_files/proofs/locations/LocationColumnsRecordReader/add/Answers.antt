@@ -8,7 +8,7 @@ use Rattle.table_records.specs.declared.fault.What.TheVariants as what
 use Rattle.std.proofs.lemmas.Bool.{le-leb, lt-leb}
 use Rattle.table_records.specs.Fields.{is_empty}
 use Rattle.table_files.specs.Locations.{LocationRecord, checks, kind_of, row_at}
-use Rattle.table_files.proofs.RowFacts.{is_old, tells_row}
+use Rattle.table_records.proofs.RowFacts.{is_old, tells_row}
 use Rattle.table_files.proofs.LocationFacts.{no_fault, locations_more}
 use Rattle.table_files.proofs.NewIds.{empty_length, is_new}
 use Rattle.table_files.proofs.locations.LocationColumnsRecordReader.add.Goals as goal

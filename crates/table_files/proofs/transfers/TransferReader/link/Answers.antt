@@ -7,7 +7,7 @@ use Rattle.table_records.specs.declared.fault.FileName.TheVariants as file
 use Rattle.table_records.specs.declared.fault.What.TheVariants as what
 use Rattle.table_files.specs.Locations.{location_named}
 use Rattle.table_files.specs.Transfers.{TransferRow, end_of, row_at, used_checks}
-use Rattle.table_files.proofs.RowFacts.{first_told}
+use Rattle.table_records.proofs.RowFacts.{first_told}
 use Rattle.table_files.proofs.transfers.TransferReader.link.Goals as goal
 
 pub returns-in_default-clause-fault : goal.returns-in_default-clause-fault

@@ -7,7 +7,7 @@ use Rattle.table_records.specs.declared.fault.What.{What}
 use Rattle.table_records.specs.declared.fault.What.TheVariants as what
 use Rattle.table_files.specs.Locations.{kind_of}
 use Rattle.table_files.specs.Transfers.{TransferRow, checks, is_used, row_at}
-use Rattle.table_files.proofs.RowFacts.{first_told}
+use Rattle.table_records.proofs.RowFacts.{first_told}
 use Rattle.table_files.proofs.TransferFacts.{change_by, checks_used, gives, skips, used_by}
 use Rattle.table_files.proofs.transfers.TransferReader.link_in.Goals as goal
 

@@ -1,8 +1,0 @@
-use Rattle.table_files.proofs.OneOrder.{keeps_all, one_order}
-use Rattle.table_files.proofs.order.one_order.Goals as goal
-
-pub returns-clause-keeps : goal.returns-clause-keeps
-returns-clause-keeps c = keeps_all
-
-pub returns-clause-one : goal.returns-clause-one
-returns-clause-one c = one_order

@@ -1,0 +1,5 @@
+pub mod Order
+pub mod TripTimes
+pub mod Fill
+pub mod StopTimes
+pub mod WholeTrips
