@@ -14,7 +14,7 @@ use Rattle.timetable.specs.Footpaths.{IsFoot}
 use Rattle.timetable.specs.Lines.{Line, LineTable, IsLine, AreLines, AreLinesOf}
 use Rattle.timetable.specs.LineViews.{rows_of_line, arrivals_in, IsAt, IsViewOf}
 use Rattle.timetable.specs.Journeys.{Whereabouts, Leg, Ride, Walk, Journey, Rides, rides, IsReached}
-use Rattle.timetable.proofs.Known.{event_stop, event_axis, event_stays, foot_short}
+use Rattle.timetable.proofs.Known.{event_stop, event_axis, event_stays, foot_in_range, foot_short}
 use Rattle.rounds.specs.Last.{Alights, AreLastRides, AreLast, AreLastFrom}
 use Rattle.rounds.specs.Rank.{IsOfRank}
 use Rattle.rounds.proofs.Lined.{rows_long, row_trip, trip_row}
@@ -33,6 +33,29 @@ last_of_rides n net ridden last ok size stays walks =
       walk = λ q p seconds time a foot.
           let low = ok.ride q time a in
           let long = walks q p seconds foot in
+          omega arith;
+    }
+
+-- nobody is anywhere after the axis' end and the longest walk
+pub last_of_axis : (n : Net) → IsNet n → (last : List ℕ) → length last ≡ n.stops → ((p : ℕ) → p < n.stops → END_OF_AXIS + MOST_FOOT_SECONDS ≤ slice_index last p) → AreLast n last
+last_of_axis n ok last size late =
+    let ends : (p time : ℕ) → Alights n.trips p time → time ≤ END_OF_AXIS = λ p time a. (
+    let made : IsEvent n.trips a.trip a.i a.off = (a.t, a.runs, a.ride.to) in
+    let stays = event_stays n ok a.trip a.i a.off made in
+    let axis = event_axis n ok a.trip a.i a.off made in
+    omega (arith, a.time_is)) in
+    record {
+      size = size;
+      ride = λ p time a.
+          let inside = event_stop n ok a.trip a.i a.off (a.t, a.runs, a.ride.to) in
+          let low = late p (omega (arith, a.stop)) in
+          let end = ends p time a in
+          omega arith;
+      walk = λ q p seconds time a foot.
+          let end = ends q time a in
+          let short = foot_short n.feet ok.feet q p seconds foot in
+          let there = foot_in_range n.feet ok.feet q p seconds foot in
+          let low = late p (omega (arith, there.0, ok.in_range.lists)) in
           omega arith;
     }
 

@@ -13,6 +13,7 @@ ghost use Rattle.rounds.specs.Table.{batches_of, label_of};
 ghost use Rattle.trip_lanes.specs.declared.lanes.TheConstants.{LANES};
 
 use crate::bounded::{Batch, clear_kept, run_bounded};
+use crate::last::fill_last_arrivals;
 use crate::query::Query;
 use crate::tables::Tables;
 use crate::unreached::leave_out_unreached;
@@ -118,8 +119,8 @@ fn write_batch<R: Row>(
     }
 }
 
-/// Whether labels tell all stops of a batch. If they don't, stops that no journey reaches are left out, and the others
-/// looked at again.
+/// Whether labels tell all stops of a batch. Where some are never, last arrivals are found; where these leave it open,
+/// stops that no journey reaches are left out, and the others looked at again.
 fn are_told_of_reached<R: Row>(
     alloc: Global,
     query: Query<'_>,
@@ -134,24 +135,27 @@ fn are_told_of_reached<R: Row>(
     requires last { AreLastFrom query.network.now query.origin.0 query.window.first query.rides last.old }
     requires few { (p : ℕ) → slice_index last.old p ≤ END_OF_AXIS + MOST_FOOT_SECONDS }
     ensures last { OnOk result (AreLastFrom query.entry.network.now query.entry.origin.0 query.entry.window.first query.entry.rides last.new) }
-    ensures falls { (p : ℕ) → slice_index last.new p ≤ slice_index last.old p }
+    ensures few { (p : ℕ) → slice_index last.new p ≤ END_OF_AXIS + MOST_FOOT_SECONDS }
     ensures told { IfOk result (λ told. IsTrue told → (l p : ℕ) → l < R.LANES → p < length tables.now.ready.items → slice_index (R.labels batch.departs) l ≢ R.NEVER → arrival (lane l (labels_in R.labels tables.now.ride.items)) (lane l (labels_in R.labels tables.now.ready.items)) p ≡ R.NEVER → slice_index last.new p < batch.base + R.NEVER) }
-    ensures early { ((p : ℕ) → p < length tables.now.ready.items → slice_index last.old p < batch.base + R.NEVER) → IfOk result (λ told. IsTrue told) }
+    ensures early { END_OF_AXIS + MOST_FOOT_SECONDS < batch.base + R.NEVER → IfOk result (λ told. IsTrue told) }
 {
     let ride = tables.ride.as_slice();
     let ready = tables.ready.as_slice();
     if are_told(ride, ready, batch.departs, batch.base, last) {
         return Ok(true);
     }
-    leave_out_unreached(alloc, query, beside, last)?;
+    fill_last_arrivals(alloc, query, last)?;
+    if !are_told(ride, ready, batch.departs, batch.base, last) {
+        leave_out_unreached(alloc, query, beside, last)?;
+    }
     Ok(are_told(ride, ready, batch.departs, batch.base, last))
 }
 
 /// Writes the least durations for each minute of a window, batch by batch from the last, each bounded by the one after
 /// it. Where labels can't tell all of them it gives up, and says so: what is written is then of no use.
 ///
-/// `last` says how late somebody may be at each stop; stops that no journey reaches may be left out of it, found by the
-/// tables `beside`. Out of memory for these is the only error.
+/// `last` bounds how late somebody may be at each stop. It is found, and stops that no journey reaches are left out of it,
+/// by the tables `beside`, only where labels need it. Out of memory there is the only error.
 pub(crate) fn run_window<R: Row>(
     alloc: Global,
     query: Query<'_>,
@@ -168,9 +172,9 @@ pub(crate) fn run_window<R: Row>(
     requires labels { length labels.old ≡ query.network.now.stops * batches_of query.window.minutes }
     ensures same { length labels.new ≡ length labels.old }
     ensures last { OnOk result (AreLastFrom query.entry.network.now query.entry.origin.0 query.entry.window.first query.entry.rides last.new) }
-    ensures falls { (p : ℕ) → slice_index last.new p ≤ slice_index last.old p }
+    ensures few { (p : ℕ) → slice_index last.new p ≤ END_OF_AXIS + MOST_FOOT_SECONDS }
     ensures told { IfOk result (λ told. IsTrue told → AreLabels query.entry.network.now query.entry.origin.0 query.entry.window query.entry.rides labels.new) }
-    ensures early { ((p : ℕ) → p < query.entry.network.now.stops → slice_index last.old p < R.NEVER) → IfOk result (λ told. IsTrue told) }
+    ensures early { END_OF_AXIS + MOST_FOOT_SECONDS < R.NEVER → IfOk result (λ told. IsTrue told) }
 {
     query.network.known();
     let lanes = R::LANES as u32;

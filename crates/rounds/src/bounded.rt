@@ -164,12 +164,11 @@ pub(crate) fn run_bounded<R: Row>(query: Query<'_>, batch: Batch<R>, tables: &mu
     let bound_ready = tables.bound_ready.as_mut_slice();
     let falls = tables.falls.as_mut_slice();
     let due = tables.due.as_mut_slice();
-    let feet = query.network.feet();
     clear(ride);
     clear(ready);
     set_out(ride, marked, query.origin.0 as usize, batch.departs);
     begin(ready, before, fallen, bound_ready, 0, base);
-    walk_marked(feet, ride, marked, ready, fallen);
+    walk_marked(query.network.feet(), ride, marked, ready, fallen);
     keep_both(bound_ride, bound_ready, ride, ready, 0, base);
     for k in 0..query.rides as usize {
         lower_to(ride, bound_ride, k + 1, base);
@@ -188,7 +187,7 @@ pub(crate) fn run_bounded<R: Row>(query: Query<'_>, batch: Batch<R>, tables: &mu
         };
         scan_lines(round, due, ride, marked);
         begin(ready, before, fallen, bound_ready, k + 1, base);
-        transfer_marked(feet, ride, marked, ready, fallen);
+        transfer_marked(query.network.feet(), ride, marked, ready, fallen);
         keep_both(bound_ride, bound_ready, ride, ready, k + 1, base);
     }
 }

@@ -1,5 +1,5 @@
 //! How late somebody may be at each stop, whatever the journey: by the last trip of each line, and by walks from there.
-ghost use Rattle.std.specs.Prelude.{◌≡◌, ℕ, ◌+◌, ◌<◌, ◌≤◌, IsTrue, length, slice_get, slice_index, Some, All};
+ghost use Rattle.std.specs.Prelude.{◌≡◌, ℕ, ◌+◌, ◌<◌, ◌≤◌, IsTrue, length, slice_get, slice_index, Some, All, OnOk};
 ghost use Rattle.timetable.specs.LineViews.{arrivals_in};
 ghost use Rattle.timetable.specs.Footpaths.{IsFoot};
 ghost use Rattle.timetable.specs.Lines.{AreLinesOf};
@@ -8,6 +8,7 @@ ghost use Rattle.timetable.specs.declared.views.Call.{Call as CallValue};
 ghost use Rattle.rounds.specs.Last.{AreLastFrom, AreLastRides};
 
 use crate::query::Query;
+use std::alloc::{AllocError, Global};
 use timetable::{Call, Feet, Lines, Network, StopNo, Times};
 
 /// Raises the number of a stop to a time.
@@ -40,15 +41,15 @@ fn note_line(calls: &[Call], times: &[Times], ridden: &mut [u32])
     }
 }
 
-/// Fills in after when no ride ends at a stop.
+/// Raises the number of each stop, so that no ride ends there after it.
 fn fill_ridden(network: &Network, lines: &Lines, ridden: &mut [u32])
     requires lines { AreLinesOf network.now.stops network.now.trips lines.now }
     requires ridden { length ridden.old ≡ network.now.stops }
+    requires few { (p : ℕ) → slice_index ridden.old p ≤ END_OF_AXIS }
     ensures last { AreLastRides network.now ridden.new }
     ensures few { (p : ℕ) → slice_index ridden.new p ≤ END_OF_AXIS }
 {
     network.known();
-    ridden.fill(0);
     for line in 0..lines.count() {
         note_line(
             lines.calls_of(line as u32),
@@ -91,15 +92,22 @@ fn fill_last(feet: &Feet, ridden: &[u32], last: &mut [u32])
     }
 }
 
-/// Fills in after when nobody whom a ride brought is at a stop; `ridden` is scratch.
-pub(crate) fn fill_last_arrivals(query: Query<'_>, ridden: &mut [u32], last: &mut [u32])
+/// Fills in after when nobody whom a ride brought is at a stop. Out of memory is the only error.
+pub(crate) fn fill_last_arrivals(
+    alloc: Global,
+    query: Query<'_>,
+    last: &mut [u32],
+) -> Result<(), AllocError>
     requires lines { AreLinesOf query.network.now.stops query.network.now.trips query.lines.now }
-    requires ridden { length ridden.old ≡ query.network.now.stops }
     requires last { length last.old ≡ query.network.now.stops }
-    ensures last { AreLastFrom query.entry.network.now query.entry.origin.0 query.entry.window.first query.entry.rides last.new }
+    requires few { (p : ℕ) → slice_index last.old p ≤ END_OF_AXIS + MOST_FOOT_SECONDS }
+    ensures last { OnOk result (AreLastFrom query.entry.network.now query.entry.origin.0 query.entry.window.first query.entry.rides last.new) }
     ensures few { (p : ℕ) → slice_index last.new p ≤ END_OF_AXIS + MOST_FOOT_SECONDS }
 {
     query.network.known();
+    let mut table = vec![in alloc; 0; query.network.stops() as usize]?;
+    let ridden = table.as_mut_slice();
     fill_ridden(query.network, query.lines, ridden);
     fill_last(query.network.feet(), ridden, last);
+    Ok(())
 }

@@ -10,13 +10,12 @@ ghost use Rattle.rounds.specs.Window.{Fits, AreDurations};
 
 use crate::batches::run_window;
 use crate::bounded::MOST_KEPT;
-use crate::last::fill_last_arrivals;
 use crate::query::Query;
 use crate::table::Durations;
-use crate::tables::{Tables, make_times};
+use crate::tables::Tables;
 use crate::window::{Window, labels_by_minute, longest};
 use std::alloc::{AllocError, Global};
-use timetable::{NEVER, Network, StopNo};
+use timetable::{END_OF_AXIS, MOST_FOOT_SECONDS, NEVER, Network, StopNo};
 use trip_lanes::{LANES, Lanes, Narrow, Row};
 
 /// After a search that narrow labels couldn't tell, how many go by wide ones at once.
@@ -28,19 +27,21 @@ const WIDE_AT_ONCE: u32 = 15;
 /// from before doesn't matter. One search serves any network, and the tables are made anew where its size is another.
 #[derive(Drop)]
 pub struct Search {
-    widths: Widths,
-    /// How late rides end at each stop, and how late somebody may be there by a walk.
-    ridden: Vec<u32>,
-    last: Vec<u32>,
+    /// Of labels that reach some eighteen hours.
+    narrow: Tables<Narrow>,
+    /// Of labels that reach as far as times go; they grow when the others don't do.
+    wide: Tables<Lanes>,
+    /// How many searches go by wide labels at once, since the narrow ones didn't do.
+    wide_left: u32,
 }
 
 impl Search {
     /// A search with empty tables.
     pub fn new(alloc: Global) -> Self {
         Search {
-            widths: Widths::new(alloc),
-            ridden: Vec::new(alloc),
-            last: Vec::new(alloc),
+            narrow: Tables::new(alloc),
+            wide: Tables::new(alloc),
+            wide_left: 0,
         }
     }
 
@@ -110,34 +111,10 @@ impl Search {
         let stops = query.network.stops() as usize;
         let batches = (query.window.minutes as usize + (LANES - 1)) / LANES;
         let mut labels = vec![in alloc; [NEVER; LANES]; stops * batches]?;
-        make_times(alloc, &mut self.ridden, stops)?;
-        make_times(alloc, &mut self.last, stops)?;
-        fill_last_arrivals(query, &mut self.ridden, &mut self.last);
-        self.widths
-            .write(alloc, query, most, &mut self.last, &mut labels)?;
+        // Nobody is at a stop later, whatever the network.
+        let mut last = vec![in alloc; END_OF_AXIS + MOST_FOOT_SECONDS; stops]?;
+        self.write(alloc, query, most, &mut last, &mut labels)?;
         Ok(labels)
-    }
-}
-
-/// The tables of both widths of labels.
-#[derive(Drop)]
-struct Widths {
-    /// Of labels that reach some eighteen hours.
-    narrow: Tables<Narrow>,
-    /// Of labels that reach as far as times go; they grow when the others don't do.
-    wide: Tables<Lanes>,
-    /// How many searches go by wide labels at once, since the narrow ones didn't do.
-    wide_left: u32,
-}
-
-impl Widths {
-    /// Empty tables.
-    fn new(alloc: Global) -> Self {
-        Widths {
-            narrow: Tables::new(alloc),
-            wide: Tables::new(alloc),
-            wide_left: 0,
-        }
     }
 
     /// Writes the least durations of a window: by narrow labels where these tell all, and else by wide ones.
@@ -198,7 +175,7 @@ fn by_narrow(
     requires few { (p : ℕ) → slice_index last.old p ≤ END_OF_AXIS + MOST_FOOT_SECONDS }
     requires labels { length labels.old ≡ query.network.now.stops * batches_of query.window.minutes }
     ensures last { OnOk result (AreLastFrom query.entry.network.now query.entry.origin.0 query.entry.window.first query.entry.rides last.new) }
-    ensures falls { (p : ℕ) → slice_index last.new p ≤ slice_index last.old p }
+    ensures few { (p : ℕ) → slice_index last.new p ≤ END_OF_AXIS + MOST_FOOT_SECONDS }
     ensures told { IfOk result (λ told. IsTrue told → AreLabels query.entry.network.now query.entry.origin.0 query.entry.window query.entry.rides labels.new) }
 {
     query.network.known();

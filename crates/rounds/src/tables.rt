@@ -107,12 +107,8 @@ fn make_marks(alloc: Global, table: &mut Vec<bool>, places: usize) -> Result<(),
     Ok(())
 }
 
-/// Makes a table of positions on lines, or of times, that is so long, unless it is.
-pub(crate) fn make_times(
-    alloc: Global,
-    table: &mut Vec<u32>,
-    places: usize,
-) -> Result<(), AllocError>
+/// Makes a table of positions on lines that is so long, unless it is.
+fn make_times(alloc: Global, table: &mut Vec<u32>, places: usize) -> Result<(), AllocError>
     ensures { OnOk result (length table.new.items ≡ places) }
 {
     if table.len() != places {

@@ -1,4 +1,4 @@
-use Rattle.std.proofs.Common.{◌≡◌, ◌≢◌, ℕ, ◌+◌, ◌<◌, inl, inr, ◌∙◌, sym, slice_index, arith}
+use Rattle.std.proofs.Common.{◌≡◌, ◌≢◌, ℕ, ◌<◌, inl, inr, ◌∙◌, sym, slice_index, arith}
 use Rattle.std.proofs.lemmas.Bool.{cases_lt, false≢true}
 use Rattle.rounds.proofs.BatchRows.{lower_arrival}
 use Rattle.rounds.proofs.batches.are_told.Goals.{else-not-is_near-via-then-not-is_near+else-not-is_reached, else-not-is_near-via-else-not-is_near}

@@ -45,7 +45,7 @@ loop-i-init g c =
       };
       labels = c.requires.labels;
       late = c.requires.last;
-      lower = λ p. omega arith;
+      few = c.requires.few;
       last = λ _. refl;
       next = λ batch e pos. absurd (omega arith);
       bounds = λ base k at few.
@@ -187,7 +187,7 @@ loop-i-preserved g c =
       tables = c.run_bounded.ensures.tables;
       labels = c.write_batch.ensures.same ∙ old.labels;
       late = c.in_ok-are_told_of_reached.ensures.last;
-      lower = λ p. let now = c.are_told_of_reached.ensures.falls p in let was = old.lower p in omega (arith, now, was);
+      few = c.are_told_of_reached.ensures.few;
       last = λ e. absurd (omega arith);
       next = λ b e pos. let f = of_batch b e in omega (arith, f, same);
       bounds = λ sooner k at few.

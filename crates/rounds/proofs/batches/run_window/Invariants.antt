@@ -1,5 +1,6 @@
 use Rattle.std.proofs.Common.{◌≡◌, ℕ, ◌+◌, ◌*◌, ◌<◌, ◌≤◌, length, slice_index}
 use Rattle.timetable.specs.declared.least.TheConstants.{NEVER}
+use Rattle.timetable.specs.declared.limits.TheConstants.{END_OF_AXIS, MOST_FOOT_SECONDS}
 use Rattle.timetable.specs.Least.{IsLeastOrNever}
 use Rattle.timetable.specs.Journeys.{IsDuration}
 use Rattle.trip_lanes.specs.Cut.{cut}
@@ -19,7 +20,7 @@ invariant-loop-i g v =
       tables : AreTablesFor v.query.network.now.stops v.query.lines.now v.tables;
       labels : length v.labels ≡ v.query.network.now.stops * batches_of v.query.window.minutes;
       late : AreLastFrom v.query.network.now v.query.origin.0 v.query.window.first v.query.rides v.last;
-      lower : (p : ℕ) → slice_index v.last p ≤ slice_index v.initial.last p;
+      few : (p : ℕ) → slice_index v.last p ≤ END_OF_AXIS + MOST_FOOT_SECONDS;
       last : v.i ≡ 0 → v.later ≡ NEVER;
       next : (batch : ℕ) → batch + v.i ≡ v.batches → 0 < v.i → v.later ≡ departure v.query.window (g.R.Row.LANES * batch);
       bounds : (base k : ℕ) → IsBaseTo g.R.Row.NEVER v.later base → k ≤ v.query.rides →

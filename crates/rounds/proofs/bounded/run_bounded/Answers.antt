@@ -1,4 +1,4 @@
-use Rattle.std.proofs.Common.{rules, ◌≡◌, ◌≢◌, ◌<◌, ◌≤◌, ◌+◌, inl, inr, ℕ, List, Bool, length, replicate, set, slice_index, slice_get, Some, true, ap, refl, sym, ◌∙◌, arith}
+use Rattle.std.proofs.Common.{rules, ◌≡◌, ◌≢◌, ◌<◌, ◌≤◌, ◌+◌, inl, inr, ℕ, List, Bool, length, replicate, slice_index, slice_get, Some, true, ap, refl, sym, ◌∙◌, arith}
 use Rattle.std.specs.Vec.{with_items}
 use Rattle.std.proofs.lemmas.Bool.{cases_lt}
 use Rattle.std.proofs.lemmas.List.{length-map, get_or_past, with_items_is}
@@ -8,7 +8,6 @@ use Rattle.timetable.specs.declared.least.TheConstants.{NEVER}
 use Rattle.trip_lanes.specs.Cut.{cut}
 use Rattle.trip_lanes.specs.Lane.{lane, labels_in, MarksFallenOf}
 use Rattle.trip_lanes.proofs.Carry.{lane_falls}
-use Rattle.trip_lanes.proofs.Lower.{set_get_to}
 use Rattle.trip_lanes.proofs.Marked.{unmarked_still}
 use Rattle.rounds.specs.Batches.{start_at, bounds_in}
 use Rattle.rounds.specs.Cut.{cut_net}
@@ -51,9 +50,9 @@ walk_marked-requires-clause-settled g c l x h within none =
     let later = start_at c.args.query (cut base never c.args.batch.later) in
     let start = rw (cleared never (length c.as_mut_slice-ready.result.now) n.stops l (rows c.clear-2.new.labels) (c.clear-2.ensures l h) (ap length c.as_mut_slice-ready.ensures.value ∙ c.requires.tables.ready)) at (c.begin.ensures.lanes l h) in
     let low = rw (cleared never (length c.as_mut_slice-ride.result.now) n.stops l (rows c.clear.new.labels) (c.clear.ensures l h) (ap length c.as_mut_slice-ride.ensures.value ∙ c.requires.tables.ride)) at (c.set_out.ensures.lanes l h) in
-    let there : x < n.stops = omega (arith, within, ap (λ (f : FeetData). length f.walks) c.feet-feet.ensures, c.known.ensures.in_range.lists) in
+    let there : x < n.stops = omega (arith, within, ap (λ (f : FeetData). length f.walks) c.feet.ensures, c.known.ensures.in_range.lists) in
     let other : x ≢ origin = λ e. none (ap (slice_get c.set_out.new.marked) e ∙ c.set_out.ensures.here) in
-    rw c.feet-feet.ensures (start_walks never (cut_net base never n) ok later origin (slice_index (g.R.Row.labels c.args.batch.departs) l) (lane l (rows c.set_out.new.ride)) (lane l (rows c.begin.new.labels)) (bounds_in base never 0 c.as_mut_slice-bound_ready.result.now) low start x there other)
+    rw c.feet.ensures (start_walks never (cut_net base never n) ok later origin (slice_index (g.R.Row.labels c.args.batch.departs) l) (lane l (rows c.set_out.new.ride)) (lane l (rows c.begin.new.labels)) (bounds_in base never 0 c.as_mut_slice-bound_ready.result.now) low start x there other)
 
 pub keep_both-requires-clause-ready_fits : goal.keep_both-requires-clause-ready_fits
 keep_both-requires-clause-ready_fits g c p =
@@ -85,7 +84,7 @@ loop-k-init g c =
     let lanes : (l : ℕ) → l < g.R.Row.LANES → LaneStateTo never cn (start_at c.args.query (slice_index departs l)) 0 (lane l (rows c.set_out.new.ride)) (lane l (rows c.walk_marked.new.ready)) = λ l h.
     bounded_start never cn ok (start_at c.args.query (slice_index departs l)) later c.requires.asked.origin refl (c.requires.batch.none_later l h) limit (lane l (rows c.set_out.new.ride)) (lane l (rows c.begin.new.labels)) (lane l (rows c.walk_marked.new.ready))
     (bounds_in base never 0 c.as_mut_slice-bound_ride.result.now) (bounds_in base never 0 c.as_mut_slice-bound_ready.result.now)
-    (bounds0 0 (omega arith)) (low l h) (start l h) (rw c.feet-feet.ensures at (c.walk_marked.ensures.lanes l h)) in
+    (bounds0 0 (omega arith)) (low l h) (start l h) (rw c.feet.ensures at (c.walk_marked.ensures.lanes l h)) in
     let begun : length c.begin.new.labels ≡ n.stops = c.begin.auto.labels ∙ (c.clear-2.auto.labels ∙ (ap length c.as_mut_slice-ready.ensures.value ∙ c.requires.tables.ready)) in
     record {
       rides = search rules;
@@ -144,11 +143,11 @@ transfer_marked-requires-clause-settled g c l x h within none =
     let bound = c.loop-k.invariant.bounds (k + 1) (omega arith) (omega arith) in
     let lowered = rows c.lower_to.new.labels in
     let ridden = rows c.scan_lines.new.ride in
-    let there : x < n.stops = omega (arith, within, ap (λ (f : FeetData). length f.walks) c.feet-feet.ensures, c.known.ensures.in_range.lists) in
+    let there : x < n.stops = omega (arith, within, ap (λ (f : FeetData). length f.walks) c.feet-in-loop-k.ensures, c.known.ensures.in_range.lists) in
     let falls = lane_falls (lane l lowered) (lane l ridden) (c.scan_lines.ensures.lanes l h) x in
     let marks_long : length c.fill.new.self ≡ n.stops = c.fill.ensures.len ∙ c.loop-k.invariant.marked in
     let still = unmarked_still lowered ridden c.fill.new.self c.scan_lines.new.marked x l c.scan_lines.ensures.marks (omega (arith, there, marks_long)) none h falls in
-    rw c.feet-feet.ensures (round_walks never (cut_net base never n) ok later o k (lane l (rows c.loop-k.ride)) (lane l (rows c.loop-k.ready)) (lane l lowered) (lane l ridden) (lane l (rows c.begin-in-loop-k.new.labels))
+    rw c.feet-in-loop-k.ensures (round_walks never (cut_net base never n) ok later o k (lane l (rows c.loop-k.ride)) (lane l (rows c.loop-k.ready)) (lane l lowered) (lane l ridden) (lane l (rows c.begin-in-loop-k.new.labels))
     (bounds_in base never (k + 1) c.loop-k.bound_ride) (bounds_in base never (k + 1) c.loop-k.bound_ready) (c.loop-k.invariant.lanes l h) bound (c.lower_to.ensures l h) (c.begin-in-loop-k.ensures.lanes l h) x there still)
 
 pub keep_both-requires-in-loop-k-clause-ride_fits : goal.keep_both-requires-in-loop-k-clause-ride_fits
@@ -185,7 +184,7 @@ loop-k-preserved g c =
     let bound = c.loop-k.invariant.bounds (k + 1) (omega arith) (omega arith) in
     let lanes : (l : ℕ) → l < g.R.Row.LANES → LaneStateTo never cn (start_at c.args.query (slice_index departs l)) (k + 1) (lane l (rows c.scan_lines.new.ride)) (lane l (rows c.transfer_marked.new.ready)) = λ l h.
     bounded_next never cn ok (start_at c.args.query (slice_index departs l)) later c.requires.asked.origin refl (c.requires.batch.none_later l h) limit k (lane l (rows c.loop-k.ride)) (lane l (rows c.loop-k.ready)) (lane l (rows c.lower_to.new.labels)) (lane l (rows c.scan_lines.new.ride)) (lane l (rows c.begin-in-loop-k.new.labels)) (lane l (rows c.transfer_marked.new.ready))
-    (bounds_in base never (k + 1) c.loop-k.bound_ride) (bounds_in base never (k + 1) c.loop-k.bound_ready) (c.loop-k.invariant.lanes l h) bound (c.lower_to.ensures l h) (rw c.trips.ensures at (c.scan_lines.ensures.lanes l h)) (c.begin-in-loop-k.ensures.lanes l h) (rw c.feet-feet.ensures at (c.transfer_marked.ensures.lanes l h)) in
+    (bounds_in base never (k + 1) c.loop-k.bound_ride) (bounds_in base never (k + 1) c.loop-k.bound_ready) (c.loop-k.invariant.lanes l h) bound (c.lower_to.ensures l h) (rw c.trips.ensures at (c.scan_lines.ensures.lanes l h)) (c.begin-in-loop-k.ensures.lanes l h) (rw c.feet-in-loop-k.ensures at (c.transfer_marked.ensures.lanes l h)) in
     let begun : length c.begin-in-loop-k.new.labels ≡ n.stops = c.begin-in-loop-k.auto.labels ∙ c.loop-k.invariant.readies in
     record {
       rides = search rules;

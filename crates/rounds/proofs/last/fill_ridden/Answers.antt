@@ -8,7 +8,7 @@ use Rattle.rounds.proofs.last.fill_ridden.Goals as goal
 pub note_line-requires-clause-stops : goal.note_line-requires-clause-stops
 note_line-requires-clause-stops c k d l =
     let there = calls_there c.args.network.now c.args.lines.now c.requires.lines c.loop-line.line c.calls_of.result.now c.times_of.result.now c.calls_of.ensures c.times_of.ensures c.known.ensures k d l in
-    omega (arith, there, c.requires.ridden, c.fill.ensures.len, c.loop-line.auto.ridden)
+    omega (arith, there, c.requires.ridden, c.loop-line.auto.ridden)
 
 pub note_line-requires-clause-size : goal.note_line-requires-clause-size
 note_line-requires-clause-size c = calls_fit c.args.network.now c.args.lines.now c.requires.lines c.loop-line.line c.calls_of.result.now c.times_of.result.now c.calls_of.ensures c.times_of.ensures
@@ -33,7 +33,7 @@ loop-line-preserved c =
 pub returns-clause-last : goal.returns-clause-last
 returns-clause-last c =
     let table = c.args.lines.now in
-    last_of_views c.args.network.now table c.requires.lines c.loop-line.ridden (c.loop-line.auto.ridden ∙ (c.fill.ensures.len ∙ c.requires.ridden))
+    last_of_views c.args.network.now table c.requires.lines c.loop-line.ridden (c.loop-line.auto.ridden ∙ c.requires.ridden)
     (λ i calls times first k call at_calls at_times ends at_k may.
     let within = slice_get_within table.calls i calls at_calls in
     let below : i < c.loop-line.line = omega (arith, c.requires.lines.viewed.calls_size, c.count-line-end.ensures, c.loop-line-test.false) in
