@@ -304,16 +304,34 @@ class CratesOfTests(WithStandIn):
         self.assertEqual(gate.counted(2, ["no answer"], gate.CLOSING_OF_TESTS), gate.Count(0, 1))
 
 
-class Chain(WithStandIn):
-    """The longest chain of crates, which a run of its own begins with."""
+class Apart(WithStandIn):
+    """Runs of some crates before that of all."""
 
-    def test_it_is_proved_alone_and_again_with_all_and_counts_once(self) -> None:
-        with mock.patch.object(gate, "CHAIN", "upper"), mock.patch.object(gate, "HEAD_START", 0.1):
-            status, said, _ = self.repository.gate()
+    def setUp(self) -> None:
+        super().setUp()
+        for changed in (mock.patch.object(gate, "CHAIN", "upper"), mock.patch.object(gate, "HEAD_START", 0.1)):
+            changed.start()
+            self.addCleanup(changed.stop)
+
+    def test_the_longest_chain_is_proved_alone_and_again_with_all_and_counts_once(self) -> None:
+        status, said, _ = self.repository.gate()
         self.assertEqual((status, said[-1]), (0, "5 passed, 0 failed"), said)
         self.assertIn("rt ci sees lower upper and lists lower upper ", said)
         self.assertIn("rt ci sees lower one two upper and lists lower upper one two ", said)
         self.assertEqual(said.count("rt ci sees 0 edits"), 2)
+
+    def test_a_program_that_is_proved_apart_counts_as_one_and_is_not_proved_with_all(self) -> None:
+        self.repository.write("crates.txt", "lower:\nupper: lower\none:\ntwo:\nlast: upper\n")
+        self.repository.write("crates/last/src/main.rt", LOWER)
+        self.repository.write("bench/hostile.py", "import sys\nprint(f'{len(sys.argv[2:])} passed, 0 failed')\n")
+        with mock.patch.object(gate, "APART", "last"):
+            said = self.repository.gate()[1]
+            self.assertEqual(said[-1], "7 passed, 0 failed", said)
+            self.assertIn("rt ci sees last lower upper and lists lower upper last ", said)
+            self.assertIn("rt ci sees lower one two upper and lists lower upper one two ", said)
+            self.stand_in(STAND_IN.replace("ci)\n", "ci)\n    [ -e crates/last ] && exit 2\n"))
+            status, said, _ = self.repository.gate()
+        self.assertEqual((status, said[-1]), (1, "4 passed, 1 failed"), said)
 
 
 class Time(WithStandIn):
