@@ -295,7 +295,9 @@ class CratesOfTests(WithStandIn):
         """The stand-in's proof waits for a file that the script makes; the script passes as often as it is nice."""
         waits = 'for _ in $(seq 200); do [ -e "$RT_LOG.made" ] || sleep 0.05; done; [ -e "$RT_LOG.made" ] || exit 1'
         self.stand_in(STAND_IN.replace("ci)\n", f"ci)\n    {waits}\n"))
-        script = "import os\nopen(os.environ['RT_LOG'] + '.made', 'w').close()\nprint(f'{os.nice(0)} passed, 0 failed')\n"
+        script = (
+            "import os\nopen(os.environ['RT_LOG'] + '.made', 'w').close()\nprint(f'{os.nice(0)} passed, 0 failed')\n"
+        )
         self.repository.write(".ci/names.py", script)
         nice = min(19, os.nice(0) + int(gate.NICENESS))
         self.assertEqual(self.repository.gate()[1][-1], f"{8 + nice} passed, 0 failed")
@@ -309,9 +311,9 @@ class Apart(WithStandIn):
 
     def setUp(self) -> None:
         super().setUp()
-        for changed in (mock.patch.object(gate, "CHAIN", "upper"), mock.patch.object(gate, "HEAD_START", 0.1)):
-            changed.start()
-            self.addCleanup(changed.stop)
+        changed = mock.patch.multiple(gate, CHAIN="upper", HEAD_START=0.1)
+        changed.start()
+        self.addCleanup(changed.stop)
 
     def test_the_longest_chain_is_proved_alone_and_again_with_all_and_counts_once(self) -> None:
         status, said, _ = self.repository.gate()
