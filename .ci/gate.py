@@ -6,8 +6,9 @@ beside the proofs of all others; `--all` proves these crates too. What else need
 proofs, too, on processors that these leave idle.
 
 `rt ci` gives a crate a second processor only where no other waits for one, and most crates wait for one chain of them.
-So a run of that chain alone begins a little before that of all crates, which takes over what it has proved; and so does
-a run of the program whose proof takes longest at the end, and which one script alone needs.
+So, where there are processors and memory for it, a run of that chain alone begins a little before that of all crates,
+which takes over what it has proved; and so does a run of the program whose proof takes longest at the end, and which
+one script alone needs.
 
 A crate's edits are tried where something that their refusal rests on changed since they were last refused: a file of
 the crate, a definition or contract of a crate below it, or the toolchain. Two more crates are tried each time, drawn by
@@ -43,6 +44,7 @@ USED = 0.98  # of a budget, until edits are cut off: the rest is for clearing aw
 SECONDS_OF_TESTS = 900  # that those of a crate may take together
 CHAIN = "scenarios"  # the last crate of the longest chain below the whole study
 APART = "growth_trials"  # a program that bench/hostile.py runs, and nothing waits for
+MANY = 4  # checks at once, from which on there are runs before that of all crates
 HEAD_START = 5.0  # seconds, in which a run begins its first proofs before the next one does
 NICENESS = "10"  # of what runs beside the proofs, which wait for one another and not for it
 CLOSING = re.compile(r"(\d+) passed, (\d+) failed(?:, (\d+) skipped)?")
@@ -174,7 +176,7 @@ def run_scripts(root: Path, rooms: dict[str, Path], apart: Future[Count]) -> Cou
     """
     made_at = output_of(root, "git", "log", "-1", "--format=%ct") or "0"
     environment = {"SOURCE_DATE_EPOCH": made_at, **os.environ}
-    trials = rooms["apart"] / f"crates/{APART}/out/{APART}"
+    trials = rooms[APART] / f"crates/{APART}/out/{APART}"
 
     def run_script(words: list[str]) -> Count:
         if str(trials) in words:
@@ -216,22 +218,23 @@ def prove_and_test(root: Path, rooms: dict[str, Path], tests: list[str]) -> Coun
     needs no program, run in another copy.
     """
     with ThreadPoolExecutor(3) as pool:
-        chain = pool.submit(prove_alone, rooms["chain"], CHAIN)
-        wait([chain], HEAD_START)
-        apart = pool.submit(prove_alone, rooms["apart"], APART)
-        wait([apart], HEAD_START)
+        alone = {}
+        for name in (CHAIN, APART) if jobs() >= MANY else ():
+            alone[name] = pool.submit(prove_alone, rooms[name], name)
+            wait([alone[name]], HEAD_START)
         beside = pool.submit(run_beside, rooms["tried"], tests)
         # rt ci would try edits one by one; scripts look for those that ASSURANCE names, so they come back
         others = [*tests, *(name for name in repository.crates_of(root) if name == APART)]
         with repository.set_aside(rooms["proved"], rooms["aside"], others):
             count = prove(rooms["proved"])
+        apart = alone.get(APART) or pool.submit(prove_alone, rooms[APART], APART)
         return count + run_scripts(root, rooms, apart) + apart.result() + beside.result()
 
 
 def gate(root: Path, all_of_them: bool, chosen: list[str], refusals: Refusals, clock: Clock) -> Count:
     """Proves, runs and tries all, and returns how many passed, failed and were skipped."""
     with tempfile.TemporaryDirectory(prefix="ttm-gate-") as made:
-        copies = ("proved", "chain", "apart", "tried")
+        copies = ("proved", "tried", CHAIN, APART)
         rooms = {name: Path(made) / name for name in (*copies, "aside")}
         for name in copies:
             rooms[name].mkdir()

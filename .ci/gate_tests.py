@@ -311,7 +311,7 @@ class Apart(WithStandIn):
 
     def setUp(self) -> None:
         super().setUp()
-        changed = mock.patch.multiple(gate, CHAIN="upper", HEAD_START=0.1)
+        changed = mock.patch.multiple(gate, CHAIN="upper", HEAD_START=0.1, jobs=lambda: 4)
         changed.start()
         self.addCleanup(changed.stop)
 
@@ -322,15 +322,22 @@ class Apart(WithStandIn):
         self.assertIn("rt ci sees lower one two upper and lists lower upper one two ", said)
         self.assertEqual(said.count("rt ci sees 0 edits"), 2)
 
+    def test_there_is_no_run_of_a_chain_where_few_checks_can_be_at_work(self) -> None:
+        with mock.patch.object(gate, "jobs", lambda: 3):
+            said = self.repository.gate()[1]
+        self.assertEqual((said[-1], said.count("rt ci sees 0 edits")), ("5 passed, 0 failed", 1), said)
+
     def test_a_program_that_is_proved_apart_counts_as_one_and_is_not_proved_with_all(self) -> None:
         self.repository.write("crates.txt", "lower:\nupper: lower\none:\ntwo:\nlast: upper\n")
         self.repository.write("crates/last/src/main.rt", LOWER)
         self.repository.write("bench/hostile.py", "import sys\nprint(f'{len(sys.argv[2:])} passed, 0 failed')\n")
         with mock.patch.object(gate, "APART", "last"):
-            said = self.repository.gate()[1]
-            self.assertEqual(said[-1], "7 passed, 0 failed", said)
-            self.assertIn("rt ci sees last lower upper and lists lower upper last ", said)
-            self.assertIn("rt ci sees lower one two upper and lists lower upper one two ", said)
+            for at_once in (4, 1):
+                with mock.patch.object(gate, "jobs", lambda: at_once):
+                    said = self.repository.gate("--all")[1]
+                self.assertEqual(said[-1], "7 passed, 0 failed", said)
+                self.assertIn("rt ci sees last lower upper and lists lower upper last ", said)
+                self.assertIn("rt ci sees lower one two upper and lists lower upper one two ", said)
             self.stand_in(STAND_IN.replace("ci)\n", "ci)\n    [ -e crates/last ] && exit 2\n"))
             status, said, _ = self.repository.gate()
         self.assertEqual((status, said[-1]), (1, "4 passed, 1 failed"), said)
