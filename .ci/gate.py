@@ -24,6 +24,7 @@ from __future__ import annotations
 import argparse
 import os
 import re
+import shutil
 import subprocess
 import sys
 import tempfile
@@ -45,6 +46,7 @@ SECONDS_OF_TESTS = 900  # that those of a crate may take together
 CHAIN = "scenarios"  # the last crate of the longest chain below the whole study
 APART = "growth_trials"  # a program that bench/hostile.py runs, and nothing waits for
 MANY = 4  # checks at once, from which on there are runs before that of all crates
+ROOM_FOR_PROOFS = 12_000_000_000  # bytes of the disk, so that what these prove is kept until that run takes it over
 HEAD_START = 5.0  # seconds, in which a run begins its first proofs before the next one does
 NICENESS = "10"  # of what runs beside the proofs, which wait for one another and not for it
 CLOSING = re.compile(r"(\d+) passed, (\d+) failed(?:, (\d+) skipped)?")
@@ -76,6 +78,14 @@ def jobs() -> int:
     free = re.search(r"MemAvailable:\s+(\d+)", Path("/proc/meminfo").read_text())
     memory = int(free[1]) if free else MEMORY_OF_A_CHECK
     return max(1, min(len(os.sched_getaffinity(0)), memory // MEMORY_OF_A_CHECK))
+
+
+def may_run_ahead(root: Path) -> bool:
+    """Whether some crates may be proved by runs before that of all: there are processors and memory, and `rt ci` keeps
+    what it proved, which it does beside the kit.
+    """
+    kept_in = Path(output_of(root, "rt", "doc")).parent.parent
+    return jobs() >= MANY and os.access(kept_in, os.W_OK) and shutil.disk_usage(kept_in).free >= ROOM_FOR_PROOFS
 
 
 def counted(status: int, lines: list[str], closing: re.Pattern[str] = CLOSING) -> Count:
@@ -219,7 +229,7 @@ def prove_and_test(root: Path, rooms: dict[str, Path], tests: list[str]) -> Coun
     """
     with ThreadPoolExecutor(3) as pool:
         alone = {}
-        for name in (CHAIN, APART) if jobs() >= MANY else ():
+        for name in (CHAIN, APART) if may_run_ahead(root) else ():
             alone[name] = pool.submit(prove_alone, rooms[name], name)
             wait([alone[name]], HEAD_START)
         beside = pool.submit(run_beside, rooms["tried"], tests)

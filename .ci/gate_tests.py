@@ -32,6 +32,7 @@ STAND_IN = """#!/bin/sh
 crate=$(basename "$PWD")
 case $1 in
 version) echo "kit of a test" ;;
+doc) echo "$RT_LOG.kit/page" ;;
 ci)
     echo "rt ci sees $(ls crates/*/must-fail/*.edit 2>/dev/null | wc -l) edits"
     echo "rt ci sees $(ls crates | tr '\\n' ' ')and lists $(cut -d: -f1 crates.txt | tr '\\n' ' ')"
@@ -311,7 +312,7 @@ class Apart(WithStandIn):
 
     def setUp(self) -> None:
         super().setUp()
-        changed = mock.patch.multiple(gate, CHAIN="upper", HEAD_START=0.1, jobs=lambda: 4)
+        changed = mock.patch.multiple(gate, CHAIN="upper", HEAD_START=0.1, ROOM_FOR_PROOFS=0, jobs=lambda: 4)
         changed.start()
         self.addCleanup(changed.stop)
 
@@ -322,10 +323,11 @@ class Apart(WithStandIn):
         self.assertIn("rt ci sees lower one two upper and lists lower upper one two ", said)
         self.assertEqual(said.count("rt ci sees 0 edits"), 2)
 
-    def test_there_is_no_run_of_a_chain_where_few_checks_can_be_at_work(self) -> None:
-        with mock.patch.object(gate, "jobs", lambda: 3):
-            said = self.repository.gate()[1]
-        self.assertEqual((said[-1], said.count("rt ci sees 0 edits")), ("5 passed, 0 failed", 1), said)
+    def test_the_chain_has_no_run_where_few_checks_can_be_at_work_or_no_proof_is_kept(self) -> None:
+        for checks, room in ((3, 0), (4, 1 << 60)):
+            with mock.patch.multiple(gate, jobs=lambda: checks, ROOM_FOR_PROOFS=room):
+                said = self.repository.gate("--all")[1]
+            self.assertEqual((said[-1], said.count("rt ci sees 0 edits")), ("5 passed, 0 failed", 1), said)
 
     def test_a_program_that_is_proved_apart_counts_as_one_and_is_not_proved_with_all(self) -> None:
         self.repository.write("crates.txt", "lower:\nupper: lower\none:\ntwo:\nlast: upper\n")
