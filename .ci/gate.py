@@ -6,7 +6,9 @@ beside the proofs of all others; `--all` proves these crates too. What else need
 proofs, too, on processors that these leave idle.
 
 `rt ci` gives a crate a second processor only where no other waits for one, and most crates wait for one chain of them.
-So a run of that chain alone begins a little before that of all crates, which takes over what it has proved.
+So, where there are processors and memory for it, a run of that chain alone begins a little before that of all crates,
+which takes over what it has proved; and so does a run of the program whose proof takes longest at the end, and which
+one script alone needs.
 
 A crate's edits are tried where something that their refusal rests on changed since they were last refused: a file of
 the crate, a definition or contract of a crate below it, or the toolchain. Two more crates are tried each time, drawn by
@@ -22,12 +24,13 @@ from __future__ import annotations
 import argparse
 import os
 import re
+import shutil
 import subprocess
 import sys
 import tempfile
 import time
 from collections.abc import Callable
-from concurrent.futures import ThreadPoolExecutor, wait
+from concurrent.futures import Future, ThreadPoolExecutor, wait
 from dataclasses import dataclass
 from pathlib import Path
 
@@ -41,7 +44,10 @@ MINUTES = 100
 USED = 0.98  # of a budget, until edits are cut off: the rest is for clearing away
 SECONDS_OF_TESTS = 900  # that those of a crate may take together
 CHAIN = "scenarios"  # the last crate of the longest chain below the whole study
-HEAD_START = 10.0  # seconds, in which the run of the chain begins its first proofs
+APART = "growth_trials"  # a program that bench/hostile.py runs, and nothing waits for
+MANY = 4  # checks at once, from which on there are runs before that of all crates
+ROOM_FOR_PROOFS = 12_000_000_000  # bytes of the disk, so that what these prove is kept until that run takes it over
+HEAD_START = 5.0  # seconds, in which a run begins its first proofs before the next one does
 NICENESS = "10"  # of what runs beside the proofs, which wait for one another and not for it
 CLOSING = re.compile(r"(\d+) passed, (\d+) failed(?:, (\d+) skipped)?")
 CLOSING_OF_TESTS = re.compile(r"test result: \w+\. (\d+) passed; (\d+) failed()\b.*")
@@ -72,6 +78,14 @@ def jobs() -> int:
     free = re.search(r"MemAvailable:\s+(\d+)", Path("/proc/meminfo").read_text())
     memory = int(free[1]) if free else MEMORY_OF_A_CHECK
     return max(1, min(len(os.sched_getaffinity(0)), memory // MEMORY_OF_A_CHECK))
+
+
+def may_run_ahead(root: Path) -> bool:
+    """Whether some crates may be proved by runs before that of all: there are processors and memory, and `rt ci` keeps
+    what it proved, which it does beside the kit.
+    """
+    kept_in = Path(output_of(root, "rt", "doc")).parent.parent
+    return jobs() >= MANY and os.access(kept_in, os.W_OK) and shutil.disk_usage(kept_in).free >= ROOM_FOR_PROOFS
 
 
 def counted(status: int, lines: list[str], closing: re.Pattern[str] = CLOSING) -> Count:
@@ -118,17 +132,17 @@ def scripts_beside(room: Path) -> list[list[str]]:
     return [it for it in every if (room / it[0]).is_file()]
 
 
-def scripts(room: Path) -> list[list[str]]:
-    """What is run on the built programs; the longest first."""
-    program, trials = str(room / "crates/ttm/out/ttm"), str(room / "crates/growth_trials/out/growth_trials")
+def scripts(room: Path, trials: Path) -> list[list[str]]:
+    """What is run on the built programs; the longest first, and last what waits for the one that is proved apart."""
+    program = str(room / "crates/ttm/out/ttm")
     every = [
         [".ci/tools_checks.py", program],
-        ["bench/hostile.py", program, trials],
         [".ci/packaging_checks.py", program],
         [".ci/size_runs.py", program],
         [".ci/random_feeds.py", program],
         [".ci/program_runs.py", program],
         [".ci/study_runs.py", program],
+        ["bench/hostile.py", program, str(trials)],
     ]
     return [it for it in every if (room / it[0]).is_file()]
 
@@ -166,18 +180,21 @@ def run_beside(room: Path, names: list[str]) -> Count:
     return count
 
 
-def run_scripts(root: Path, room: Path) -> Count:
-    """Runs the scripts on the programs of the copy, so many at once; what they make bears the commit's time, as the
+def run_scripts(root: Path, rooms: dict[str, Path], apart: Future[Count]) -> Count:
+    """Runs the scripts on the programs of the copies, so many at once; what they make bears the commit's time, as a
     copy is no clone.
     """
     made_at = output_of(root, "git", "log", "-1", "--format=%ct") or "0"
     environment = {"SOURCE_DATE_EPOCH": made_at, **os.environ}
+    trials = rooms[APART] / f"crates/{APART}/out/{APART}"
 
     def run_script(words: list[str]) -> Count:
-        return counted(*run_told(room, [sys.executable, *words], words[0], environment))
+        if str(trials) in words:
+            apart.result()
+        return counted(*run_told(rooms["proved"], [sys.executable, *words], words[0], environment))
 
     with ThreadPoolExecutor(jobs()) as pool:
-        return sum(pool.map(run_script, scripts(room)), Count())
+        return sum(pool.map(run_script, scripts(rooms["proved"], trials)), Count())
 
 
 def try_edits(room: Path, names: list[str], refusals: Refusals, clock: Clock) -> Count:
@@ -194,34 +211,42 @@ def try_edits(room: Path, names: list[str], refusals: Refusals, clock: Clock) ->
     return count
 
 
-def prove_chain(room: Path) -> None:
-    """Proves the longest chain of crates alone, and prints what came of it; what counts is what the run of all says."""
+def prove_alone(room: Path, name: str) -> Count:
+    """Proves a crate and those below it, which are all that this copy keeps, and prints what came of it. It counts as
+    one: what is below counts where all crates are proved.
+    """
     crates = repository.crates_of(room)
-    if CHAIN in crates:
-        repository.keep_alone(room, [CHAIN, *repository.below(crates, CHAIN)])
-        run_told(room, ["rt", "ci"], "rt ci of the longest chain", dict(os.environ))
+    if name not in crates:
+        return Count()
+    repository.keep_alone(room, [name, *repository.below(crates, name)])
+    count = counted(*run_told(room, ["rt", "ci"], f"rt ci of {name} and what is below", dict(os.environ)))
+    return Count(0 if count.failed else 1, count.failed)
 
 
 def prove_and_test(root: Path, rooms: dict[str, Path], tests: list[str]) -> Count:
     """Proves and runs all but crates of tests, and then the scripts on the programs; meanwhile their tests, and what
     needs no program, run in another copy.
     """
-    with ThreadPoolExecutor(2) as pool:
-        ahead = pool.submit(prove_chain, rooms["chain"])
-        wait([ahead], HEAD_START)
+    with ThreadPoolExecutor(3) as pool:
+        alone = {}
+        for name in (CHAIN, APART) if may_run_ahead(root) else ():
+            alone[name] = pool.submit(prove_alone, rooms[name], name)
+            wait([alone[name]], HEAD_START)
         beside = pool.submit(run_beside, rooms["tried"], tests)
         # rt ci would try edits one by one; scripts look for those that ASSURANCE names, so they come back
-        with repository.set_aside(rooms["proved"], rooms["aside"], tests):
+        others = [*tests, *(name for name in repository.crates_of(root) if name == APART)]
+        with repository.set_aside(rooms["proved"], rooms["aside"], others):
             count = prove(rooms["proved"])
-        ahead.result()
-        return count + run_scripts(root, rooms["proved"]) + beside.result()
+        apart = alone.get(APART) or pool.submit(prove_alone, rooms[APART], APART)
+        return count + run_scripts(root, rooms, apart) + apart.result() + beside.result()
 
 
 def gate(root: Path, all_of_them: bool, chosen: list[str], refusals: Refusals, clock: Clock) -> Count:
     """Proves, runs and tries all, and returns how many passed, failed and were skipped."""
     with tempfile.TemporaryDirectory(prefix="ttm-gate-") as made:
-        rooms = {name: Path(made) / name for name in ("proved", "chain", "tried", "aside")}
-        for name in ("proved", "chain", "tried"):
+        copies = ("proved", "tried", CHAIN, APART)
+        rooms = {name: Path(made) / name for name in (*copies, "aside")}
+        for name in copies:
             rooms[name].mkdir()
             repository.copy_files(root, rooms[name])
         tests = [] if all_of_them else repository.tests_of(repository.crates_of(root))

@@ -32,6 +32,7 @@ STAND_IN = """#!/bin/sh
 crate=$(basename "$PWD")
 case $1 in
 version) echo "kit of a test" ;;
+doc) echo "$RT_LOG.kit/page" ;;
 ci)
     echo "rt ci sees $(ls crates/*/must-fail/*.edit 2>/dev/null | wc -l) edits"
     echo "rt ci sees $(ls crates | tr '\\n' ' ')and lists $(cut -d: -f1 crates.txt | tr '\\n' ' ')"
@@ -295,7 +296,9 @@ class CratesOfTests(WithStandIn):
         """The stand-in's proof waits for a file that the script makes; the script passes as often as it is nice."""
         waits = 'for _ in $(seq 200); do [ -e "$RT_LOG.made" ] || sleep 0.05; done; [ -e "$RT_LOG.made" ] || exit 1'
         self.stand_in(STAND_IN.replace("ci)\n", f"ci)\n    {waits}\n"))
-        script = "import os\nopen(os.environ['RT_LOG'] + '.made', 'w').close()\nprint(f'{os.nice(0)} passed, 0 failed')\n"
+        script = (
+            "import os\nopen(os.environ['RT_LOG'] + '.made', 'w').close()\nprint(f'{os.nice(0)} passed, 0 failed')\n"
+        )
         self.repository.write(".ci/names.py", script)
         nice = min(19, os.nice(0) + int(gate.NICENESS))
         self.assertEqual(self.repository.gate()[1][-1], f"{8 + nice} passed, 0 failed")
@@ -304,16 +307,42 @@ class CratesOfTests(WithStandIn):
         self.assertEqual(gate.counted(2, ["no answer"], gate.CLOSING_OF_TESTS), gate.Count(0, 1))
 
 
-class Chain(WithStandIn):
-    """The longest chain of crates, which a run of its own begins with."""
+class Apart(WithStandIn):
+    """Runs of some crates before that of all."""
 
-    def test_it_is_proved_alone_and_again_with_all_and_counts_once(self) -> None:
-        with mock.patch.object(gate, "CHAIN", "upper"), mock.patch.object(gate, "HEAD_START", 0.1):
-            status, said, _ = self.repository.gate()
+    def setUp(self) -> None:
+        super().setUp()
+        changed = mock.patch.multiple(gate, CHAIN="upper", HEAD_START=0.1, ROOM_FOR_PROOFS=0, jobs=lambda: 4)
+        changed.start()
+        self.addCleanup(changed.stop)
+
+    def test_the_longest_chain_is_proved_alone_and_again_with_all_and_counts_once(self) -> None:
+        status, said, _ = self.repository.gate()
         self.assertEqual((status, said[-1]), (0, "5 passed, 0 failed"), said)
         self.assertIn("rt ci sees lower upper and lists lower upper ", said)
         self.assertIn("rt ci sees lower one two upper and lists lower upper one two ", said)
         self.assertEqual(said.count("rt ci sees 0 edits"), 2)
+
+    def test_the_chain_has_no_run_where_few_checks_can_be_at_work_or_no_proof_is_kept(self) -> None:
+        for checks, room in ((3, 0), (4, 1 << 60)):
+            with mock.patch.multiple(gate, jobs=lambda: checks, ROOM_FOR_PROOFS=room):
+                said = self.repository.gate("--all")[1]
+            self.assertEqual((said[-1], said.count("rt ci sees 0 edits")), ("5 passed, 0 failed", 1), said)
+
+    def test_a_program_that_is_proved_apart_counts_as_one_and_is_not_proved_with_all(self) -> None:
+        self.repository.write("crates.txt", "lower:\nupper: lower\none:\ntwo:\nlast: upper\n")
+        self.repository.write("crates/last/src/main.rt", LOWER)
+        self.repository.write("bench/hostile.py", "import sys\nprint(f'{len(sys.argv[2:])} passed, 0 failed')\n")
+        with mock.patch.object(gate, "APART", "last"):
+            for at_once in (4, 1):
+                with mock.patch.object(gate, "jobs", lambda: at_once):
+                    said = self.repository.gate("--all")[1]
+                self.assertEqual(said[-1], "7 passed, 0 failed", said)
+                self.assertIn("rt ci sees last lower upper and lists lower upper last ", said)
+                self.assertIn("rt ci sees lower one two upper and lists lower upper one two ", said)
+            self.stand_in(STAND_IN.replace("ci)\n", "ci)\n    [ -e crates/last ] && exit 2\n"))
+            status, said, _ = self.repository.gate()
+        self.assertEqual((status, said[-1]), (1, "4 passed, 1 failed"), said)
 
 
 class Time(WithStandIn):

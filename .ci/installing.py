@@ -24,13 +24,15 @@ def install(*groups: Sequence[str]) -> None:
     if not wanted or os.geteuid() != 0 or shutil.which("apt-get") is None:
         return
     environment = {**os.environ, "DEBIAN_FRONTEND": "noninteractive"}
-    calls = [["update", "-q"], *(["install", "-q", "-y", "--no-install-recommends", *it] for it in wanted)]
+    # what an earlier call left half done when its time was up makes later ones fail
+    calls = [["dpkg", "--configure", "-a"], ["apt-get", "update", "-q"]]
+    calls += [["apt-get", "install", "-q", "-y", "--no-install-recommends", *it] for it in wanted]
     with LOCK.open("w") as lock:
         fcntl.flock(lock, fcntl.LOCK_EX)
         end = time.monotonic() + SECONDS
         for words in calls:
             try:
                 left = max(1.0, end - time.monotonic())
-                subprocess.run(["apt-get", *words], env=environment, timeout=left, capture_output=True)
+                subprocess.run(words, env=environment, timeout=left, capture_output=True)
             except subprocess.TimeoutExpired:
-                print(f"apt-get {words[0]}: not done in {SECONDS} seconds", flush=True)
+                print(f"{' '.join(words[:2])}: not done in {SECONDS} seconds", flush=True)
