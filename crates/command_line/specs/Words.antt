@@ -22,7 +22,7 @@ use Rattle.studies.specs.declared.settings.Settings.{Settings}
 use Rattle.timetable.specs.declared.limits.TheConstants.{MOST_FOOT_SECONDS}
 use Rattle.work_book.specs.declared.limits.TheConstants.{MOST_TRIES}
 use Rattle.workers.specs.Study.{is_share}
-use Rattle.workers.specs.declared.study.TheConstants.{MOST_RIDES}
+use Rattle.rounds.specs.declared.window.TheConstants.{MOST_RIDES}
 use Rattle.command_line.specs.declared.option_text.OptionText.{OptionText}
 use Rattle.command_line.specs.declared.task.Opt.{Opt}
 use Rattle.command_line.specs.declared.task.Opt.TheVariants as opt

@@ -21,12 +21,13 @@ use crate::window::window_of;
 use clap::ArgMatches;
 use clap::error::ErrorKind;
 use jiff::civil::Date;
+use rounds::MOST_RIDES;
 use std::alloc::{AllocError, Global};
 use studies::{MOST_DAYS, MOST_WORKERS, Settings};
 use table_records::{number, read_date, trim};
 use timetable::MOST_FOOT_SECONDS;
 use work_book::MOST_TRIES;
-use workers::{MOST_RIDES, are_shares};
+use workers::are_shares;
 
 /// The study that the arguments ask for; the first is the program's name.
 ///

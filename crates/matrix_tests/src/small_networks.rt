@@ -1,6 +1,6 @@
 //! Small networks, and the least durations over them.
 
-use rounds::{Durations, Window, durations, one_minute};
+use rounds::{Durations, MOST_RIDES, Window, durations, one_minute};
 use std::alloc::{AllocError, Global};
 use timetable::{END_OF_AXIS, Event, Events, Feet, MOST_STOPS, NEVER, Network, StopNo, Trip};
 
@@ -187,6 +187,7 @@ pub(crate) fn of_window(
     if let Some(network) = network
         && origin < network.stops()
         && window.fits()
+        && rides <= MOST_RIDES
     {
         return Ok(Some(durations(alloc, network, StopNo(origin), window, rides)?));
     }

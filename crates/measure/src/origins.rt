@@ -4,7 +4,7 @@ ghost use Rattle.std.specs.Prelude.{◌<◌};
 use crate::asked::Asked;
 use crate::figures::micros;
 use crate::telling::{refuse, tell, tell_origin};
-use rounds::{Durations, durations};
+use rounds::{Durations, MOST_RIDES, durations};
 use std::io;
 use std::time::Instant;
 use timetable::{NEVER, Network, StopNo};
@@ -16,8 +16,8 @@ pub(crate) fn time_origins(
     network: &Network,
     origins: &[StopNo],
 ) -> io::Result<()> {
-    if !asked.window.fits() {
-        return refuse(rt, "the window is past its limits");
+    if !asked.window.fits() || asked.rides > MOST_RIDES {
+        return refuse(rt, "the window or the rides are past their limits");
     }
     let mut sum = 0;
     for (at, origin) in origins.iter().enumerate() {

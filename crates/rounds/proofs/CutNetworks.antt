@@ -121,6 +121,7 @@ module _ (base cap : ℕ) where
   cut_lines trips lines ok =
       record {
         few = omega (arith, ok.few, cut_trips_long trips);
+        short = λ k d l. let h = ok.short k d l in omega (arith, h, cut_trips_long trips);
         line = λ k d l. cut_line trips _ (ok.line k d l);
         all = λ trip l. ok.all trip (omega (arith, cut_trips_long trips));
       }

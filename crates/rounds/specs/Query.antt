@@ -4,12 +4,13 @@ use Rattle.timetable.specs.Lines.{LineTable, AreLinesOf}
 use Rattle.rounds.specs.declared.query.Query.{Query}
 use Rattle.rounds.specs.declared.tables.Tables.{Tables}
 use Rattle.rounds.specs.Window.{Fits}
+use Rattle.rounds.specs.declared.window.TheConstants.{MOST_RIDES}
 
--- a stop, a window and the lines of a network, and at most eight rides
+-- a stop, a window and the lines of a network, and so many rides
 pub record IsAsked (q : Query) : Type 0 where
   pub origin : q.origin.0 < q.network.now.stops
   pub fits : Fits q.window
-  pub rides : q.rides ≤ 8
+  pub rides : q.rides ≤ MOST_RIDES
   pub lines : AreLinesOf q.network.now.stops q.network.now.trips q.lines.now
 
 -- the tables have a place for each stop and line

@@ -16,10 +16,7 @@ use crate::tables::Tables;
 use timetable::NEVER;
 use trip_lanes::{Labels, Row, falls_of, lower_row, transfer_marked, walk_marked};
 
-/// The most rides for which labels are kept.
-pub(crate) const MOST_KEPT: u32 = 8;
-
-/// One time for each number of rides, in seconds on the axis, or `NEVER`.
+/// One time for each number of rides, none to `MOST_RIDES`, in seconds on the axis, or `NEVER`.
 pub(crate) type Kept = [u32; 9];
 
 /// Makes all bounds NEVER.

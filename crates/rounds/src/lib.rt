@@ -40,4 +40,4 @@ pub use laws::{
 pub use minutes::one_minute;
 pub use search::Search;
 pub use table::Durations;
-pub use window::{MOST_MINUTES, Window, durations, limits_are_as_stated};
+pub use window::{MOST_MINUTES, MOST_RIDES, Window, durations, limits_are_as_stated};

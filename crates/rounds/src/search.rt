@@ -7,13 +7,13 @@ ghost use Rattle.rounds.specs.Last.{AreLastFrom};
 ghost use Rattle.rounds.specs.Query.{IsAsked};
 ghost use Rattle.rounds.specs.Table.{batches_of};
 ghost use Rattle.rounds.specs.Window.{Fits, AreDurations};
+ghost use Rattle.rounds.specs.declared.window.TheConstants.{MOST_RIDES};
 
 use crate::batches::run_window;
-use crate::bounded::MOST_KEPT;
 use crate::query::Query;
 use crate::table::Durations;
 use crate::tables::Tables;
-use crate::window::{Window, labels_by_minute, longest};
+use crate::window::{Window, longest};
 use std::alloc::{AllocError, Global};
 use timetable::{END_OF_AXIS, MOST_FOOT_SECONDS, NEVER, Network, StopNo};
 use trip_lanes::{LANES, Lanes, Narrow, Row};
@@ -46,7 +46,7 @@ impl Search {
     }
 
     /// The least durations from `origin` to every stop, for each departure of the window and journeys of at most `rides`
-    /// rides, in seconds, waiting included.
+    /// rides, of which there may be 8, in seconds, waiting included.
     ///
     /// Out of memory is the only error.
     pub fn durations(
@@ -59,52 +59,24 @@ impl Search {
     ) -> Result<Durations, AllocError>
         requires origin { origin.0 < network.now.stops }
         requires fits { Fits window }
+        requires rides { rides ≤ MOST_RIDES }
         ensures { IfOk result (λ durations. AreDurations network.now origin.0 window rides durations) }
     {
         network.known();
-        let labels = self.labels_of(alloc, network, origin, window, rides)?;
-        Ok(Durations::new(network.stops(), window.minutes, labels))
-    }
-
-    /// The labels of a window: by batches as far as their bounds and their ranks go, and past that minute by minute.
-    fn labels_of(
-        &mut self,
-        alloc: Global,
-        network: &Network,
-        origin: StopNo,
-        window: Window,
-        rides: u32,
-    ) -> Result<Vec<Lanes>, AllocError>
-        requires origin { origin.0 < network.now.stops }
-        requires fits { Fits window }
-        ensures { IfOk result (λ labels. AreLabels network.now origin.0 window rides labels.items) }
-    {
-        network.known();
-        let lines = network.lines();
-        let most = longest(lines);
-        if rides > MOST_KEPT || !are_ranked::<Lanes>(most) {
-            return labels_by_minute(alloc, network, origin, window, rides);
-        }
         let query = Query {
             network,
-            lines,
+            lines: network.lines(),
             origin,
             window,
             rides,
         };
-        self.labels_by_batch(alloc, query, most)
+        let labels = self.labels_of(alloc, query)?;
+        Ok(Durations::new(network.stops(), window.minutes, labels))
     }
 
     /// The labels of a window, batch by batch: by narrow labels where these tell all, and else by wide ones.
-    fn labels_by_batch(
-        &mut self,
-        alloc: Global,
-        query: Query<'_>,
-        most: usize,
-    ) -> Result<Vec<Lanes>, AllocError>
-        requires asked { IsAsked query }
-        requires most { All (λ row. length row ≤ most) query.lines.now.lines }
-        requires short { All (λ row. length row ≤ NEVER_VALUE) query.lines.now.lines }
+    fn labels_of(&mut self, alloc: Global, query: Query<'_>) -> Result<Vec<Lanes>, AllocError>
+        requires { IsAsked query }
         ensures { IfOk result (λ labels. AreLabels query.entry.network.now query.entry.origin.0 query.entry.window query.entry.rides labels.items) }
     {
         query.network.known();
@@ -113,6 +85,7 @@ impl Search {
         let mut labels = vec![in alloc; [NEVER; LANES]; stops * batches]?;
         // Nobody is at a stop later, whatever the network.
         let mut last = vec![in alloc; END_OF_AXIS + MOST_FOOT_SECONDS; stops]?;
+        let most = longest(query.lines);
         self.write(alloc, query, most, &mut last, &mut labels)?;
         Ok(labels)
     }

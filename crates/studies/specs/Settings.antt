@@ -6,7 +6,7 @@ use Rattle.timetable.specs.declared.limits.TheConstants.{MOST_FOOT_SECONDS}
 use Rattle.timetable.specs.declared.trips.StopNo.{StopNo}
 use Rattle.work_book.specs.declared.limits.TheConstants.{MOST_TRIES}
 use Rattle.workers.specs.Study.{LimitsFit, Query, SharesFit}
-use Rattle.workers.specs.declared.study.TheConstants.{MOST_RIDES}
+use Rattle.rounds.specs.declared.window.TheConstants.{MOST_RIDES}
 use Rattle.studies.specs.declared.limits.TheConstants.{MOST_DAYS, MOST_WORKERS}
 
 -- settings as plain data

@@ -6,11 +6,11 @@ ghost use Rattle.studies.specs.Settings.{SettingsFit, query_of, window_of};
 use crate::limits::{MOST_DAYS, MOST_WORKERS};
 use footpaths::limit_fits;
 use jiff::civil::Date;
-use rounds::{MOST_MINUTES, Window};
+use rounds::{MOST_MINUTES, MOST_RIDES, Window};
 use std::marker::Model;
 use timetable::StopNo;
 use work_book::MOST_TRIES;
-use workers::{Asked, MOST_RIDES, limits_fit, shares_fit};
+use workers::{Asked, limits_fit, shares_fit};
 
 /// The seconds of a service day, on the axis of a study's times.
 const DAY: u32 = 86_400;

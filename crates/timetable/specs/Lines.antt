@@ -43,9 +43,10 @@ pub record IsLine (trips : List Trip) (line : Line) : Type 0 where
 abbrev pub IsInLine : List Line → ℕ → Type 0
 IsInLine lines trip = (line : ℕ) × IsIn lines line trip
 
--- the lines of these trips: each trip stands in one, and there are no more lines than trips
+-- the lines of these trips: each trip stands in one, and there are no more lines than trips, nor trips in a line
 pub record AreLines (trips : List Trip) (lines : List Line) : Type 0 where
   pub few : length lines ≤ length trips
+  pub short : All (λ line. length line ≤ length trips) lines
   pub line : All (IsLine trips) lines
   pub all : (trip : ℕ) → trip < length trips → IsInLine lines trip
 

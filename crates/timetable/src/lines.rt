@@ -164,6 +164,7 @@ fn add_trip(
     requires lines { All (IsLine trips.now) (lists_of lines.old.items) }
     requires trip { trip < length trips.now }
     ensures few { OnOk result (length lines.new.items ≤ length lines.old.items + 1) }
+    ensures short { OnOk result ((most : ℕ) → All (λ line. length line ≤ most) (lists_of lines.old.items) → All (λ line. length line ≤ most + 1) (lists_of lines.new.items)) }
     ensures lines { OnOk result (All (IsLine trips.now) (lists_of lines.new.items)) }
     ensures kept { OnOk result ((i : ℕ) → IsInLine (lists_of lines.old.items) i → IsInLine (lists_of lines.new.items) i) }
     ensures added { OnOk result (IsInLine (lists_of lines.new.items) trip) }

@@ -8,7 +8,8 @@ use Rattle.rounds.specs.declared.window.Window.{Window}
 use Rattle.rounds.specs.Window.{Fits}
 use Rattle.workers.specs.declared.study.Asked.{Asked}
 use Rattle.workers.specs.declared.study.Study.{Study}
-use Rattle.workers.specs.declared.study.TheConstants.{MOST_SCENARIOS, MOST_RIDES, MOST_SHARES, MOST_LIMITS}
+use Rattle.rounds.specs.declared.window.TheConstants.{MOST_RIDES}
+use Rattle.workers.specs.declared.study.TheConstants.{MOST_SCENARIOS, MOST_SHARES, MOST_LIMITS}
 
 -- what is asked of a network: the departures, the most rides, the shares of minutes, the limits of reach, and the destinations, whose
 -- cells a row has

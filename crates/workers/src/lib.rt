@@ -35,6 +35,6 @@ pub use laws::{
 pub use rows::row_of;
 pub use run::run_workers;
 pub use study::{
-    Asked, MOST_LIMITS, MOST_RIDES, MOST_SCENARIOS, MOST_SHARES, Study, are_rising, are_shares,
+    Asked, MOST_LIMITS, MOST_SCENARIOS, MOST_SHARES, Study, are_rising, are_shares,
     limits_are_as_stated, limits_fit, shares_fit,
 };

@@ -5,14 +5,11 @@ ghost use Rattle.std.specs.List.Sorted.{IsStrictlyIncreasing};
 ghost use Rattle.workers.specs.Study.{study_of, is_share, SharesFit, LimitsFit, StudyFits};
 ghost use Rattle.workers.specs.declared.study.TheConstants as limit;
 
-use rounds::Window;
+use rounds::{MOST_RIDES, Window};
 use timetable::{MOST_STOPS, Network, StopNo};
 
 /// The most scenarios of a study.
 pub const MOST_SCENARIOS: usize = 16;
-
-/// The most rides that a study may allow a journey.
-pub const MOST_RIDES: u32 = 8;
 
 /// The most shares of the minutes that a study may ask for.
 pub const MOST_SHARES: usize = 8;
@@ -23,7 +20,6 @@ pub const MOST_LIMITS: usize = 8;
 /// A law: the limits of a study in numbers.
 pub fn limits_are_as_stated()
     ensures scenarios { limit.MOST_SCENARIOS ≡ 16 }
-    ensures rides { limit.MOST_RIDES ≡ 8 }
     ensures shares { limit.MOST_SHARES ≡ 8 }
     ensures limits { limit.MOST_LIMITS ≡ 8 }
 {}

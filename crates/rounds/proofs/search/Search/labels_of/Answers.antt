@@ -1,8 +1,11 @@
-use Rattle.std.proofs.Common.{rules, ◌≡◌, ℕ, ◌+◌, List, length, replicate, slice_index, ap, ◌∙◌, arith}
+use Rattle.std.proofs.Common.{rules, ◌≡◌, ℕ, ◌+◌, ◌≤◌, List, length, replicate, slice_index, ap, ◌∙◌, arith}
 use Rattle.std.proofs.lemmas.List.{length-replicate, get_or-replicate}
 use Rattle.timetable.specs.declared.limits.TheConstants.{END_OF_AXIS, MOST_FOOT_SECONDS}
 use Rattle.rounds.proofs.LastArrivals.{last_of_axis, last_from}
-use Rattle.rounds.proofs.search.Search.labels_by_batch.Goals as goal
+use Rattle.rounds.proofs.search.Search.labels_of.Goals as goal
+
+pub write-requires-clause-short : goal.write-requires-clause-short
+write-requires-clause-short c k d l = let h = c.requires.lines.lines.short k d l in omega (arith, h, c.known.ensures.within.few)
 
 pub write-requires-clause-last : goal.write-requires-clause-last
 write-requires-clause-last c =
