@@ -2,9 +2,10 @@
 //!
 //! With words the program makes the study that they ask for; with none, a study of the small feed that it carries (`example`).
 //!
-//! - `program`: the whole way, from words to a printed matrix. `answers`: what is put out and told of a study, and its report.
-//! - `reading` reads the files that the words name from the `disk` into `study_files`; the crate `studies` makes the
-//!   matrix's text of them.
+//! - `program`: the whole way on a `host`, from words to a printed matrix. `answers`: what is put out and told of a study,
+//!   and its report.
+//! - `reading` reads the files that the words name from the `disk` into `study_files`, or answers why one is `unread`;
+//!   the crate `studies` makes the matrix's text of them.
 //!
 //! What the words ask for and which line tells a fault is the crate `command_line`'s.
 #![tactic(auto)]
@@ -12,9 +13,11 @@
 mod answers;
 mod disk;
 mod example;
+mod host;
 mod program;
 mod reading;
 mod study_files;
+mod unread;
 
 use crate::program::run;
 use std::process::ExitCode;
