@@ -47,7 +47,7 @@ no_memory = codes "out of memory"
 
 -- what is wrong with a record of a file
 abbrev pub at_record : List ℕ → ℕ → List ℕ → List ℕ
-at_record place at words = place ++ codes ": record " ++ decimal at ++ codes ": " ++ words
+at_record name at words = name ++ codes ": record " ++ decimal at ++ codes ": " ++ words
 
 -- ---- a fault of the feed's tables
 

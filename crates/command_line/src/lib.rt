@@ -5,6 +5,7 @@
 //! - `words`: [`task_of`] reads the arguments into a [`Task`], or tells why they ask for no study ([`WordFault`]);
 //!   [`text_of`] is the text that they give one option. `window`: [`window_of`], the departures that two times name.
 //!   `numbers`: [`numbers_of`], the numbers that a text lists.
+//! - `option_lines`: [`explain_option`] tells what is allowed of an option that is refused.
 //! - `paths`: the path of a file of the feed, and the name of a scenario. `files`: [`read_all`], a file read whole.
 //! - `lines`: the line and the exit status of each fault. `statuses`: the statuses in numbers. `telling` puts a line
 //!   out.
@@ -16,6 +17,7 @@
 mod files;
 mod lines;
 mod numbers;
+mod option_lines;
 mod option_text;
 mod options;
 mod paths;
@@ -29,6 +31,7 @@ mod words;
 pub use files::{ReadFault, read_all};
 pub use lines::{bad_line, fault_line, path_line, path_status, status};
 pub use numbers::{MOST_NUMBERS, lists_are_of_shares_or_limits, numbers_of};
+pub use option_lines::explain_option;
 pub use paths::{path_in, scenario_of};
 pub use statuses::{DONE, NO_ROOM, NOT_MOVED, REFUSED, UNFINISHED, statuses_are_as_stated};
 pub use task::{Opt, Task, WordFault};

@@ -84,7 +84,7 @@ pub fn path_line(alloc: Global, path: &str, fault: &ReadFault) -> Result<Vec<u8>
 {
     let rest = match fault {
         ReadFault::Memory => Vec::from_slice(alloc, OUT_OF_MEMORY)?,
-        fault => of_place(alloc, path.as_bytes(), fault.words())?,
+        fault => of_name(alloc, path.as_bytes(), fault.words())?,
     };
     whole(alloc, &rest)
 }
@@ -120,11 +120,11 @@ fn two(alloc: Global, first: &[u8], last: &[u8]) -> Result<Vec<u8>, AllocError>
     Ok(text)
 }
 
-/// What is wrong, behind where it is.
-fn of_place(alloc: Global, place: &[u8], words: &str) -> Result<Vec<u8>, AllocError>
-    ensures { IfOk result (λ text. text.items ≡ place.now ++ codes ": " ++ words.now) }
+/// What is wrong with a file or a scenario of a name.
+fn of_name(alloc: Global, name: &[u8], words: &str) -> Result<Vec<u8>, AllocError>
+    ensures { IfOk result (λ text. text.items ≡ name.now ++ codes ": " ++ words.now) }
 {
-    let mut text = two(alloc, place, b": ")?;
+    let mut text = two(alloc, name, b": ")?;
     text.extend_from_slice(words.as_bytes())?;
     Ok(text)
 }
@@ -170,10 +170,10 @@ fn scenario_name(files: &[NamedFile], k: u32) -> &[u8]
 }
 
 /// What is wrong with a record of a file.
-fn at_record(alloc: Global, place: &[u8], at: u64, words: &[u8]) -> Result<Vec<u8>, AllocError>
-    ensures { IfOk result (λ text. text.items ≡ spec.at_record place.now at words.now) }
+fn at_record(alloc: Global, file: &[u8], at: u64, words: &[u8]) -> Result<Vec<u8>, AllocError>
+    ensures { IfOk result (λ text. text.items ≡ spec.at_record file.now at words.now) }
 {
-    let mut text = Vec::from_slice(alloc, place)?;
+    let mut text = Vec::from_slice(alloc, file)?;
     text.extend_from_slice(b": record ")?;
     text.extend_from_slice(Buffer::new().format(at).as_bytes())?;
     text.extend_from_slice(b": ")?;
@@ -250,8 +250,8 @@ fn scenario_text(alloc: Global, name: &[u8], fault: ScenarioFault) -> Result<Vec
     match fault.what {
         ScenarioWhat::Memory => Vec::from_slice(alloc, OUT_OF_MEMORY),
         what => {
-            let place = two(alloc, b"scenario ", name)?;
-            at_record(alloc, &place, fault.at, edit_text(what))
+            let file = two(alloc, b"scenario ", name)?;
+            at_record(alloc, &file, fault.at, edit_text(what))
         }
     }
 }
@@ -279,8 +279,8 @@ fn net_text(alloc: Global, name: &[u8], fault: NetFault) -> Result<Vec<u8>, Allo
     match fault {
         NetFault::Memory => Vec::from_slice(alloc, OUT_OF_MEMORY),
         _ => {
-            let place = two(alloc, b"scenario ", name)?;
-            of_place(alloc, &place, NetFault::TooLarge.words())
+            let scenario = two(alloc, b"scenario ", name)?;
+            of_name(alloc, &scenario, NetFault::TooLarge.words())
         }
     }
 }

@@ -1,7 +1,7 @@
 //! Consoles that keep what is told on them.
 
 use crate::small_study::Asked;
-use reports::{Console, Memory};
+use console::{Console, Memory};
 use std::alloc::{AllocError, Global};
 use std::io;
 use std::io::ErrorKind;

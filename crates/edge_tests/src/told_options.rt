@@ -3,8 +3,7 @@
 use crate::pages::blank;
 use crate::small_study::MONDAY;
 use crate::words::{changed, with_more};
-use command_line::{WordFault, task_of};
-use reports::explain_option;
+use command_line::{WordFault, explain_option, task_of};
 use std::alloc::{AllocError, Global};
 use std::sync::Wait;
 

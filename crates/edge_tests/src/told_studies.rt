@@ -2,8 +2,9 @@
 
 use crate::pages::{Page, blank};
 use crate::small_study::{Asked, MONDAY, scenario_file, settings_of, small_inputs};
+use console::{Console, memory_of};
 use gtfs_tables::FeedBytes;
-use reports::{Console, Report, memory_of};
+use reports::Report;
 use std::alloc::Global;
 use std::process::Abort;
 use std::sync::Wait;

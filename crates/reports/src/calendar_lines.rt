@@ -1,7 +1,6 @@
 //! Which dates the calendars of a feed cover, and the nearest to a date on which a trip runs.
 
-use crate::console::Console;
-use crate::lines::tell_made;
+use console::{Console, tell_line};
 use gtfs_tables::{CalendarRow, ExceptionRow, Feed};
 use jiff::civil::Date;
 use service_days::{DayFault, active};
@@ -37,11 +36,11 @@ pub(crate) fn tell_calendar<C: Console>(console: &C, alloc: Global, feed: &Feed,
 
 /// Tells these dates, and the nearest of them before and after a date on which a trip runs.
 fn tell_dates<C: Console>(console: &C, alloc: Global, feed: &Feed, date: Date, dates: &Dates) {
-    tell_made(console, dates_line(alloc, dates));
+    tell_line(console, dates_line(alloc, dates));
     let before = date_before(alloc, feed, date, dates);
-    tell_made(console, nearest_line(alloc, "before", &before));
+    tell_line(console, nearest_line(alloc, "before", &before));
     let after = date_after(alloc, feed, date, dates);
-    tell_made(console, nearest_line(alloc, "after", &after));
+    tell_line(console, nearest_line(alloc, "after", &after));
 }
 
 /// The dates that the calendars of a feed cover: from the first to the last on which a service may run.

@@ -1,8 +1,7 @@
 //! What runs on the days of a study and in its scenarios, and where one can walk.
 
 use crate::calendar_lines::tell_calendar;
-use crate::console::Console;
-use crate::lines::{shown, tell_count, tell_count_of, warn};
+use console::{Console, shown, tell_count, tell_count_of, warn};
 use gtfs_tables::Feed;
 use jiff::civil::Date;
 use scenarios::Scenario;

@@ -1,9 +1,11 @@
 //! What the line of a fault can't say: the column, its value, and what is allowed.
+ghost use Rattle.std.specs.Prelude.{◌≡◌, map};
+ghost use Rattle.reports.specs.Explain as spec;
 
 use crate::advice::{advice_for, edit_limit, limit_of};
-use crate::lines::shown;
 use crate::records::{Found, is_named, record_at};
 use crate::rules::{edit_words, words_of};
+use console::shown;
 use csv::ByteRecord;
 use footpaths::footpath_checks;
 use gtfs_tables::{
@@ -40,7 +42,7 @@ pub(crate) fn explanation(
             let file = inputs.scenarios.get(*number)?;
             of_scenario(alloc, *fault, &file.bytes)
         }
-        fault => plain_line(alloc, advice_for(fault)?),
+        fault => plain_line(alloc, &advice_for(alloc, fault)?),
     }
 }
 
@@ -56,15 +58,12 @@ fn of_feed(
     bytes: Option<&[u8]>,
     inputs: &Inputs<'_>,
 ) -> Option<String> {
-    if let Some(words) = limit_of(fault.file, fault.what) {
-        return plain_line(alloc, words);
-    }
-    let bytes = bytes?;
     match fault.what {
-        What::MissingColumn => lacking_line(alloc, bytes, checks_of(fault.file).required),
-        What::TimesGoBack => back_line(alloc, &record_at(alloc, bytes, fault.at)?),
+        What::TooMany => plain_line(alloc, &limit_of(alloc, fault.file)?),
+        What::MissingColumn => lacking_line(alloc, bytes?, checks_of(fault.file).required),
+        What::TimesGoBack => back_line(alloc, &record_at(alloc, bytes?, fault.at)?),
         what => {
-            let found = record_at(alloc, bytes, fault.at)?;
+            let found = record_at(alloc, bytes?, fault.at)?;
             refused_line(alloc, &found, what, checks_of(fault.file).fields, inputs)
         }
     }
@@ -72,15 +71,15 @@ fn of_feed(
 
 /// More of a fault of a scenario file.
 fn of_scenario(alloc: Global, fault: ScenarioFault, bytes: &[u8]) -> Option<String> {
-    if let Some(words) = edit_limit(fault.what) {
-        return plain_line(alloc, words);
+    match fault.what {
+        ScenarioWhat::TooMany => plain_line(alloc, &edit_limit(alloc)?),
+        ScenarioWhat::MissingColumn => lacking_line(alloc, bytes, edit_checks().required),
+        what => {
+            let EditCheck(column, rule, _) = edit_check(what)?;
+            let found = record_at(alloc, bytes, fault.at)?;
+            field_line(alloc, column, found.text(column), edit_words(rule))
+        }
     }
-    if fault.what == ScenarioWhat::MissingColumn {
-        return lacking_line(alloc, bytes, edit_checks().required);
-    }
-    let EditCheck(column, rule, _) = edit_check(fault.what)?;
-    let found = record_at(alloc, bytes, fault.at)?;
-    field_line(alloc, column, found.text(column), edit_words(rule))
 }
 
 /// The check that finds a fault of a scenario file; none where no field is at fault.
@@ -94,7 +93,10 @@ fn edit_check(what: ScenarioWhat) -> Option<EditCheck> {
 }
 
 /// What is checked of the records of a file of the feed, or of one that names its stops.
-fn checks_of(file: FileName) -> Checks {
+fn checks_of(file: FileName) -> Checks
+    ensures required { map (λ name. name.now) result.required.now ≡ spec.required_of file }
+    ensures explains { spec.ExplainsFile file result.fields.now }
+{
     match file {
         FileName::Stops => location_checks(),
         FileName::Routes => route_checks(),
@@ -191,23 +193,23 @@ fn first_lacking<'a>(header: &ByteRecord, required: &[&'a [u8]]) -> Option<&'a [
 /// The columns of a header.
 fn columns_text(alloc: Global, header: &ByteRecord) -> Result<String, AllocError> {
     let mut text = String::new(alloc);
-    for place in 0..MOST_COLUMNS {
-        match header.get(place) {
-            Some(name) => add_column(alloc, &mut text, place, name)?,
+    for position in 0..MOST_COLUMNS {
+        match header.get(position) {
+            Some(name) => add_column(alloc, &mut text, position, name)?,
             None => return Ok(text),
         }
     }
     Ok(text)
 }
 
-/// Adds a column, parted from the one before.
+/// Adds a column at its position.
 fn add_column(
     alloc: Global,
     text: &mut String,
-    place: usize,
+    position: usize,
     name: &[u8],
 ) -> Result<(), AllocError> {
-    if place > 0 {
+    if position > 0 {
         text.push_str(", ")?;
     }
     let name = shown(alloc, name)?;

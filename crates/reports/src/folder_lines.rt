@@ -1,8 +1,6 @@
 //! The folder of a feed that can't be read as one: whether it is there, and what stands in it.
 
-use crate::console::Console;
-use crate::lines::{shown, tell_made};
-use command_line::path_in;
+use console::{Console, shown, tell_line};
 use std::alloc::{AllocError, Global};
 use std::io::{Error, ErrorKind};
 
@@ -32,7 +30,7 @@ pub(crate) fn tell_folder<C: Console>(console: &C, alloc: Global, folder: &str) 
 
 /// Tells why the names in a folder can't be had.
 fn tell_unread<C: Console>(console: &C, alloc: Global, folder: &str, error: &Error) {
-    tell_made(console, unread_line(alloc, folder, error.kind()));
+    tell_line(console, unread_line(alloc, folder, error.kind()));
 }
 
 /// Why the names in a folder can't be had.
@@ -51,7 +49,7 @@ fn unread_line(alloc: Global, folder: &str, kind: ErrorKind) -> Result<String, A
 fn tell_names<C: Console>(console: &C, alloc: Global, folder: &str, names: Vec<String>) {
     let mut names = names;
     names.sort_unstable();
-    tell_made(console, names_line(alloc, folder, names.as_slice()));
+    tell_line(console, names_line(alloc, folder, names.as_slice()));
     if !has_stops(names.as_slice()) {
         tell_below(console, alloc, folder, names.as_slice());
         tell_zip(console, alloc, folder, names.as_slice());
@@ -99,9 +97,9 @@ fn has_stops(names: &[String]) -> bool {
 /// Tells the first folder below a folder that has `stops.txt`, if one has it.
 fn tell_below<C: Console>(console: &C, alloc: Global, folder: &str, names: &[String]) {
     for name in names.iter().take(MOST_LOOKS) {
-        if let Ok(path) = path_in(alloc, folder, name) {
+        if let Ok(path) = format!(in alloc; "{folder}/{name}") {
             if is_feed(console, alloc, &path) {
-                tell_made(console, below_line(alloc, &path));
+                tell_line(console, below_line(alloc, &path));
                 return;
             }
         }
@@ -126,7 +124,7 @@ fn below_line(alloc: Global, path: &str) -> Result<String, AllocError> {
 fn tell_zip<C: Console>(console: &C, alloc: Global, folder: &str, names: &[String]) {
     for name in names {
         if name.ends_with(".zip") {
-            tell_made(console, zip_line(alloc, folder, name));
+            tell_line(console, zip_line(alloc, folder, name));
             return;
         }
     }
@@ -134,7 +132,7 @@ fn tell_zip<C: Console>(console: &C, alloc: Global, folder: &str, names: &[Strin
 
 /// A zip that may be the feed.
 fn zip_line(alloc: Global, folder: &str, name: &str) -> Result<String, AllocError> {
-    let path = path_in(alloc, folder, name)?;
+    let path = format!(in alloc; "{folder}/{name}")?;
     let path = shown(alloc, path.as_bytes())?;
     format!(in alloc; "ttm: \"{path}\" is a zip; ttm-tools prepare makes a feed's folder of it\n")
 }

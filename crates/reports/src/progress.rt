@@ -1,8 +1,7 @@
 //! How many rows are done, and when it is time to tell so.
 
-use crate::console::Console;
-use crate::lines::tell_made;
 use crate::measures::{percent, time_left, time_text};
+use console::{Console, tell_line};
 use std::alloc::{AllocError, Global};
 use std::sync::atomic::{AtomicU64, Ordering};
 
@@ -67,7 +66,7 @@ impl Progress {
                     self.move_line(console, alloc, done, now);
                 }
             } else if self.is_time(now, PAUSE) {
-                tell_made(console, whole_line(alloc, self.line(alloc, done, now)));
+                tell_line(console, whole_line(alloc, self.line(alloc, done, now)));
             }
         }
     }
@@ -92,7 +91,7 @@ impl Progress {
     fn move_line<C: Console>(&self, console: &C, alloc: Global, done: u64, now: u64) {
         if let Ok(line) = self.line(alloc, done, now) {
             let before = self.width.swap(line.len() as u64, Ordering::SeqCst);
-            tell_made(console, moving_line(line, before));
+            tell_line(console, moving_line(line, before));
         }
     }
 

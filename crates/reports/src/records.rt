@@ -61,10 +61,10 @@ pub(crate) fn is_named(alloc: Global, bytes: &[u8], name: &[u8], text: &[u8]) ->
     if !is_next(&mut rows, &mut row) {
         return Some(false);
     }
-    let place = column(&row, name);
+    let position = column(&row, name);
     for _ in 0..u64::MAX {
         match rows.next(&mut row) {
-            Ok(true) if field(&row, place) == text => return Some(true),
+            Ok(true) if field(&row, position) == text => return Some(true),
             Ok(true) => {}
             Ok(false) => return Some(false),
             Err(_) => return None,

@@ -1,16 +1,15 @@
 //! The report of a study.
 ghost use Rattle.std.specs.Prelude.{◌≡◌};
 
-use crate::console::Console;
 use crate::day_lines::{tell_days, tell_scenarios, tell_walks};
 use crate::explain::{explanation, is_missing};
 use crate::folder_lines::tell_folder;
-use crate::lines::{tell_count, tell_made};
 use crate::measures::time_text;
 use crate::progress::Progress;
 use crate::row_lines::{row_count, tell_rows};
-use crate::table_lines::tell_tables;
+use crate::table_lines::{tell_ends, tell_feed};
 use collector::Matrix;
+use console::{Console, tell_count, tell_line};
 use footpaths::Direct;
 use gtfs_tables::Feed;
 use scenarios::Scenario;
@@ -47,7 +46,7 @@ impl<'a, C: Console> Report<'a, C> {
 
     /// Tells how long it took since the report began, how many rows are done, and the most memory that was taken.
     pub fn ended(&self) {
-        tell_made(self.console, self.rows_line());
+        tell_line(self.console, self.rows_line());
         self.tell_time();
         if let Some(peak) = self.console.memory(self.alloc).peak {
             tell_count(self.console, self.alloc, "bytes taken at most", peak);
@@ -74,7 +73,7 @@ impl<'a, C: Console> Report<'a, C> {
     // Tells how long it took.
     fn tell_time(&self) {
         if let (Some(began), Some(now)) = (self.began, self.console.milliseconds()) {
-            tell_made(self.console, self.time_line(now.saturating_sub(began)));
+            tell_line(self.console, self.time_line(now.saturating_sub(began)));
         }
     }
 
@@ -93,15 +92,8 @@ impl<'a, C: Console> Watch for Report<'a, C> {
         origins: &[StopNo],
         destinations: &[StopNo],
     ) {
-        tell_tables(
-            self.console,
-            self.alloc,
-            self.routes,
-            feed,
-            direct,
-            origins,
-            destinations,
-        );
+        tell_feed(self.console, self.alloc, feed, self.routes, direct);
+        tell_ends(self.console, self.alloc, origins, destinations);
     }
 
     fn days_listed(

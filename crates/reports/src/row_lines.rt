@@ -1,7 +1,6 @@
 //! How large the matrix of a study is, and whether it fits into memory.
 
-use crate::console::Console;
-use crate::lines::{tell_count, warn};
+use console::{Console, tell_count, warn};
 use std::alloc::Global;
 use workers::Study;
 

@@ -1,22 +1,19 @@
 //! What the tables of a study have.
 
-use crate::console::Console;
-use crate::lines::tell_count;
 use crate::records::record_count;
+use console::{Console, tell_count};
 use footpaths::Direct;
 use gtfs_tables::Feed;
 use std::alloc::Global;
 use timetable::StopNo;
 
-/// Tells how much the feed and the analyst's own tables have. `routes` are the bytes of `routes.txt`.
-pub(crate) fn tell_tables<C: Console>(
+/// Tells how much the feed has, `routes.txt` with these bytes among it, and how many direct footpaths there are.
+pub(crate) fn tell_feed<C: Console>(
     console: &C,
     alloc: Global,
-    routes: Option<&[u8]>,
     feed: &Feed,
+    routes: Option<&[u8]>,
     direct: &Direct,
-    origins: &[StopNo],
-    destinations: &[StopNo],
 ) {
     tell_count(console, alloc, "stops", u64::from(feed.stop_count()));
     tell_routes(console, alloc, routes);
@@ -34,8 +31,6 @@ pub(crate) fn tell_tables<C: Console>(
         "direct footpaths",
         direct.pairs().len() as u64,
     );
-    tell_count(console, alloc, "origins", origins.len() as u64);
-    tell_count(console, alloc, "destinations", destinations.len() as u64);
 }
 
 /// Tells how many routes there are: each record of `routes.txt` but its header is one.
@@ -45,4 +40,15 @@ fn tell_routes<C: Console>(console: &C, alloc: Global, routes: Option<&[u8]>) {
             tell_count(console, alloc, "routes", records.saturating_sub(1));
         }
     }
+}
+
+/// Tells at how many stops journeys begin, and how many have a column of travel times.
+pub(crate) fn tell_ends<C: Console>(
+    console: &C,
+    alloc: Global,
+    origins: &[StopNo],
+    destinations: &[StopNo],
+) {
+    tell_count(console, alloc, "origins", origins.len() as u64);
+    tell_count(console, alloc, "destinations", destinations.len() as u64);
 }

@@ -1,2 +1,2 @@
+pub mod FirstUnread
 pub mod Scenarios
-pub mod Unread

@@ -16,6 +16,8 @@ use Rattle.studies.specs.Inputs.{InputFiles}
 use Rattle.studies.specs.NamedFile.{NamedBytes}
 use Rattle.ttm.specs.Disk.{Found}
 use Rattle.ttm.specs.declared.study_files.StudyFiles.{StudyFiles}
+use Rattle.ttm.specs.declared.unread.Unread.{Unread}
+use Rattle.ttm.specs.declared.unread.Unread.TheVariants as unread
 
 -- what a read of a path may find: the bytes of a file, that there is none, or why it isn't read
 abbrev pub Finds : Type 1
@@ -118,6 +120,16 @@ IsFirstUnread finds [] path fault = ⊥
 IsFirstUnread finds (ask ∷ asks) path fault =
     ((path ≡ path_of ask) × Fails finds ask fault) ⊎ (IsRead finds ask × IsFirstUnread finds asks path fault)
 
+-- a reader names the first of these paths whose file isn't read, with its fault
+abbrev pub NamesUnread : Finds → List Ask → Unread → Type 0
+NamesUnread finds asks (unread.Feed path fault) = IsFirstUnread finds asks (string_bytes path) fault
+NamesUnread finds asks (unread.Own path fault) = IsFirstUnread finds asks path.now fault
+NamesUnread finds asks unread.Memory = ⊥
+
+-- so it does, or memory was short for a path or a name
+abbrev pub IsWhyUnread : Finds → List Ask → Unread → Type 0
+IsWhyUnread finds asks u = NamesUnread finds asks u ⊎ (u ≡ unread.Memory)
+
 -- it is told why the first file of these paths that isn't read isn't, with the status of that
 pub record IsUnread (finds : Finds) (asks : List Ask) (err told : Option (List ℕ)) (status : ℕ) : Type 0 where
   pub path : List ℕ
@@ -134,3 +146,9 @@ pub record IsShort (err told : Option (List ℕ)) (status : ℕ) : Type 0 where
 -- the files of these paths aren't all read, and it is told why; or memory was short for a path or a name
 abbrev pub AreUnread : Finds → List Ask → Option (List ℕ) → Option (List ℕ) → ℕ → Type 0
 AreUnread finds asks err told status = IsUnread finds asks err told status ⊎ IsShort err told status
+
+-- why the files aren't all read is told, with its status
+abbrev pub TellsWhyUnread : Unread → Option (List ℕ) → Option (List ℕ) → ℕ → Type 0
+TellsWhyUnread (unread.Feed path fault) err told status = TellsLine err told (line (path_rest (string_bytes path) fault)) × (status ≡ read_status fault)
+TellsWhyUnread (unread.Own path fault) err told status = TellsLine err told (line (path_rest path.now fault)) × (status ≡ read_status fault)
+TellsWhyUnread unread.Memory err told status = IsShort err told status

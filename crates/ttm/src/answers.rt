@@ -9,23 +9,20 @@ ghost use Rattle.studies.specs.Inputs.{AreWithinLimit, inputs_of};
 ghost use Rattle.studies.specs.Settings.{SettingsFit};
 ghost use Rattle.ttm.specs.Answers as spec;
 
+use crate::host::Host;
 use command_line::{DONE, Task, fault_line, status, tell_made};
 use matrix_text::put_all;
-use reports::{Console, Report};
+use reports::Report;
 use std::alloc::Global;
 use std::io::Write;
 use std::process::ExitCode;
-use std::sync::Wait;
-use std::thread::Threads;
 use studies::{Inputs, Settings, StudyFault, Unwatched, Watch, watch_study};
 use workers::{Gate, Open};
 
 /// Puts out the matrix of a task whose files are read, or tells why there is none; and reports it, if the task says so. The matrix is
 /// the same with a report and without, and no promise of it or of the status asks whether there is one.
-pub(crate) fn answer_task<'a, T: Threads + Wait + Sync, C: Console + Sync, O: Write, E: Write>(
-    rt: &T,
-    alloc: Global,
-    console: &'a C,
+pub(crate) fn answer_task<'a, H: Host, O: Write, E: Write>(
+    host: &'a H,
     task: &Task,
     inputs: &Inputs<'a>,
     out: &mut O,
@@ -38,16 +35,15 @@ pub(crate) fn answer_task<'a, T: Threads + Wait + Sync, C: Console + Sync, O: Wr
     ensures quiet { exit_status result ≡ DONE → err.new ≡ err.old }
 {
     if task.report {
-        answer_and_report(rt, alloc, console, inputs, task, out, err)
+        answer_and_report(host, inputs, task, out, err)
     } else {
-        answer(rt, alloc, inputs, &task.settings, out, err)
+        answer(host, inputs, &task.settings, out, err)
     }
 }
 
 /// Puts out the matrix of a study, or tells why there is none.
-pub(crate) fn answer<T: Threads + Wait + Sync, O: Write, E: Write>(
-    rt: &T,
-    alloc: Global,
+pub(crate) fn answer<H: Host, O: Write, E: Write>(
+    host: &H,
     inputs: &Inputs<'_>,
     settings: &Settings,
     out: &mut O,
@@ -59,17 +55,15 @@ pub(crate) fn answer<T: Threads + Wait + Sync, O: Write, E: Write>(
     ensures success { exit_status result ≡ DONE → spec.IsPrinted (inputs_of inputs.now) settings.now (O.contents out.old) (O.contents out.new) }
     ensures quiet { exit_status result ≡ DONE → err.new ≡ err.old }
 {
-    match put_matrix(rt, alloc, inputs, settings, &Open, &Unwatched, out) {
+    match put_matrix(host, inputs, settings, &Open, &Unwatched, out) {
         Ok(()) => ExitCode::from(DONE),
-        Err(fault) => tell_why(alloc, &fault, inputs, err),
+        Err(fault) => tell_why(host.alloc(), &fault, inputs, err),
     }
 }
 
 /// The same, with a report. Its last lines come after the matrix is out or the line of a fault is told.
-fn answer_and_report<'a, T: Threads + Wait + Sync, C: Console + Sync, O: Write, E: Write>(
-    rt: &T,
-    alloc: Global,
-    console: &'a C,
+fn answer_and_report<'a, H: Host, O: Write, E: Write>(
+    host: &'a H,
     inputs: &Inputs<'a>,
     task: &Task,
     out: &mut O,
@@ -81,14 +75,14 @@ fn answer_and_report<'a, T: Threads + Wait + Sync, C: Console + Sync, O: Write, 
     ensures success { exit_status result ≡ DONE → spec.IsPrinted (inputs_of inputs.now) task.now.settings (O.contents out.old) (O.contents out.new) }
     ensures quiet { exit_status result ≡ DONE → err.new ≡ err.old }
 {
-    let report = Report::new(alloc, console, inputs);
-    match put_matrix(rt, alloc, inputs, &task.settings, &report, &report, out) {
+    let report = Report::new(host.alloc(), host, inputs);
+    match put_matrix(host, inputs, &task.settings, &report, &report, out) {
         Ok(()) => {
             report.ended();
             ExitCode::from(DONE)
         }
         Err(fault) => {
-            let code = tell_why(alloc, &fault, inputs, err);
+            let code = tell_why(host.alloc(), &fault, inputs, err);
             report.refused(&fault, inputs, task.feed.as_str());
             code
         }
@@ -96,9 +90,8 @@ fn answer_and_report<'a, T: Threads + Wait + Sync, C: Console + Sync, O: Write, 
 }
 
 /// Puts out the matrix of a study. At an error it isn't out whole.
-fn put_matrix<T: Threads + Wait + Sync, G: Gate + Sync, W: Watch, O: Write>(
-    rt: &T,
-    alloc: Global,
+fn put_matrix<H: Host, G: Gate + Sync, W: Watch, O: Write>(
+    host: &H,
     inputs: &Inputs<'_>,
     settings: &Settings,
     gate: &G,
@@ -110,7 +103,7 @@ fn put_matrix<T: Threads + Wait + Sync, G: Gate + Sync, W: Watch, O: Write>(
     ensures printed { OnOk result (spec.IsPrinted (inputs_of inputs.now) settings.now (O.contents out.old) (O.contents out.new)) }
     ensures why { IfErr result (λ fault. spec.IsWhy fault (inputs_of inputs.now) settings.now (O.contents out.old) (O.contents out.new)) }
 {
-    match watch_study(rt, alloc, inputs, settings, gate, watch) {
+    match watch_study(host, host.alloc(), inputs, settings, gate, watch) {
         Ok(text) => match put_all(&text, out) {
             Ok(()) => Ok(()),
             Err(fault) => Err(StudyFault::Text(fault)),

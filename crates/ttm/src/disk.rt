@@ -19,7 +19,7 @@ pub(crate) trait Disk {
     /// A read of this path may find this: the bytes of a file, that there is none, or why it isn't read.
     ghost finds: { Self → List ℕ → Result (Option (List ℕ)) ReadFault → Type 0 };
 
-    /// All bytes of a file, at most 1,073,741,824, if it is found.
+    /// All bytes of a file, at most `gtfs_tables::MOST_BYTES`, if it is found.
     fn find(&self, alloc: Global, path: &str) -> Result<Option<Vec<u8>>, ReadFault>
         ensures found { IfOk result (λ file. finds self.now path.now (Ok (option_map (λ bytes. bytes.items) file))) }
         ensures unread { IfErr result (λ fault. finds self.now path.now (Err fault)) }
@@ -35,7 +35,7 @@ impl<D: Files> Disk for D {
     }
 }
 
-/// All bytes of what was opened at a path, at most 1,073,741,824, if there is a file. It is closed again.
+/// All bytes of what was opened at a path, at most `gtfs_tables::MOST_BYTES`, if there is a file. It is closed again.
 pub(crate) fn read_opened<F: Read + Drop>(
     alloc: Global,
     opened: io::Result<F>,

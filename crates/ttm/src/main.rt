@@ -3,10 +3,10 @@
 //! With arguments the program makes the study that they ask for; with none, one of the small feed that it carries
 //! (`example`).
 //!
-//! - `program`: the whole way, from arguments to a printed matrix. `answers`: what is put out and told of a study, and
-//!   its report.
-//! - `reading` reads the files that the arguments name from the `disk` into `study_files`; the crate `studies` makes
-//!   the matrix's text of them.
+//! - `program`: the whole way on a `host`, from arguments to a printed matrix. `answers`: what is put out and told of a study,
+//!   and its report.
+//! - `reading` reads the files that the arguments name from the `disk` into `study_files`, or answers why one is `unread`;
+//!   the crate `studies` makes the matrix's text of them.
 //!
 //! What the arguments ask for and which line tells a fault is the crate `command_line`'s.
 #![tactic(auto)]
@@ -14,9 +14,11 @@
 mod answers;
 mod disk;
 mod example;
+mod host;
 mod program;
 mod reading;
 mod study_files;
+mod unread;
 
 use crate::program::run;
 use std::process::ExitCode;

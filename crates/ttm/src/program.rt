@@ -17,41 +17,35 @@ ghost use Rattle.ttm.specs.Answers as spec;
 ghost use Rattle.ttm.specs.Files.{IsShort};
 
 use crate::answers::{answer, answer_task};
-use crate::disk::Disk;
 use crate::example::{EXAMPLE_ORIGINS, example_feed, example_settings};
+use crate::host::Host;
 use crate::reading::read_files;
 use crate::study_files::StudyFiles;
 use clap::Error;
 use command_line::{
-    DONE, NOT_MOVED, REFUSED, Task, WordFault, bad_line, task_of, tell, tell_short, word_status,
+    DONE, NOT_MOVED, REFUSED, Task, WordFault, bad_line, explain_option, task_of, tell, tell_short,
+    word_status,
 };
 use matrix_text::put_all;
-use reports::{Console, explain_folder, explain_option};
+use reports::explain_folder;
 use std::alloc::Global;
 use std::io::{ErrorKind, Write};
 use std::process::ExitCode;
-use std::rt::Env;
-use std::sync::Wait;
-use std::thread::Threads;
 use std::{env, io};
 use studies::Inputs;
 
-/// What the program does: it has arguments, files, console, threads and memory of the runtime, and the two outputs.
-pub(crate) fn run<
-    R: Env + Disk + Console + AllocGlobal + Threads + Wait + Sync,
-    O: Write,
-    E: Write,
->(rt: &R, out: &mut O, err: &mut E) -> ExitCode
-    ensures success { exit_status result ≡ DONE → (words : List Text) × spec.EndsWell (R.finds rt.now) words (O.contents out.old) (O.contents out.new) }
-    ensures ended { ((words : List Text) × spec.Ends (R.finds rt.now) words (O.contents out.old) (O.contents out.new) (E.contents err.old) (E.contents err.new) (exit_status result)) ⊎ spec.EndsUnread (O.contents out.old) (O.contents out.new) (E.contents err.old) (E.contents err.new) (exit_status result) }
+/// What the program does: it has its arguments of its host, and the two outputs.
+pub(crate) fn run<H: Host, O: Write, E: Write>(host: &H, out: &mut O, err: &mut E) -> ExitCode
+    ensures success { exit_status result ≡ DONE → (words : List Text) × spec.EndsWell (H.finds host.now) words (O.contents out.old) (O.contents out.new) }
+    ensures ended { ((words : List Text) × spec.Ends (H.finds host.now) words (O.contents out.old) (O.contents out.new) (E.contents err.old) (E.contents err.new) (exit_status result)) ⊎ spec.EndsUnread (O.contents out.old) (O.contents out.new) (E.contents err.old) (E.contents err.new) (exit_status result) }
     ensures quiet { exit_status result ≡ DONE → err.new ≡ err.old }
 {
-    let words = match env::args(rt) {
+    let words = match env::args(host) {
         Ok(words) => words,
         Err(error) => return tell_unread(&error, err),
     };
-    match words.collect::<Vec<String>>(rt.alloc()) {
-        Ok(words) => run_words(rt, rt.alloc(), rt, rt, &words, out, err),
+    match words.collect::<Vec<String>>(host.alloc()) {
+        Ok(words) => run_words(host, &words, out, err),
         Err(_) => tell_short(err),
     }
 }
@@ -69,33 +63,25 @@ fn tell_unread<E: Write>(error: &io::Error, err: &mut E) -> ExitCode
 }
 
 /// What the program does with its arguments: its name, and those after it.
-pub(crate) fn run_words<T: Threads + Wait + Sync, D: Disk, C: Console + Sync, O: Write, E: Write>(
-    rt: &T,
-    alloc: Global,
-    disk: &D,
-    console: &C,
+pub(crate) fn run_words<H: Host, O: Write, E: Write>(
+    host: &H,
     words: &[String],
     out: &mut O,
     err: &mut E,
 ) -> ExitCode
-    ensures success { exit_status result ≡ DONE → spec.EndsWell (D.finds disk.now) (map string_bytes words.now) (O.contents out.old) (O.contents out.new) }
-    ensures ended { spec.Ends (D.finds disk.now) (map string_bytes words.now) (O.contents out.old) (O.contents out.new) (E.contents err.old) (E.contents err.new) (exit_status result) }
+    ensures success { exit_status result ≡ DONE → spec.EndsWell (H.finds host.now) (map string_bytes words.now) (O.contents out.old) (O.contents out.new) }
+    ensures ended { spec.Ends (H.finds host.now) (map string_bytes words.now) (O.contents out.old) (O.contents out.new) (E.contents err.old) (E.contents err.new) (exit_status result) }
     ensures quiet { exit_status result ≡ DONE → err.new ≡ err.old }
 {
     if words.len() <= 1 {
-        example(rt, alloc, out, err)
+        example(host, out, err)
     } else {
-        asked(rt, alloc, disk, console, words, out, err)
+        asked(host, words, out, err)
     }
 }
 
 /// The study that the program carries: one minute from stop A of the small feed, by at most two rides.
-fn example<T: Threads + Wait + Sync, O: Write, E: Write>(
-    rt: &T,
-    alloc: Global,
-    out: &mut O,
-    err: &mut E,
-) -> ExitCode
+fn example<H: Host, O: Write, E: Write>(host: &H, out: &mut O, err: &mut E) -> ExitCode
     ensures success { exit_status result ≡ DONE → spec.IsExample (O.contents out.old) (O.contents out.new) }
     ensures ended { spec.EndsExample (O.contents out.old) (O.contents out.new) (E.contents err.old) (E.contents err.new) (exit_status result) }
     ensures quiet { exit_status result ≡ DONE → err.new ≡ err.old }
@@ -108,29 +94,26 @@ fn example<T: Threads + Wait + Sync, O: Write, E: Write>(
         destinations: None,
         scenarios: &[],
     };
-    match example_settings(alloc) {
-        Ok(settings) => answer(rt, alloc, &inputs, &settings, out, err),
+    match example_settings(host.alloc()) {
+        Ok(settings) => answer(host, &inputs, &settings, out, err),
         Err(_) => tell_short(err),
     }
 }
 
 /// The study that the arguments ask for.
-fn asked<T: Threads + Wait + Sync, D: Disk, C: Console + Sync, O: Write, E: Write>(
-    rt: &T,
-    alloc: Global,
-    disk: &D,
-    console: &C,
+fn asked<H: Host, O: Write, E: Write>(
+    host: &H,
     words: &[String],
     out: &mut O,
     err: &mut E,
 ) -> ExitCode
-    ensures success { exit_status result ≡ DONE → spec.Succeeds (D.finds disk.now) (map string_bytes words.now) (O.contents out.old) (O.contents out.new) }
-    ensures ended { spec.EndsWords (D.finds disk.now) (map string_bytes words.now) (O.contents out.old) (O.contents out.new) (E.contents err.old) (E.contents err.new) (exit_status result) }
+    ensures success { exit_status result ≡ DONE → spec.Succeeds (H.finds host.now) (map string_bytes words.now) (O.contents out.old) (O.contents out.new) }
+    ensures ended { spec.EndsWords (H.finds host.now) (map string_bytes words.now) (O.contents out.old) (O.contents out.new) (E.contents err.old) (E.contents err.new) (exit_status result) }
     ensures quiet { exit_status result ≡ DONE → err.new ≡ err.old }
 {
-    match task_of(alloc, words) {
+    match task_of(host.alloc(), words) {
         Ok(task) => {
-            let code = study(rt, alloc, disk, console, &task, out, err);
+            let code = study(host, &task, out, err);
             // Dropped here and not on the way out, where the prover would follow each of its strings.
             drop(task);
             code
@@ -138,10 +121,10 @@ fn asked<T: Threads + Wait + Sync, D: Disk, C: Console + Sync, O: Write, E: Writ
         Err(fault) => {
             let code = word_status(&fault);
             match fault {
-                WordFault::Words(error) => tell_words(alloc, &error, code, out, err),
+                WordFault::Words(error) => tell_words(host.alloc(), &error, code, out, err),
                 WordFault::Bad(option) => {
                     let code = tell(bad_line(option), code, err);
-                    explain_option(console, alloc, words, option);
+                    explain_option(host, host.alloc(), words, option);
                     code
                 }
                 WordFault::Memory => tell_short(err),
@@ -195,32 +178,21 @@ fn put_help<O: Write, E: Write>(text: &[u8], out: &mut O, err: &mut E) -> ExitCo
 
 /// The study of a task. It holds the files, and drops them at the end: the prover would follow them on each way
 /// out of a function that had more to do.
-fn study<T: Threads + Wait + Sync, D: Disk, C: Console + Sync, O: Write, E: Write>(
-    rt: &T,
-    alloc: Global,
-    disk: &D,
-    console: &C,
-    task: &Task,
-    out: &mut O,
-    err: &mut E,
-) -> ExitCode
+fn study<H: Host, O: Write, E: Write>(host: &H, task: &Task, out: &mut O, err: &mut E) -> ExitCode
     requires { SettingsFit task.now.settings }
-    ensures success { exit_status result ≡ DONE → spec.IsMade (D.finds disk.now) task.now (O.contents out.old) (O.contents out.new) }
-    ensures ended { spec.EndsTask (D.finds disk.now) task.now (O.contents out.old) (O.contents out.new) (E.contents err.old) (E.contents err.new) (exit_status result) }
+    ensures success { exit_status result ≡ DONE → spec.IsMade (H.finds host.now) task.now (O.contents out.old) (O.contents out.new) }
+    ensures ended { spec.EndsTask (H.finds host.now) task.now (O.contents out.old) (O.contents out.new) (E.contents err.old) (E.contents err.new) (exit_status result) }
     ensures quiet { exit_status result ≡ DONE → err.new ≡ err.old }
 {
-    let mut files = StudyFiles::none(alloc);
-    let code = read_and_answer(rt, alloc, disk, console, task, &mut files, out, err);
+    let mut files = StudyFiles::none(host.alloc());
+    let code = read_and_answer(host, task, &mut files, out, err);
     drop(files);
     code
 }
 
 /// Reads the files of a task, and answers its study.
-fn read_and_answer<T: Threads + Wait + Sync, D: Disk, C: Console + Sync, O: Write, E: Write>(
-    rt: &T,
-    alloc: Global,
-    disk: &D,
-    console: &C,
+fn read_and_answer<H: Host, O: Write, E: Write>(
+    host: &H,
     task: &Task,
     files: &mut StudyFiles,
     out: &mut O,
@@ -228,15 +200,16 @@ fn read_and_answer<T: Threads + Wait + Sync, D: Disk, C: Console + Sync, O: Writ
 ) -> ExitCode
     requires settings { SettingsFit task.now.settings }
     requires no_scenarios { files.old.scenarios.items ≡ [] }
-    ensures success { exit_status result ≡ DONE → spec.IsMade (D.finds disk.now) task.now (O.contents out.old) (O.contents out.new) }
-    ensures ended { spec.EndsTask (D.finds disk.now) task.now (O.contents out.old) (O.contents out.new) (E.contents err.old) (E.contents err.new) (exit_status result) }
+    ensures success { exit_status result ≡ DONE → spec.IsMade (H.finds host.now) task.now (O.contents out.old) (O.contents out.new) }
+    ensures ended { spec.EndsTask (H.finds host.now) task.now (O.contents out.old) (O.contents out.new) (E.contents err.old) (E.contents err.new) (exit_status result) }
     ensures quiet { exit_status result ≡ DONE → err.new ≡ err.old }
 {
-    match read_files(alloc, disk, task, files, err) {
-        Ok(()) => answer_task(rt, alloc, console, task, &files.inputs(), out, err),
-        Err(code) => {
+    match read_files(host.alloc(), host, task, files) {
+        Ok(()) => answer_task(host, task, &files.inputs(), out, err),
+        Err(unread) => {
+            let code = unread.tell(host.alloc(), err);
             if task.report {
-                explain_folder(console, alloc, task.feed.as_str());
+                explain_folder(host, host.alloc(), task.feed.as_str());
             }
             code
         }

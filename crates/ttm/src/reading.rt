@@ -1,8 +1,6 @@
-//! The files that a study names, each read whole: which of them have to be there, and what is told where one isn't read.
+//! The files that a study names, each read whole: which of them have to be there, and which is the first that isn't read.
 
-ghost use Rattle.std.specs.Prelude.{◌≡◌, ◌≤◌, ◌∷◌, All, IfErr, IfOk, OnOk, Ok, Some, [], length, map, option_map, string_bytes};
-ghost use Rattle.std.specs.Process.{exit_status};
-ghost use Rattle.command_line.specs.Lines.{line, path_rest, read_status};
+ghost use Rattle.std.specs.Prelude.{◌≡◌, ◌∷◌, All, IfErr, IfOk, OnOk, Ok, Some, [], map, option_map, string_bytes};
 ghost use Rattle.command_line.specs.Paths as paths;
 ghost use Rattle.gtfs_tables.specs.Files as limit;
 ghost use Rattle.studies.specs.FeedFiles.{files_read};
@@ -11,237 +9,136 @@ ghost use Rattle.ttm.specs.Files as spec;
 
 use crate::disk::Disk;
 use crate::study_files::StudyFiles;
-use command_line::{
-    ReadFault, Task, path_in, path_line, path_status, scenario_of, tell_made, tell_short,
-};
+use crate::unread::Unread;
+use command_line::{ReadFault, Task, path_in, scenario_of};
 use std::alloc::Global;
-use std::io::Write;
-use std::process::ExitCode;
 use studies::{FeedFiles, NamedFile};
 
 /// Reads the files of a study, in the order in which they are looked at: the feed's, the analyst's own, the scenarios'.
-pub(crate) fn read_files<D: Disk, E: Write>(
+pub(crate) fn read_files<'a, D: Disk>(
     alloc: Global,
     disk: &D,
-    task: &Task,
+    task: &'a Task,
     files: &mut StudyFiles,
-    err: &mut E,
-) -> Result<(), ExitCode>
+) -> Result<(), Unread<'a>>
     requires { files.old.scenarios.items ≡ [] }
     ensures files { OnOk result (spec.AreNamed (D.finds disk.now) task.now (spec.files_of files.new)) }
     ensures limit { OnOk result (AreWithinLimit (spec.files_of files.new)) }
-    ensures quiet { OnOk result (err.new ≡ err.old) }
-    ensures unread { IfErr result (λ code. spec.AreUnread (D.finds disk.now) (spec.asks_of task.now) (E.contents err.old) (E.contents err.new) (exit_status code)) }
+    ensures unread { IfErr result (λ unread. spec.IsWhyUnread (D.finds disk.now) (spec.asks_of task.now) unread) }
 {
-    read_feed_files(alloc, disk, task.feed.as_str(), &mut files.feed, err)?;
-    own_file(alloc, disk, &task.footpaths, &mut files.footpaths, err)?;
-    own_file(alloc, disk, &task.origins, &mut files.origins, err)?;
-    own_file(
-        alloc,
-        disk,
-        &task.opportunities,
-        &mut files.opportunities,
-        err,
-    )?;
-    own_file(
-        alloc,
-        disk,
-        &task.destinations,
-        &mut files.destinations,
-        err,
-    )?;
-    scenario_files(
-        alloc,
-        disk,
-        task.scenarios.as_slice(),
-        &mut files.scenarios,
-        err,
-    )
+    read_feed_files(alloc, disk, task.feed.as_str(), &mut files.feed)?;
+    files.footpaths = own_file(alloc, disk, &task.footpaths)?;
+    files.origins = own_file(alloc, disk, &task.origins)?;
+    files.opportunities = own_file(alloc, disk, &task.opportunities)?;
+    files.destinations = own_file(alloc, disk, &task.destinations)?;
+    scenario_files(alloc, disk, task.scenarios.as_slice(), &mut files.scenarios)
 }
 
-/// Reads the files of a feed, each to its field. One that isn't found is absent.
-pub(crate) fn read_feed_files<D: Disk, E: Write>(
+/// Reads the files of a feed. One that isn't found is absent.
+pub(crate) fn read_feed_files<'a, D: Disk>(
     alloc: Global,
     disk: &D,
-    folder: &str,
+    folder: &'a str,
     files: &mut FeedFiles,
-    err: &mut E,
-) -> Result<(), ExitCode>
+) -> Result<(), Unread<'a>>
     ensures files { OnOk result (spec.IsFeedIn (D.finds disk.now) folder.now (files_read files.new)) }
     ensures limit { OnOk result (limit.AreWithinLimit (files_read files.new)) }
-    ensures quiet { OnOk result (err.new ≡ err.old) }
-    ensures unread { IfErr result (λ code. spec.AreUnread (D.finds disk.now) (spec.feed_asks folder.now) (E.contents err.old) (E.contents err.new) (exit_status code)) }
+    ensures unread { IfErr result (λ unread. spec.IsWhyUnread (D.finds disk.now) (spec.feed_asks folder.now) unread) }
 {
-    feed_file(alloc, disk, folder, "stops.txt", &mut files.stops, err)?;
-    feed_file(alloc, disk, folder, "routes.txt", &mut files.routes, err)?;
-    feed_file(
-        alloc,
-        disk,
-        folder,
-        "calendar.txt",
-        &mut files.calendar,
-        err,
-    )?;
-    feed_file(
-        alloc,
-        disk,
-        folder,
-        "calendar_dates.txt",
-        &mut files.calendar_dates,
-        err,
-    )?;
-    feed_file(alloc, disk, folder, "trips.txt", &mut files.trips, err)?;
-    feed_file(
-        alloc,
-        disk,
-        folder,
-        "stop_times.txt",
-        &mut files.stop_times,
-        err,
-    )?;
-    feed_file(
-        alloc,
-        disk,
-        folder,
-        "frequencies.txt",
-        &mut files.frequencies,
-        err,
-    )?;
-    feed_file(
-        alloc,
-        disk,
-        folder,
-        "transfers.txt",
-        &mut files.transfers,
-        err,
-    )
-}
-
-/// Reads a file of a feed to its field, if it is found.
-fn feed_file<D: Disk, E: Write>(
-    alloc: Global,
-    disk: &D,
-    folder: &str,
-    name: &str,
-    place: &mut Option<Vec<u8>>,
-    err: &mut E,
-) -> Result<(), ExitCode>
-    ensures file { OnOk result (D.finds disk.now (paths.path_in folder.now name.now) (Ok (option_map (λ bytes. bytes.items) place.new))) }
-    ensures limit { OnOk result (limit.IsWithinLimit (option_map (λ bytes. bytes.items) place.new)) }
-    ensures quiet { OnOk result (err.new ≡ err.old) }
-    ensures unread { IfErr result (λ code. spec.AreUnread (D.finds disk.now) (spec.Optional (paths.path_in folder.now name.now) ∷ []) (E.contents err.old) (E.contents err.new) (exit_status code)) }
-{
-    match path_in(alloc, folder, name) {
-        Ok(path) => {
-            *place = found(alloc, disk, path.as_str(), err)?;
-            Ok(())
-        }
-        Err(_) => Err(tell_short(err)),
-    }
-}
-
-/// Reads a file that an option names to its field. It has to be there; without the option there is none.
-pub(crate) fn own_file<D: Disk, E: Write>(
-    alloc: Global,
-    disk: &D,
-    path: &Option<String>,
-    place: &mut Option<Vec<u8>>,
-    err: &mut E,
-) -> Result<(), ExitCode>
-    ensures file { OnOk result (spec.IsOwn (D.finds disk.now) (option_map string_bytes path.now) (option_map (λ bytes. bytes.items) place.new)) }
-    ensures limit { OnOk result (limit.IsWithinLimit (option_map (λ bytes. bytes.items) place.new)) }
-    ensures quiet { OnOk result (err.new ≡ err.old) }
-    ensures unread { IfErr result (λ code. spec.IsUnread (D.finds disk.now) (spec.own_asks (option_map string_bytes path.now)) (E.contents err.old) (E.contents err.new) (exit_status code)) }
-{
-    match path {
-        Some(path) => *place = Some(there(alloc, disk, path.as_str(), err)?),
-        None => *place = None,
-    }
+    files.stops = feed_file(alloc, disk, folder, "stops.txt")?;
+    files.routes = feed_file(alloc, disk, folder, "routes.txt")?;
+    files.calendar = feed_file(alloc, disk, folder, "calendar.txt")?;
+    files.calendar_dates = feed_file(alloc, disk, folder, "calendar_dates.txt")?;
+    files.trips = feed_file(alloc, disk, folder, "trips.txt")?;
+    files.stop_times = feed_file(alloc, disk, folder, "stop_times.txt")?;
+    files.frequencies = feed_file(alloc, disk, folder, "frequencies.txt")?;
+    files.transfers = feed_file(alloc, disk, folder, "transfers.txt")?;
     Ok(())
 }
 
-/// Reads the scenario files, which have to be there, with the names of their scenarios.
-pub(crate) fn scenario_files<D: Disk, E: Write>(
+/// A file of a feed, if it is found.
+fn feed_file<'a, D: Disk>(
     alloc: Global,
     disk: &D,
-    paths: &[String],
+    folder: &'a str,
+    name: &str,
+) -> Result<Option<Vec<u8>>, Unread<'a>>
+    ensures file { IfOk result (λ file. D.finds disk.now (paths.path_in folder.now name.now) (Ok (option_map (λ bytes. bytes.items) file))) }
+    ensures limit { IfOk result (λ file. limit.IsWithinLimit (option_map (λ bytes. bytes.items) file)) }
+    ensures unread { IfErr result (λ unread. spec.IsWhyUnread (D.finds disk.now) (spec.Optional (paths.path_in folder.now name.now) ∷ []) unread) }
+{
+    match path_in(alloc, folder, name) {
+        Ok(path) => match disk.find(alloc, path.as_str()) {
+            Ok(file) => Ok(file),
+            Err(fault) => Err(Unread::Feed(path, fault)),
+        },
+        Err(_) => Err(Unread::Memory),
+    }
+}
+
+/// A file that an option names. It has to be there; without the option there is none.
+pub(crate) fn own_file<'a, D: Disk>(
+    alloc: Global,
+    disk: &D,
+    path: &'a Option<String>,
+) -> Result<Option<Vec<u8>>, Unread<'a>>
+    ensures file { IfOk result (λ file. spec.IsOwn (D.finds disk.now) (option_map string_bytes path.now) (option_map (λ bytes. bytes.items) file)) }
+    ensures limit { IfOk result (λ file. limit.IsWithinLimit (option_map (λ bytes. bytes.items) file)) }
+    ensures unread { IfErr result (λ unread. spec.NamesUnread (D.finds disk.now) (spec.own_asks (option_map string_bytes path.now)) unread) }
+{
+    match path {
+        Some(path) => Ok(Some(there(alloc, disk, path.as_str())?)),
+        None => Ok(None),
+    }
+}
+
+/// Reads the scenario files, which have to be there, with the names of their scenarios.
+pub(crate) fn scenario_files<'a, D: Disk>(
+    alloc: Global,
+    disk: &D,
+    paths: &'a [String],
     files: &mut Vec<NamedFile>,
-    err: &mut E,
-) -> Result<(), ExitCode>
+) -> Result<(), Unread<'a>>
     requires { files.old.items ≡ [] }
     ensures files { OnOk result (spec.AreScenarios (D.finds disk.now) (map string_bytes paths.now) files.new.items) }
-    ensures limit { OnOk result (All (λ f. length f.bytes ≤ 1073741824) files.new.items) }
-    ensures quiet { OnOk result (err.new ≡ err.old) }
-    ensures unread { IfErr result (λ code. spec.AreUnread (D.finds disk.now) (spec.scenario_asks (map string_bytes paths.now)) (E.contents err.old) (E.contents err.new) (exit_status code)) }
+    ensures limit { OnOk result (All (λ f. limit.IsWithinLimit (Some f.bytes)) files.new.items) }
+    ensures unread { IfErr result (λ unread. spec.IsWhyUnread (D.finds disk.now) (spec.scenario_asks (map string_bytes paths.now)) unread) }
 {
     for path in paths {
-        let file = scenario_file(alloc, disk, path.as_str(), err)?;
+        let file = scenario_file(alloc, disk, path.as_str())?;
         if files.push(file).is_err() {
-            return Err(tell_short(err));
+            return Err(Unread::Memory);
         }
     }
     Ok(())
 }
 
 /// A scenario file, with the name of its scenario.
-fn scenario_file<D: Disk, E: Write>(
+fn scenario_file<'a, D: Disk>(
     alloc: Global,
     disk: &D,
-    path: &str,
-    err: &mut E,
-) -> Result<NamedFile, ExitCode>
+    path: &'a str,
+) -> Result<NamedFile, Unread<'a>>
     ensures file { IfOk result (λ file. (file.name ≡ paths.scenario_of path.now) × D.finds disk.now path.now (Ok (Some file.bytes))) }
-    ensures limit { IfOk result (λ file. length file.bytes ≤ 1073741824) }
-    ensures quiet { OnOk result (err.new ≡ err.old) }
-    ensures unread { IfErr result (λ code. spec.AreUnread (D.finds disk.now) (spec.Needed path.now ∷ []) (E.contents err.old) (E.contents err.new) (exit_status code)) }
+    ensures limit { IfOk result (λ file. limit.IsWithinLimit (Some file.bytes)) }
+    ensures unread { IfErr result (λ unread. spec.IsWhyUnread (D.finds disk.now) (spec.Needed path.now ∷ []) unread) }
 {
-    let bytes = there(alloc, disk, path, err)?;
+    let bytes = there(alloc, disk, path)?;
     match Vec::from_slice(alloc, scenario_of(path.as_bytes())) {
         Ok(name) => Ok(NamedFile { name, bytes }),
-        Err(_) => Err(tell_short(err)),
+        Err(_) => Err(Unread::Memory),
     }
 }
 
 /// A file that has to be there.
-fn there<D: Disk, E: Write>(
-    alloc: Global,
-    disk: &D,
-    path: &str,
-    err: &mut E,
-) -> Result<Vec<u8>, ExitCode>
+fn there<'a, D: Disk>(alloc: Global, disk: &D, path: &'a str) -> Result<Vec<u8>, Unread<'a>>
     ensures file { IfOk result (λ bytes. D.finds disk.now path.now (Ok (Some bytes.items))) }
-    ensures limit { IfOk result (λ bytes. length bytes.items ≤ 1073741824) }
-    ensures quiet { OnOk result (err.new ≡ err.old) }
-    ensures unread { IfErr result (λ code. spec.IsUnread (D.finds disk.now) (spec.Needed path.now ∷ []) (E.contents err.old) (E.contents err.new) (exit_status code)) }
-{
-    match found(alloc, disk, path, err)? {
-        Some(bytes) => Ok(bytes),
-        None => Err(not_read(alloc, path, &ReadFault::Read, err)),
-    }
-}
-
-/// A file, if it is found.
-fn found<D: Disk, E: Write>(
-    alloc: Global,
-    disk: &D,
-    path: &str,
-    err: &mut E,
-) -> Result<Option<Vec<u8>>, ExitCode>
-    ensures file { IfOk result (λ file. D.finds disk.now path.now (Ok (option_map (λ bytes. bytes.items) file))) }
-    ensures limit { IfOk result (λ file. limit.IsWithinLimit (option_map (λ bytes. bytes.items) file)) }
-    ensures quiet { OnOk result (err.new ≡ err.old) }
-    ensures unread { IfErr result (λ code. spec.IsUnread (D.finds disk.now) (spec.Optional path.now ∷ []) (E.contents err.old) (E.contents err.new) (exit_status code)) }
+    ensures limit { IfOk result (λ bytes. limit.IsWithinLimit (Some bytes.items)) }
+    ensures unread { IfErr result (λ unread. spec.NamesUnread (D.finds disk.now) (spec.Needed path.now ∷ []) unread) }
 {
     match disk.find(alloc, path) {
-        Ok(file) => Ok(file),
-        Err(fault) => Err(not_read(alloc, path, &fault, err)),
+        Ok(Some(bytes)) => Ok(bytes),
+        Ok(None) => Err(Unread::Own(path, ReadFault::Read)),
+        Err(fault) => Err(Unread::Own(path, fault)),
     }
-}
-
-/// Tells why a file isn't read.
-fn not_read<E: Write>(alloc: Global, path: &str, fault: &ReadFault, err: &mut E) -> ExitCode
-    ensures status { exit_status result ≡ read_status fault.now }
-    ensures line { spec.TellsLine (E.contents err.old) (E.contents err.new) (line (path_rest path.now fault.now)) }
-{
-    tell_made(path_line(alloc, path, fault), path_status(fault), err)
 }

@@ -1,67 +1,63 @@
-use Rattle.std.proofs.Common.{ap}
-use Rattle.std.proofs.lemmas.Result.{IfErr-weaker, err_from_is_err_and, on_ok_weaker}
-use Rattle.ttm.proofs.Unread.{before, later}
+use Rattle.std.proofs.Common.{drop, take}
+use Rattle.std.proofs.lemmas.Result.{err_from_is_err_and}
+use Rattle.ttm.specs.Files.{feed_asks}
+use Rattle.ttm.proofs.FirstUnread.{after, before}
 use Rattle.ttm.proofs.reading.read_feed_files.Goals as goal
 
-pub returns-in_err-feed_file-2-clause-unread : goal.returns-in_err-feed_file-2-clause-unread
-returns-in_err-feed_file-2-clause-unread g c =
+pub returns-in_err-files-4-clause-unread : goal.returns-in_err-files-4-clause-unread
+returns-in_err-files-4-clause-unread g c =
     let finds = g.D.Disk.finds c.args.disk.now in
-    let contents = g.E.Write.contents in
-    let exit = err_from_is_err_and c.from_residual-in_err-feed_file-2.result c.from_residual-in_err-feed_file-2.ensures.1 in
-    rw (exit.1, exit.2) (later finds _ _ _ _ _ _ (_, c.in_ok-feed_file.ensures.file) (ap contents c.in_ok-feed_file.ensures.quiet) (before finds _ _ _ _ _ c.in_err-feed_file-2.ensures.unread))
+    let asks = feed_asks c.args.folder.now in
+    let exit = err_from_is_err_and c.from_residual-in_err-files-4.result c.from_residual-in_err-files-4.ensures.1 in
+    rw (exit.1, exit.2)
+    (after finds (take 3 asks) (drop 3 asks) _ ((_, c.in_ok-files.ensures.file), ((_, c.in_ok-files-2.ensures.file), ((_, c.in_ok-files-3.ensures.file), tt)))
+    (before finds (take 1 (drop 3 asks)) (drop 4 asks) _ c.in_err-files-4.ensures.unread))
 
-pub returns-in_err-feed_file-3-clause-unread : goal.returns-in_err-feed_file-3-clause-unread
-returns-in_err-feed_file-3-clause-unread g c =
+pub returns-in_err-files-5-clause-unread : goal.returns-in_err-files-5-clause-unread
+returns-in_err-files-5-clause-unread g c =
     let finds = g.D.Disk.finds c.args.disk.now in
-    let contents = g.E.Write.contents in
-    let exit = err_from_is_err_and c.from_residual-in_err-feed_file-3.result c.from_residual-in_err-feed_file-3.ensures.1 in
-    rw (exit.1, exit.2) (later finds _ _ _ _ _ _ (_, c.in_ok-feed_file.ensures.file) (ap contents c.in_ok-feed_file.ensures.quiet) (later finds _ _ _ _ _ _ (_, c.in_ok-feed_file-2.ensures.file) (ap contents c.in_ok-feed_file-2.ensures.quiet) (before finds _ _ _ _ _ c.in_err-feed_file-3.ensures.unread)))
+    let asks = feed_asks c.args.folder.now in
+    let exit = err_from_is_err_and c.from_residual-in_err-files-5.result c.from_residual-in_err-files-5.ensures.1 in
+    rw (exit.1, exit.2)
+    (after finds (take 4 asks) (drop 4 asks) _ ((_, c.in_ok-files.ensures.file), ((_, c.in_ok-files-2.ensures.file), ((_, c.in_ok-files-3.ensures.file), ((_, c.in_ok-files-4.ensures.file), tt))))
+    (before finds (take 1 (drop 4 asks)) (drop 5 asks) _ c.in_err-files-5.ensures.unread))
 
-pub returns-in_err-feed_file-4-clause-unread : goal.returns-in_err-feed_file-4-clause-unread
-returns-in_err-feed_file-4-clause-unread g c =
+pub returns-in_err-files-6-clause-unread : goal.returns-in_err-files-6-clause-unread
+returns-in_err-files-6-clause-unread g c =
     let finds = g.D.Disk.finds c.args.disk.now in
-    let contents = g.E.Write.contents in
-    let exit = err_from_is_err_and c.from_residual-in_err-feed_file-4.result c.from_residual-in_err-feed_file-4.ensures.1 in
-    rw (exit.1, exit.2) (later finds _ _ _ _ _ _ (_, c.in_ok-feed_file.ensures.file) (ap contents c.in_ok-feed_file.ensures.quiet) (later finds _ _ _ _ _ _ (_, c.in_ok-feed_file-2.ensures.file) (ap contents c.in_ok-feed_file-2.ensures.quiet) (later finds _ _ _ _ _ _ (_, c.in_ok-feed_file-3.ensures.file) (ap contents c.in_ok-feed_file-3.ensures.quiet) (before finds _ _ _ _ _ c.in_err-feed_file-4.ensures.unread))))
+    let asks = feed_asks c.args.folder.now in
+    let exit = err_from_is_err_and c.from_residual-in_err-files-6.result c.from_residual-in_err-files-6.ensures.1 in
+    rw (exit.1, exit.2)
+    (after finds (take 5 asks) (drop 5 asks) _ ((_, c.in_ok-files.ensures.file), ((_, c.in_ok-files-2.ensures.file), ((_, c.in_ok-files-3.ensures.file), ((_, c.in_ok-files-4.ensures.file), ((_, c.in_ok-files-5.ensures.file), tt)))))
+    (before finds (take 1 (drop 5 asks)) (drop 6 asks) _ c.in_err-files-6.ensures.unread))
 
-pub returns-in_err-feed_file-5-clause-unread : goal.returns-in_err-feed_file-5-clause-unread
-returns-in_err-feed_file-5-clause-unread g c =
+pub returns-in_err-files-7-clause-unread : goal.returns-in_err-files-7-clause-unread
+returns-in_err-files-7-clause-unread g c =
     let finds = g.D.Disk.finds c.args.disk.now in
-    let contents = g.E.Write.contents in
-    let exit = err_from_is_err_and c.from_residual-in_err-feed_file-5.result c.from_residual-in_err-feed_file-5.ensures.1 in
-    rw (exit.1, exit.2) (later finds _ _ _ _ _ _ (_, c.in_ok-feed_file.ensures.file) (ap contents c.in_ok-feed_file.ensures.quiet) (later finds _ _ _ _ _ _ (_, c.in_ok-feed_file-2.ensures.file) (ap contents c.in_ok-feed_file-2.ensures.quiet) (later finds _ _ _ _ _ _ (_, c.in_ok-feed_file-3.ensures.file) (ap contents c.in_ok-feed_file-3.ensures.quiet) (later finds _ _ _ _ _ _ (_, c.in_ok-feed_file-4.ensures.file) (ap contents c.in_ok-feed_file-4.ensures.quiet) (before finds _ _ _ _ _ c.in_err-feed_file-5.ensures.unread)))))
+    let asks = feed_asks c.args.folder.now in
+    let exit = err_from_is_err_and c.from_residual-in_err-files-7.result c.from_residual-in_err-files-7.ensures.1 in
+    rw (exit.1, exit.2)
+    (after finds (take 6 asks) (drop 6 asks) _ ((_, c.in_ok-files.ensures.file), ((_, c.in_ok-files-2.ensures.file), ((_, c.in_ok-files-3.ensures.file), ((_, c.in_ok-files-4.ensures.file), ((_, c.in_ok-files-5.ensures.file), ((_, c.in_ok-files-6.ensures.file), tt))))))
+    (before finds (take 1 (drop 6 asks)) (drop 7 asks) _ c.in_err-files-7.ensures.unread))
 
-pub returns-in_err-feed_file-6-clause-unread : goal.returns-in_err-feed_file-6-clause-unread
-returns-in_err-feed_file-6-clause-unread g c =
+pub returns-in_err-files-8-clause-unread : goal.returns-in_err-files-8-clause-unread
+returns-in_err-files-8-clause-unread g c =
     let finds = g.D.Disk.finds c.args.disk.now in
-    let contents = g.E.Write.contents in
-    let exit = err_from_is_err_and c.from_residual-in_err-feed_file-6.result c.from_residual-in_err-feed_file-6.ensures.1 in
-    rw (exit.1, exit.2) (later finds _ _ _ _ _ _ (_, c.in_ok-feed_file.ensures.file) (ap contents c.in_ok-feed_file.ensures.quiet) (later finds _ _ _ _ _ _ (_, c.in_ok-feed_file-2.ensures.file) (ap contents c.in_ok-feed_file-2.ensures.quiet) (later finds _ _ _ _ _ _ (_, c.in_ok-feed_file-3.ensures.file) (ap contents c.in_ok-feed_file-3.ensures.quiet) (later finds _ _ _ _ _ _ (_, c.in_ok-feed_file-4.ensures.file) (ap contents c.in_ok-feed_file-4.ensures.quiet) (later finds _ _ _ _ _ _ (_, c.in_ok-feed_file-5.ensures.file) (ap contents c.in_ok-feed_file-5.ensures.quiet) (before finds _ _ _ _ _ c.in_err-feed_file-6.ensures.unread))))))
-
-pub returns-in_err-feed_file-7-clause-unread : goal.returns-in_err-feed_file-7-clause-unread
-returns-in_err-feed_file-7-clause-unread g c =
-    let finds = g.D.Disk.finds c.args.disk.now in
-    let contents = g.E.Write.contents in
-    let exit = err_from_is_err_and c.from_residual-in_err-feed_file-7.result c.from_residual-in_err-feed_file-7.ensures.1 in
-    rw (exit.1, exit.2) (later finds _ _ _ _ _ _ (_, c.in_ok-feed_file.ensures.file) (ap contents c.in_ok-feed_file.ensures.quiet) (later finds _ _ _ _ _ _ (_, c.in_ok-feed_file-2.ensures.file) (ap contents c.in_ok-feed_file-2.ensures.quiet) (later finds _ _ _ _ _ _ (_, c.in_ok-feed_file-3.ensures.file) (ap contents c.in_ok-feed_file-3.ensures.quiet) (later finds _ _ _ _ _ _ (_, c.in_ok-feed_file-4.ensures.file) (ap contents c.in_ok-feed_file-4.ensures.quiet) (later finds _ _ _ _ _ _ (_, c.in_ok-feed_file-5.ensures.file) (ap contents c.in_ok-feed_file-5.ensures.quiet) (later finds _ _ _ _ _ _ (_, c.in_ok-feed_file-6.ensures.file) (ap contents c.in_ok-feed_file-6.ensures.quiet) (before finds _ _ _ _ _ c.in_err-feed_file-7.ensures.unread)))))))
-
-pub returns-clause-unread : goal.returns-clause-unread
-returns-clause-unread g c =
-    let finds = g.D.Disk.finds c.args.disk.now in
-    let contents = g.E.Write.contents in
-    IfErr-weaker c.feed_file-8.result _ _ (λ code u. (later finds _ _ _ _ _ _ (_, c.in_ok-feed_file.ensures.file) (ap contents c.in_ok-feed_file.ensures.quiet) (later finds _ _ _ _ _ _ (_, c.in_ok-feed_file-2.ensures.file) (ap contents c.in_ok-feed_file-2.ensures.quiet) (later finds _ _ _ _ _ _ (_, c.in_ok-feed_file-3.ensures.file) (ap contents c.in_ok-feed_file-3.ensures.quiet) (later finds _ _ _ _ _ _ (_, c.in_ok-feed_file-4.ensures.file) (ap contents c.in_ok-feed_file-4.ensures.quiet) (later finds _ _ _ _ _ _ (_, c.in_ok-feed_file-5.ensures.file) (ap contents c.in_ok-feed_file-5.ensures.quiet) (later finds _ _ _ _ _ _ (_, c.in_ok-feed_file-6.ensures.file) (ap contents c.in_ok-feed_file-6.ensures.quiet) (later finds _ _ _ _ _ _ (_, c.in_ok-feed_file-7.ensures.file) (ap contents c.in_ok-feed_file-7.ensures.quiet) u)))))))) c.feed_file-8.ensures.unread
+    let asks = feed_asks c.args.folder.now in
+    let exit = err_from_is_err_and c.from_residual-in_err-files-8.result c.from_residual-in_err-files-8.ensures.1 in
+    rw (exit.1, exit.2)
+    (after finds (take 7 asks) (drop 7 asks) _ ((_, c.in_ok-files.ensures.file), ((_, c.in_ok-files-2.ensures.file), ((_, c.in_ok-files-3.ensures.file), ((_, c.in_ok-files-4.ensures.file), ((_, c.in_ok-files-5.ensures.file), ((_, c.in_ok-files-6.ensures.file), ((_, c.in_ok-files-7.ensures.file), tt)))))))
+    c.in_err-files-8.ensures.unread)
 
 pub returns-clause-files : goal.returns-clause-files
 returns-clause-files g c =
-    on_ok_weaker c.feed_file-8.result
-    (λ transfers. record {
-      stops = c.in_ok-feed_file.ensures.file;
-      routes = c.in_ok-feed_file-2.ensures.file;
-      calendar = c.in_ok-feed_file-3.ensures.file;
-      calendar_dates = c.in_ok-feed_file-4.ensures.file;
-      trips = c.in_ok-feed_file-5.ensures.file;
-      stop_times = c.in_ok-feed_file-6.ensures.file;
-      frequencies = c.in_ok-feed_file-7.ensures.file;
-      transfers = transfers;
-    })
-    c.feed_file-8.ensures.file
+    record {
+      stops = c.in_ok-files.ensures.file;
+      routes = c.in_ok-files-2.ensures.file;
+      calendar = c.in_ok-files-3.ensures.file;
+      calendar_dates = c.in_ok-files-4.ensures.file;
+      trips = c.in_ok-files-5.ensures.file;
+      stop_times = c.in_ok-files-6.ensures.file;
+      frequencies = c.in_ok-files-7.ensures.file;
+      transfers = c.in_ok-files-8.ensures.file;
+    }

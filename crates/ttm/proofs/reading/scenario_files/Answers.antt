@@ -1,13 +1,10 @@
-use Rattle.std.proofs.Common.{◌≡◌, ◌∙◌, ◌+◌, ◌++◌, ◌∷◌, [], Ok, Some, arith, drop, inr, map, string_bytes, subst, suc, take}
-use Rattle.std.specs.Process.{exit_status}
+use Rattle.std.proofs.Common.{◌≡◌, ◌+◌, ◌++◌, ◌∷◌, [], Ok, Some, arith, drop, map, string_bytes, subst, suc, take}
 use Rattle.std.proofs.lemmas.Result.{err_from_is_err_and}
 use Rattle.std.proofs.lemmas.Grind.{common_steps}
-use Rattle.command_line.specs.Lines.{line, no_memory}
 use Rattle.command_line.specs.Paths.{scenario_of}
-use Rattle.matrix_text.specs.Prefixes.{PutsPrefix}
-use Rattle.ttm.specs.Files.{AreScenarios, AreUnread, Needed}
+use Rattle.ttm.specs.Files.{AreScenarios, IsWhyUnread, Needed}
 use Rattle.ttm.proofs.Scenarios.{one_more}
-use Rattle.ttm.proofs.Unread.{scenario_unread, split_map}
+use Rattle.ttm.proofs.FirstUnread.{scenario_unread, split_map}
 use Rattle.ttm.proofs.reading.scenario_files.Goals as goal
 
 pub returns-in_err-file-clause-unread : goal.returns-in_err-file-clause-unread
@@ -15,22 +12,11 @@ returns-in_err-file-clause-unread g c =
     let finds = g.D.Disk.finds c.args.disk.now in
     let paths = c.args.paths.now in
     let i = c.loop-path.path-index in
-    let named = subst (λ path. AreUnread finds (Needed path ∷ []) (g.E.Write.contents c.loop-path.err) (g.E.Write.contents c.scenario_file.new.err) (exit_status c.in_err-file.field-0.0))
-    c.as_str.ensures.value c.in_err-file.ensures.unread in
-    let told = subst (λ err. AreUnread finds (Needed (string_bytes c.path-item.result) ∷ []) (g.E.Write.contents err) (g.E.Write.contents c.scenario_file.new.err) (exit_status c.in_err-file.field-0.0))
-    c.loop-path.invariant.quiet named in
+    let why = subst (λ path. IsWhyUnread finds (Needed path ∷ []) c.in_err-file.field-0.0) c.as_str.ensures.value c.in_err-file.ensures.unread in
     let exit = err_from_is_err_and c.from_residual.result c.from_residual.ensures.1 in
     rw (exit.1, exit.2)
     (scenario_unread finds (map string_bytes paths) (map string_bytes (take i paths)) (string_bytes c.path-item.result) (map string_bytes (drop (suc i) paths))
-    c.loop-path.files.items _ _ _ (split_map string_bytes paths i c.path-item.result c.path-item.is (omega arith)) c.loop-path.invariant.files told)
-
-pub returns-then-is_err-clause-unread : goal.returns-then-is_err-clause-unread
-returns-then-is_err-clause-unread g c =
-    inr record {
-      line_is = subst (λ err. PutsPrefix (g.E.Write.contents err) (g.E.Write.contents c.tell_short.new.err) (line no_memory))
-          (c.in_ok-file.ensures.quiet ∙ c.loop-path.invariant.quiet) c.tell_short.ensures.line;
-      status_is = c.tell_short.ensures.status;
-    }
+    c.loop-path.files.items _ (split_map string_bytes paths i c.path-item.result c.path-item.is (omega arith)) c.loop-path.invariant.files why)
 
 pub loop-path-preserved : goal.loop-path-preserved
 loop-path-preserved g c =
@@ -41,8 +27,4 @@ loop-path-preserved g c =
     let named = subst (λ path. (c.in_ok-file.file.name ≡ scenario_of path) × finds path (Ok (Some c.in_ok-file.file.bytes))) c.as_str.ensures.value c.in_ok-file.ensures.file in
     let more : AreScenarios finds (before ++ string_bytes c.path-item.result ∷ []) (c.loop-path.files.items ++ c.in_ok-file.file ∷ []) =
     one_more finds before c.loop-path.files.items (string_bytes c.path-item.result) c.in_ok-file.file c.loop-path.invariant.files named.0 named.1 in
-    record {
-      files = rw (paths, items) more;
-      limit = rw items (grind (arith, common_steps));
-      quiet = c.in_ok-file.ensures.quiet ∙ c.loop-path.invariant.quiet;
-    }
+    record { files = rw (paths, items) more; limit = rw items (grind (arith, common_steps)) }

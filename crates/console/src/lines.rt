@@ -1,41 +1,35 @@
 //! Lines: each has the program's name ahead of what it tells, and a line end.
 
-use crate::console::Console;
+use crate::machine::Console;
 use std::alloc::{AllocError, Global};
 
 /// The most bytes of a name or a value that are shown.
 const MOST_SHOWN: usize = 60;
 
 /// Tells a line, if there was memory for it.
-pub(crate) fn tell_made<C: Console>(console: &C, line: Result<String, AllocError>) {
+pub fn tell_line<C: Console>(console: &C, line: Result<String, AllocError>) {
     if let Ok(line) = line {
         console.tell(line.as_bytes());
     }
 }
 
 /// Tells a number under its name.
-pub(crate) fn tell_count<C: Console>(console: &C, alloc: Global, name: &str, count: u64) {
-    tell_made(console, format!(in alloc; "ttm: {name}: {count}\n"));
+pub fn tell_count<C: Console>(console: &C, alloc: Global, name: &str, count: u64) {
+    tell_line(console, format!(in alloc; "ttm: {name}: {count}\n"));
 }
 
 /// Tells a number under its name and that of what it is of.
-pub(crate) fn tell_count_of<C: Console>(
-    console: &C,
-    alloc: Global,
-    name: &str,
-    of: &str,
-    count: u64,
-) {
-    tell_made(console, format!(in alloc; "ttm: {name} {of}: {count}\n"));
+pub fn tell_count_of<C: Console>(console: &C, alloc: Global, name: &str, of: &str, count: u64) {
+    tell_line(console, format!(in alloc; "ttm: {name} {of}: {count}\n"));
 }
 
 /// Tells a warning.
-pub(crate) fn warn<C: Console>(console: &C, alloc: Global, warning: &str) {
-    tell_made(console, format!(in alloc; "ttm: warning: {warning}\n"));
+pub fn warn<C: Console>(console: &C, alloc: Global, warning: &str) {
+    tell_line(console, format!(in alloc; "ttm: warning: {warning}\n"));
 }
 
 /// A name or a value as it is shown: its first bytes, and `?` for those that are no printed sign of ASCII.
-pub(crate) fn shown(alloc: Global, bytes: &[u8]) -> Result<String, AllocError> {
+pub fn shown(alloc: Global, bytes: &[u8]) -> Result<String, AllocError> {
     let mut text = String::new(alloc);
     for byte in bytes.iter().take(MOST_SHOWN) {
         text.push(shown_byte(*byte))?;

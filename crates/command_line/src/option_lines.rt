@@ -1,16 +1,19 @@
 //! What the line of a bad option can't say: its text as it stands, and what is allowed.
 
-use crate::console::Console;
-use crate::lines::{shown, tell_made};
-use command_line::{Opt, text_of, window_of};
+use crate::numbers::MOST_NUMBERS;
+use crate::task::Opt;
+use crate::window::window_of;
+use crate::words::text_of;
+use console::{Console, shown, tell_line};
 use std::alloc::{AllocError, Global};
+use studies::{MOST_DAYS, MOST_WORKERS};
 use table_records::{number, trim};
+use timetable::MOST_FOOT_SECONDS;
+use work_book::MOST_TRIES;
+use workers::MOST_RIDES;
 
 /// The bytes of a date that has the form of one.
 const DATE_LENGTH: usize = 8;
-
-/// The most numbers that an option lists.
-const MOST_LISTED: usize = 8;
 
 /// What a time of day is.
 const MINUTE: &str = "a time of day is HH:MM, 00:00 to 23:59";
@@ -45,8 +48,7 @@ fn tell_option<C: Console>(console: &C, alloc: Global, words: &[String], option:
     match name_of(option) {
         Some(name) => {
             if let Some(text) = text_at(alloc, words, name) {
-                let allowed = allowed(option, text.as_bytes());
-                tell_made(console, option_line(alloc, name, &text, allowed));
+                tell_line(console, option_line(alloc, name, &text, option));
             }
         }
         None => tell_window(console, alloc, words),
@@ -69,19 +71,26 @@ fn name_of(option: Opt) -> Option<&'static str> {
     }
 }
 
+/// An option whose text is refused.
+fn option_line(alloc: Global, name: &str, text: &str, option: Opt) -> Result<String, AllocError> {
+    let value = shown(alloc, text.as_bytes())?;
+    let allowed = allowed(alloc, option, text.as_bytes())?;
+    format!(in alloc; "ttm: --{name} is \"{value}\"; {allowed}\n")
+}
+
 /// What the text of an option has to be, in words, where it isn't.
-fn allowed(option: Opt, text: &[u8]) -> &'static str {
+fn allowed(alloc: Global, option: Opt, text: &[u8]) -> Result<String, AllocError> {
     match option {
-        Opt::Date => of_date(text),
-        Opt::Window => MINUTE,
-        Opt::Trips => "rides are a whole number, 1 to 8",
-        Opt::Walk => "a walk is whole seconds, 0 to 7200",
-        Opt::Share => of_shares(text),
-        Opt::Within => of_limits(text),
-        Opt::Workers => "workers are a whole number, 1 to 64",
-        Opt::Tries => "tries are a whole number, 1 to 8",
-        Opt::Back => "service days before the date are a whole number, 0 to 6",
-        Opt::Ahead => "service days after the date are a whole number, 0 to 6",
+        Opt::Date => String::from_str(alloc, of_date(text)),
+        Opt::Window => String::from_str(alloc, MINUTE),
+        Opt::Trips => format!(in alloc; "rides are a whole number, 1 to {MOST_RIDES}"),
+        Opt::Walk => format!(in alloc; "a walk is whole seconds, 0 to {MOST_FOOT_SECONDS}"),
+        Opt::Share => of_list(alloc, text, "shares"),
+        Opt::Within => of_list(alloc, text, "limits"),
+        Opt::Workers => format!(in alloc; "workers are a whole number, 1 to {MOST_WORKERS}"),
+        Opt::Tries => format!(in alloc; "tries are a whole number, 1 to {MOST_TRIES}"),
+        Opt::Back => of_days(alloc, "before"),
+        Opt::Ahead => of_days(alloc, "after"),
     }
 }
 
@@ -95,28 +104,22 @@ fn of_date(text: &[u8]) -> &'static str {
     }
 }
 
-/// What is wrong with a list of shares.
-fn of_shares(text: &[u8]) -> &'static str {
+/// What is wrong with a list that is refused. Of limits of access one that ascends isn't.
+fn of_list(alloc: Global, text: &[u8], kind: &str) -> Result<String, AllocError> {
     if !are_numbers(text) {
-        NO_LIST
+        String::from_str(alloc, NO_LIST)
     } else if are_many(text) {
-        "there may be 8 shares"
+        format!(in alloc; "there may be {MOST_NUMBERS} {kind}")
     } else if !ascends(text) {
-        NO_ASCENT
+        String::from_str(alloc, NO_ASCENT)
     } else {
-        "a share is 1 to 100 percent"
+        String::from_str(alloc, "a share is 1 to 100 percent")
     }
 }
 
-/// What is wrong with a list of limits of access.
-fn of_limits(text: &[u8]) -> &'static str {
-    if !are_numbers(text) {
-        NO_LIST
-    } else if are_many(text) {
-        "there may be 8 limits"
-    } else {
-        NO_ASCENT
-    }
+/// How many service days there may be on a side of the date.
+fn of_days(alloc: Global, side: &str) -> Result<String, AllocError> {
+    format!(in alloc; "service days {side} the date are a whole number, 0 to {MOST_DAYS}")
 }
 
 /// Whether the parts of a list are numbers.
@@ -135,7 +138,7 @@ fn are_many(text: &[u8]) -> bool {
     for _ in text.split(|byte| *byte == b',') {
         parts = parts.saturating_add(1);
     }
-    parts > MOST_LISTED
+    parts > MOST_NUMBERS
 }
 
 /// Whether each number of a list is greater than the one before it.
@@ -151,12 +154,6 @@ fn ascends(text: &[u8]) -> bool {
     true
 }
 
-/// An option that is refused.
-fn option_line(alloc: Global, name: &str, text: &str, allowed: &str) -> Result<String, AllocError> {
-    let value = shown(alloc, text.as_bytes())?;
-    format!(in alloc; "ttm: --{name} is \"{value}\"; {allowed}\n")
-}
-
 /// Tells what is wrong with the window: each of its ends that is no time of day, or that they stand the wrong way round.
 fn tell_window<C: Console>(console: &C, alloc: Global, words: &[String]) {
     let Some(from) = text_at(alloc, words, "from") else {
@@ -168,14 +165,14 @@ fn tell_window<C: Console>(console: &C, alloc: Global, words: &[String]) {
     tell_minute(console, alloc, "from", &from);
     tell_minute(console, alloc, "to", &to);
     if is_minute(&from) && is_minute(&to) {
-        tell_made(console, order_line(alloc, &from, &to));
+        tell_line(console, order_line(alloc, &from, &to));
     }
 }
 
 /// Tells what is wrong with an end of the window, if it is no time of day.
 fn tell_minute<C: Console>(console: &C, alloc: Global, name: &str, text: &str) {
     if !is_minute(text) {
-        tell_made(console, option_line(alloc, name, text, MINUTE));
+        tell_line(console, option_line(alloc, name, text, Opt::Window));
     }
 }
 
