@@ -9,7 +9,10 @@ ghost use Rattle.rounds.specs.Last.{AreLastFrom, AreLastRides};
 
 use crate::query::Query;
 use std::alloc::{AllocError, Global};
-use timetable::{Call, Feet, Lines, Network, StopNo, Times};
+use timetable::{Call, END_OF_AXIS, Feet, Lines, MOST_FOOT_SECONDS, Network, StopNo, Times};
+
+/// So many seconds from a departure on, and the longest walk after them, both widths of labels tell.
+const NEAR: u32 = 65_533 - MOST_FOOT_SECONDS;
 
 /// Raises the number of a stop to a time.
 fn raise(last: &mut [u32], stop: usize, time: u32)
@@ -73,10 +76,12 @@ fn walk_on(leaving: &[(StopNo, u32)], time: u32, last: &mut [u32])
     }
 }
 
-/// Fills in after when nobody whom a ride brought is at a stop, there or by a walk.
-fn fill_last(feet: &Feet, ridden: &[u32], last: &mut [u32])
+/// Fills in after when nobody whom a ride brought is at a stop, there or by a walk. For rides that end by `near` the
+/// longest walk after it stands, at each stop.
+fn fill_last(feet: &Feet, ridden: &[u32], near: u32, last: &mut [u32])
     requires ridden { length ridden.now ≡ length feet.now.walks }
     requires last { length last.old ≡ length feet.now.walks }
+    requires near { near ≤ END_OF_AXIS }
     requires few { (p : ℕ) → slice_index ridden.now p ≤ END_OF_AXIS }
     ensures same { length last.new ≡ length last.old }
     ensures rides { (p : ℕ) → p < length last.new → slice_index ridden.now p ≤ slice_index last.new p }
@@ -84,11 +89,13 @@ fn fill_last(feet: &Feet, ridden: &[u32], last: &mut [u32])
     ensures few { (p : ℕ) → slice_index last.new p ≤ END_OF_AXIS + MOST_FOOT_SECONDS }
 {
     feet.known();
-    last.fill(0);
+    last.fill(near + MOST_FOOT_SECONDS);
     for stop in 0..feet.stops() {
         let time = ridden[stop as usize];
-        raise(last, stop as usize, time);
-        walk_on(feet.leaving(StopNo(stop)), time, last);
+        if time > near {
+            raise(last, stop as usize, time);
+            walk_on(feet.leaving(StopNo(stop)), time, last);
+        }
     }
 }
 
@@ -105,9 +112,15 @@ pub(crate) fn fill_last_arrivals(
     ensures few { (p : ℕ) → slice_index last.new p ≤ END_OF_AXIS + MOST_FOOT_SECONDS }
 {
     query.network.known();
-    let mut table = vec![in alloc; 0; query.network.stops() as usize]?;
+    let first = query.window.first;
+    let near = if first < END_OF_AXIS - NEAR {
+        first + NEAR
+    } else {
+        END_OF_AXIS
+    };
+    let mut table = vec![in alloc; near; query.network.stops() as usize]?;
     let ridden = table.as_mut_slice();
     fill_ridden(query.network, query.lines, ridden);
-    fill_last(query.network.feet(), ridden, last);
+    fill_last(query.network.feet(), ridden, near, last);
     Ok(())
 }
