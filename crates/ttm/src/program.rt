@@ -18,7 +18,7 @@ ghost use Rattle.ttm.specs.Files.{IsShort};
 
 use crate::answers::{answer, answer_task};
 use crate::disk::Disk;
-use crate::example::{EXAMPLE_ORIGINS, example_feed, example_settings};
+use crate::example::example_settings;
 use crate::reading::read_files;
 use crate::study_files::StudyFiles;
 use clap::Error;
@@ -27,6 +27,7 @@ use command_line::{
 };
 use matrix_text::put_all;
 use reports::{Console, explain_folder, explain_option};
+use small_feed::{FROM_A, small_files};
 use std::alloc::Global;
 use std::io::{ErrorKind, Write};
 use std::process::ExitCode;
@@ -101,9 +102,9 @@ fn example<T: Threads + Wait + Sync, O: Write, E: Write>(
     ensures quiet { exit_status result ≡ DONE → err.new ≡ err.old }
 {
     let inputs = Inputs {
-        feed: example_feed(),
+        feed: small_files(),
         footpaths: None,
-        origins: Some(EXAMPLE_ORIGINS),
+        origins: Some(FROM_A),
         opportunities: None,
         destinations: None,
         scenarios: &[],
