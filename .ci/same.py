@@ -1,7 +1,7 @@
 #!/usr/bin/env python3
 """Looks that what several places say is the same in all of them.
 
-The small feed of `program_runs.py` is that of each crate that has one; no two crates declare a limit, or the number of
+The small feed of `program_runs.py` is that of the crate `small_feed`; no two crates declare a limit, or the number of
 lanes, of one name; and the help states the limits that the code goes by. The last line is 'N passed, M failed'.
 Standard library only.
 """
@@ -17,7 +17,6 @@ import repository
 from program_runs import FEED
 
 ROOT = Path(__file__).resolve().parent.parent
-WITH_SMALL_FEED = ["ttm", "edge_tests", "growth_trials"]
 OF_TESTS = ["board_trials", "edge_tests", "growth_trials", "matrix_tests", "measure", "network_tests", "table_tests"]
 BYTES = re.compile(r'b"((?:[^"\\]|\\.)*)"', re.DOTALL)
 LIMIT = re.compile(r"(?m)^(?:pub )?const (MOST_\w+|LANES): \w+ = ([\d_]+);")
@@ -57,10 +56,9 @@ def limits_of(sources: dict[str, str]) -> Iterator[tuple[str, str, int]]:
 def judged(root: Path) -> Iterator[tuple[str, bool]]:
     """Each thing that is looked at, and whether it is as it should be."""
     sources = {it: source_of(root, it) for it in repository.crates_of(root)}
-    for crate in WITH_SMALL_FEED:
-        strings = byte_strings(sources[crate])
-        for name, text in FEED.items():
-            yield f"{crate}: {name} of the small feed", text in strings
+    strings = byte_strings(sources["small_feed"])
+    for name, text in FEED.items():
+        yield f"small_feed: {name}", text in strings
     limits: dict[str, int] = {}
     for crate, name, number in limits_of(sources):
         yield f"{crate}: {name} is declared once", name not in limits

@@ -1,45 +1,9 @@
 //! The small feed, and what a test asks of it.
 
-use gtfs_tables::{FeedBytes, read_date};
+use gtfs_tables::read_date;
+use small_feed::{FROM_A, WALKS, small_files};
 use std::alloc::Global;
 use studies::{Inputs, NamedFile, Settings};
-
-const STOPS: &[u8] = b"stop_id,stop_name
-A,Alpha
-B,Beta
-C,Gamma
-";
-
-const ROUTES: &[u8] = b"route_id
-R1
-R2
-";
-
-const CALENDAR: &[u8] =
-    b"service_id,monday,tuesday,wednesday,thursday,friday,saturday,sunday,start_date,end_date
-MON,1,0,0,0,0,0,0,20260504,20260531
-";
-
-const TRIPS: &[u8] = b"route_id,service_id,trip_id
-R1,MON,T1
-R2,MON,T2
-";
-
-const STOP_TIMES: &[u8] = b"trip_id,arrival_time,departure_time,stop_id,stop_sequence
-T1,08:00:00,08:00:00,A,1
-T1,08:10:00,08:10:00,B,2
-T2,08:15:00,08:15:00,B,1
-T2,08:30:00,08:30:00,C,2
-";
-
-const WALKS: &[u8] = b"from_stop_id,to_stop_id,seconds
-A,B,60
-B,C,60
-";
-
-const FROM_A: &[u8] = b"stop_id
-A
-";
 
 /// What is asked: the date, the days before and after it that count, and the shares; and what the console is like: when
 /// its clock begins and by how much it goes on, and what the machine has free.
@@ -69,16 +33,7 @@ pub(crate) const MONDAY: Asked = Asked {
 /// The small feed, with walks, from stop A.
 pub(crate) fn small_inputs() -> Inputs<'static> {
     Inputs {
-        feed: FeedBytes {
-            stops: Some(STOPS),
-            routes: Some(ROUTES),
-            calendar: Some(CALENDAR),
-            calendar_dates: None,
-            trips: Some(TRIPS),
-            stop_times: Some(STOP_TIMES),
-            frequencies: None,
-            transfers: None,
-        },
+        feed: small_files(),
         footpaths: Some(WALKS),
         origins: Some(FROM_A),
         opportunities: None,

@@ -9,7 +9,7 @@
 //! - `trials`: all of them, by name.
 //! - `tables`, `networks`, `searches`, `rows`, `books`, `texts`, `words`: the same by what their calls make.
 //! - `outcomes`: what comes of a trial.
-//! - `small_feed`, `small_networks`, `small_rows`: the inputs that several of them have.
+//! - `small_tables`, `small_networks`, `small_rows`: the inputs that several of them have.
 #![tactic(auto)]
 
 mod books;
@@ -17,9 +17,9 @@ mod networks;
 mod outcomes;
 mod rows;
 mod searches;
-mod small_feed;
 mod small_networks;
 mod small_rows;
+mod small_tables;
 mod tables;
 mod texts;
 mod trials;

@@ -1,7 +1,7 @@
 //! The calls that read tables: `read_feed` reads the small feed, and the others go over it.
 
 use crate::outcomes::{Outcome, told};
-use crate::small_feed::{CUT, FROM_A, LATE, MONDAY, WALKS, small_feed, small_files};
+use crate::small_tables::{CUT, LATE, MONDAY, small_feed};
 use footpaths::direct;
 use gtfs_tables::{
     Feed, FeedTrip, MOST_BYTES, What, file_fits, read_date, read_feed, read_opportunities,
@@ -9,6 +9,7 @@ use gtfs_tables::{
 };
 use scenarios::{Scenario, ScenarioWhat, read_scenario};
 use service_days::{DayFault, Run, active};
+use small_feed::{FROM_A, WALKS, small_files};
 use std::alloc::{AllocError, Global};
 use timetable::{Event, StopNo};
 

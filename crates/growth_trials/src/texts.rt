@@ -1,14 +1,15 @@
 //! The calls that make texts: `write_matrix` of a matrix, `minute_line` and `run_study` of the small feed's files.
 
 use crate::outcomes::{Outcome, told};
-use crate::small_feed::{CUT, FROM_A, MONDAY, small_feed, small_files};
 use crate::small_rows::small_matrix;
+use crate::small_tables::{CUT, MONDAY, small_feed};
 use collector::Matrix;
 use footpaths::FootFault;
 use gtfs_tables::{Feed, What, read_date};
 use matrix_text::{Labels, TextFault, write_matrix};
 use scenarios::ScenarioWhat;
 use service_days::DayFault;
+use small_feed::{FROM_A, small_files};
 use std::alloc::{AllocError, Global};
 use std::sync::Wait;
 use std::thread::Threads;

@@ -1,12 +1,13 @@
 //! The calls of the command line: arguments, paths, files and lines.
 
 use crate::outcomes::{Outcome, told};
-use crate::small_feed::{MONDAY, small_files};
+use crate::small_tables::MONDAY;
 use command_line::{
     DONE, REFUSED, ReadFault, Task, WordFault, fault_line, numbers_of, path_in, path_line,
     read_all, task_of, word_status,
 };
 use gtfs_tables::{FeedFault, FileName, What, read_date};
+use small_feed::small_files;
 use std::alloc::{AllocError, Global};
 use studies::{Inputs, Settings, StudyFault};
 

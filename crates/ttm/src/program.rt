@@ -17,7 +17,7 @@ ghost use Rattle.ttm.specs.Answers as spec;
 ghost use Rattle.ttm.specs.Files.{IsShort};
 
 use crate::answers::{answer, answer_task};
-use crate::example::{EXAMPLE_ORIGINS, example_feed, example_settings};
+use crate::example::example_settings;
 use crate::host::Host;
 use crate::reading::read_files;
 use crate::study_files::StudyFiles;
@@ -28,6 +28,7 @@ use command_line::{
 };
 use matrix_text::put_all;
 use reports::explain_folder;
+use small_feed::{FROM_A, small_files};
 use std::alloc::Global;
 use std::io::{ErrorKind, Write};
 use std::process::ExitCode;
@@ -87,9 +88,9 @@ fn example<H: Host, O: Write, E: Write>(host: &H, out: &mut O, err: &mut E) -> E
     ensures quiet { exit_status result ≡ DONE → err.new ≡ err.old }
 {
     let inputs = Inputs {
-        feed: example_feed(),
+        feed: small_files(),
         footpaths: None,
-        origins: Some(EXAMPLE_ORIGINS),
+        origins: Some(FROM_A),
         opportunities: None,
         destinations: None,
         scenarios: &[],
