@@ -4,8 +4,8 @@ ghost use Rattle.std.specs.Prelude.{◌≡◌, All, length};
 ghost use Rattle.service_days.specs.Instances.{IsRun};
 
 use crate::outcomes::{Outcome, told};
-use crate::small_tables::{CUT, LATE, LIMIT, MONDAY, closed_walks, small_feed, small_walks};
 use crate::small_networks::{FIRST, Ride, SECOND, no_walks, trips_of};
+use crate::small_tables::{CUT, LATE, LIMIT, MONDAY, closed_walks, small_feed, small_walks};
 use footpaths::{Direct, FootFault, close, limit_fits};
 use gtfs_tables::{Feed, MOST_BYTES, read_date};
 use scenarios::{Scenario, base, network_of, read_scenario};
