@@ -9,6 +9,14 @@ pub(crate) struct ScenarioFile {
     pub bytes: Vec<u8>,
 }
 
+/// The bytes of an analyst's own files: none where there is no file of footpaths, or of origins.
+#[derive(Clone, Copy)]
+pub(crate) struct OwnFiles<'a> {
+    pub footpaths: Option<&'a [u8]>,
+    pub origins: Option<&'a [u8]>,
+    pub scenarios: &'a [ScenarioFile],
+}
+
 /// The bytes of a file, none where the argument for its path is `-`.
 pub(crate) fn read_own(rt: &HostRuntime, path: &str) -> io::Result<Option<Vec<u8>>> {
     if path == "-" {

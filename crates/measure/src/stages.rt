@@ -8,7 +8,7 @@ use crate::feed_files::read_feed_files;
 use crate::figures::per_second;
 use crate::networks::make_networks;
 use crate::origins::time_origins;
-use crate::own_files::{ScenarioFile, read_all, read_own};
+use crate::own_files::{OwnFiles, read_all, read_own};
 use crate::rows::time_apart;
 use crate::sizes::{event_count, pair_count};
 use crate::tables::{Tables, names_of, read_tables};
@@ -42,27 +42,18 @@ pub(crate) fn time_study(
     let footpaths = read_own(rt, own[0].as_str())?;
     let origins = read_own(rt, own[1].as_str())?;
     let scenarios = read_all(rt, &own[2..])?;
-    time_files(
-        rt,
-        asked,
-        folder,
-        footpaths.as_deref(),
-        origins.as_deref(),
-        scenarios.as_slice(),
-    )
+    let own = OwnFiles {
+        footpaths: footpaths.as_deref(),
+        origins: origins.as_deref(),
+        scenarios: scenarios.as_slice(),
+    };
+    time_files(rt, asked, folder, own)
 }
 
 // The own files are in memory: the feed's are read.
-fn time_files(
-    rt: &HostRuntime,
-    asked: Asked,
-    folder: &str,
-    footpaths: Option<&[u8]>,
-    origins: Option<&[u8]>,
-    scenarios: &[ScenarioFile],
-) -> io::Result<()> {
+fn time_files(rt: &HostRuntime, asked: Asked, folder: &str, own: OwnFiles<'_>) -> io::Result<()> {
     let files = read_feed_files(rt, folder)?;
-    time_reading(rt, asked, &files.bytes(), footpaths, origins, scenarios)
+    time_reading(rt, asked, &files.bytes(), own)
 }
 
 // All files are in memory: the feed is read from them.
@@ -70,9 +61,7 @@ fn time_reading(
     rt: &HostRuntime,
     asked: Asked,
     files: &FeedBytes<'_>,
-    footpaths: Option<&[u8]>,
-    origins: Option<&[u8]>,
-    scenarios: &[ScenarioFile],
+    own: OwnFiles<'_>,
 ) -> io::Result<()> {
     if !files.fits() {
         return refuse(rt, "a file is too long");
@@ -80,7 +69,7 @@ fn time_reading(
     let start = Instant::now(rt)?;
     match read_feed(rt.alloc(), files) {
         Ok(feed) => {
-            let timed = time_tables(rt, asked, &feed, footpaths, origins, scenarios, start);
+            let timed = time_tables(rt, asked, &feed, own, start);
             drop(feed);
             timed
         }
@@ -93,12 +82,10 @@ fn time_tables(
     rt: &HostRuntime,
     asked: Asked,
     feed: &Feed,
-    footpaths: Option<&[u8]>,
-    origins: Option<&[u8]>,
-    scenarios: &[ScenarioFile],
+    own: OwnFiles<'_>,
     start: Instant,
 ) -> io::Result<()> {
-    match read_tables(rt.alloc(), feed, footpaths, origins, scenarios) {
+    match read_tables(rt.alloc(), feed, own) {
         Ok(tables) => time_days(rt, asked, feed, &tables, start),
         Err(fault) => tell_fault(rt, &fault),
     }
@@ -148,7 +135,10 @@ fn time_walks(
     }
     let start = Instant::now(rt)?;
     match close(rt.alloc(), &tables.direct, asked.walk) {
-        Ok(feet) => time_networks(rt, asked, feed, tables, runs, &feet, start),
+        Ok(feet) => {
+            tell_stage(rt, "walks", start)?;
+            time_networks(rt, asked, feed, tables, runs, &feet)
+        }
         Err(fault) => tell_fault(rt, &fault),
     }
 }
@@ -161,11 +151,9 @@ fn time_networks(
     tables: &Tables,
     runs: &[Run],
     feet: &Feet,
-    start: Instant,
 ) -> io::Result<()>
     requires { All (IsRun feed.now) runs.now }
 {
-    tell_stage(rt, "walks", start)?;
     tell(rt, "closed pairs", pair_count(feet))?;
     if feet.stops() != feed.stop_count() {
         return refuse(rt, "the footpaths are of other stops");

@@ -1,6 +1,6 @@
 //! What the analyst's own files state for a feed.
 
-use crate::own_files::ScenarioFile;
+use crate::own_files::{OwnFiles, ScenarioFile};
 use footpaths::{Direct, direct};
 use gtfs_tables::{Feed, FeedFault, MOST_BYTES, file_fits, read_origins};
 use scenarios::{Scenario, ScenarioFault, base, read_scenario};
@@ -37,14 +37,12 @@ pub(crate) struct Tables {
 pub(crate) fn read_tables(
     alloc: Global,
     feed: &Feed,
-    footpaths: Option<&[u8]>,
-    origins: Option<&[u8]>,
-    scenarios: &[ScenarioFile],
+    own: OwnFiles<'_>,
 ) -> Result<Tables, TableFault> {
-    let direct = read_footpaths(alloc, feed, footpaths)?;
-    let origins = origins_of(alloc, feed, origins)?;
+    let direct = read_footpaths(alloc, feed, own.footpaths)?;
+    let origins = origins_of(alloc, feed, own.origins)?;
     let destinations = origins_of(alloc, feed, None)?;
-    let scenarios = read_scenarios(alloc, feed, scenarios)?;
+    let scenarios = read_scenarios(alloc, feed, own.scenarios)?;
     Ok(Tables {
         direct,
         origins,
