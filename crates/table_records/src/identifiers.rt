@@ -105,8 +105,7 @@ impl Identifiers {
     }
 }
 
-// Whether two identifiers are equal. Nearly all have 4 to 16 bytes, which their last and their first ones tell in two steps:
-// the last first, as identifiers that follow one another mostly begin alike.
+// Whether two identifiers are equal. Nearly all have 4 to 16 bytes, which their first and their last ones tell in two steps.
 fn are_equal(a: &[u8], b: &[u8]) -> bool
     ensures { IsTrue result → a.now ≡ b.now }
 {
@@ -128,7 +127,7 @@ fn ends_are_equal<const N: usize>(a: &[u8], b: &[u8]) -> bool
     ensures { IsTrue result → a.now ≡ b.now }
 {
     match (a.split_first_chunk::<N>(), b.split_first_chunk::<N>()) {
-        (Some((a_first, _)), Some((b_first, _))) => last_are_equal::<N>(a, b) && a_first == b_first,
+        (Some((a_first, _)), Some((b_first, _))) => a_first == b_first && last_are_equal::<N>(a, b),
         _ => a == b,
     }
 }
