@@ -8,4 +8,4 @@ pub mod Told
 pub mod Times
 pub mod MarkFacts
 pub mod OriginFacts
-pub mod OpportunityFacts
+pub mod NamedFacts

@@ -3,7 +3,7 @@ use Rattle.std.specs.Prelude.{is_none}
 use Rattle.std.specs.List.{list_any}
 use Rattle.std.specs.Str.{bytes_eq}
 use Rattle.table_records.proofs.CheckFacts.{also, by_check, by_others, only}
-use Rattle.gtfs_tables.specs.Origins.{row_of, stops_named}
+use Rattle.gtfs_tables.specs.NamedStops.{row_of, stops_named}
 use Rattle.gtfs_tables.proofs.origins.origin_checks.Goals as goal
 
 pub returns-clause-explains : goal.returns-clause-explains
