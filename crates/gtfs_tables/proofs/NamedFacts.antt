@@ -10,7 +10,7 @@ use Rattle.table_records.specs.Faults.{IsFirst}
 use Rattle.table_records.specs.declared.fault.What.{What}
 use Rattle.table_records.specs.declared.fault.What.TheVariants as what
 use Rattle.table_records.specs.Fields.{number_of}
-use Rattle.table_files.specs.Services.{number_in}
+use Rattle.table_records.specs.Identifiers.{number_in}
 use Rattle.timetable.specs.declared.trips.StopNo.{StopNo}
 use Rattle.gtfs_tables.specs.NamedStops.{AreMarked, AreNamed, NamedRow, at_stop, checks, count_of, named_stop, stop_checks, stops_named}
 use Rattle.gtfs_tables.specs.declared.named_stops.NamedList.{NamedList}
