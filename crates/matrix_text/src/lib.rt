@@ -1,7 +1,7 @@
 //! The text of a matrix: comma-separated records, a header and then one line per scenario, origin and share.
 //!
 //! - `text`: [`write_matrix`], line after line.
-//! - `labels`: [`Labels`], what names the rows and the columns.
+//! - `labels`: [`Labels`], what names the rows and the columns; [`Labels::fit`] is a door for other programs.
 //! - `lines`: one line, formed whole before it is put out.
 //! - `output`: [`put_all`], bytes put out whole.
 //! - `faults`: [`TextFault`], why a text wasn't written.

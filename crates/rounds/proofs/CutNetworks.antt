@@ -13,11 +13,11 @@ use Rattle.timetable.specs.declared.limits.TheConstants.{END_OF_AXIS}
 use Rattle.timetable.specs.Trips.{EventsRise}
 use Rattle.timetable.specs.Networks.{Net, IsNet, IsEvent}
 use Rattle.timetable.specs.Lines.{Line, LineTable, Follows, IsLine, AreLines, IsPlace, AreBoarded, AreLinesOf}
-use Rattle.timetable.specs.LineViews.{events_of, rows_of_line, IsViewOf as IsLineView}
+use Rattle.timetable.specs.LineViews.{events_of, rows_of_line, IsAt, IsViewOf}
 use Rattle.trip_lanes.specs.Cut.{cut}
-use Rattle.trip_lanes.specs.Rows.{IsAt, NoneOvertakes, IsCutViewOf}
+use Rattle.trip_lanes.specs.Rows.{NoneOvertakes, IsCutViewOf}
 use Rattle.rounds.specs.Cut.{cut_event, cut_trip, cut_net}
-use Rattle.rounds.proofs.Lined.{at_line, none_overtakes}
+use Rattle.rounds.proofs.Lined.{none_overtakes}
 
 -- what stands in a mapped list comes from what stands there in the list
 pub map_got : {A B : Type 0} (f : A → B) (xs : List A) (k : ℕ) (y : B) → slice_get (map f xs) k ≡ Some y → (x : A) × (slice_get xs k ≡ Some x) × (f x ≡ y)
@@ -171,18 +171,18 @@ module _ (base cap : ℕ) where
       (f.0, record { row = own.0; trip = own.1; event = f.1 }, f.2)
 
   -- the calls of a line show its cut trips, and its times do when they are cut
-  pub cut_line_view : (trips : List Trip) (line : List ℕ) (calls : List Call) (times : List Times) → IsLineView (rows_of_line trips line) calls times → IsCutViewOf base cap (rows_of_line (map (cut_trip base cap) trips) line) calls times
+  pub cut_line_view : (trips : List Trip) (line : List ℕ) (calls : List Call) (times : List Times) → IsViewOf (rows_of_line trips line) calls times → IsCutViewOf base cap (rows_of_line (map (cut_trip base cap) trips) line) calls times
   cut_line_view trips line calls times v =
       record {
         places = λ r row h.
             let own = cut_row_got trips line r row h in
             rw (← own.2) (length-map own.0 (cut_event base cap) ∙ v.places r own.0 own.1);
         size = v.size ∙ ap (λ m. m * length calls) (sym (cut_rows_long trips line));
-        stop = λ r j e c h g. let f = cut_at_got trips line r j e h in v.stop r j f.0 c (at_line f.1) g ∙ ap (λ (x : Event). x.stop.0) f.2;
-        board = λ r j e c h g. let f = cut_at_got trips line r j e h in v.board r j f.0 c (at_line f.1) g ∙ ap (λ (x : Event). x.board) f.2;
-        alight = λ r j e c h g. let f = cut_at_got trips line r j e h in v.alight r j f.0 c (at_line f.1) g ∙ ap (λ (x : Event). x.alight) f.2;
-        arrival = λ r j e h. let f = cut_at_got trips line r j e h in ap (cut base cap) (v.arrival r j f.0 (at_line f.1)) ∙ ap (λ (x : Event). x.arrive) f.2;
-        departure = λ r j e h. let f = cut_at_got trips line r j e h in ap (cut base cap) (v.departure r j f.0 (at_line f.1)) ∙ ap (λ (x : Event). x.depart) f.2;
+        stop = λ r j e c h g. let f = cut_at_got trips line r j e h in v.stop r j f.0 c f.1 g ∙ ap (λ (x : Event). x.stop.0) f.2;
+        board = λ r j e c h g. let f = cut_at_got trips line r j e h in v.board r j f.0 c f.1 g ∙ ap (λ (x : Event). x.board) f.2;
+        alight = λ r j e c h g. let f = cut_at_got trips line r j e h in v.alight r j f.0 c f.1 g ∙ ap (λ (x : Event). x.alight) f.2;
+        arrival = λ r j e h. let f = cut_at_got trips line r j e h in ap (cut base cap) (v.arrival r j f.0 f.1) ∙ ap (λ (x : Event). x.arrive) f.2;
+        departure = λ r j e h. let f = cut_at_got trips line r j e h in ap (cut base cap) (v.departure r j f.0 f.1) ∙ ap (λ (x : Event). x.depart) f.2;
       }
 
   pub cut_none_overtakes : (trips : List Trip) (line : Line) → IsLine trips line → NoneOvertakes (rows_of_line (map (cut_trip base cap) trips) line)

@@ -8,21 +8,17 @@ use Rattle.timetable.specs.declared.views.Call.{Call}
 use Rattle.timetable.specs.declared.views.Times.{Times}
 use Rattle.timetable.specs.Journeys.{IsRide}
 use Rattle.timetable.specs.Lines.{Line, IsLine}
-use Rattle.timetable.specs.LineViews.{events_of, rows_of_line, IsAt as IsLineAt}
+use Rattle.timetable.specs.LineViews.{events_of, rows_of_line, IsAt}
 use Rattle.timetable.specs.Steps.{Lowers}
 use Rattle.timetable.proofs.Known.{all_at}
 use Rattle.timetable.proofs.Lowering.{lowers_alike}
 use Rattle.timetable.proofs.Viewing.{events_at, row_of}
 use Rattle.trip_lanes.specs.Scan.{NothingLower, FallsTo}
-use Rattle.trip_lanes.specs.Rows.{IsAt, IsCutViewOf, NoneOvertakes, CarriesRow, IsCaught, IsPast, NoneCaughtBefore}
+use Rattle.trip_lanes.specs.Rows.{IsCutViewOf, NoneOvertakes, CarriesRow, IsCaught, IsPast, NoneCaughtBefore}
 use Rattle.trip_lanes.proofs.Lining.{at_place, carries_row, line_lowers}
 use Rattle.rounds.specs.Rank.{IsOfRank}
 use Rattle.rounds.specs.Scan.{CarriesLine}
 use Rattle.rounds.proofs.Ranked.{ahead}
-
--- an event of the rows, as the timetable says it
-pub at_line : {rows : List (List Event)} {r j : ℕ} {e : Event} → IsAt rows r j e → IsLineAt rows r j e
-at_line a = record { row = a.row; trip = a.trip; event = a.event }
 
 module _ (trips : List Trip) (line : Line) (is : IsLine trips line) where
   pub rows_long : length (rows_of_line trips line) ≡ length line

@@ -27,15 +27,20 @@ arrivals_in times = map (λ t. t.arrive) times
 abbrev pub departures_in : List Times → List ℕ
 departures_in times = map (λ t. t.depart) times
 
--- calls and times show these trips: the stop and the flags of each position, and the times of one trip after another
-pub record IsViewOf (rows : List (List Event)) (calls : List Call) (times : List Times) : Type 0 where
+-- calls and times show these trips: the stop and the flags of each position, and the times of one trip after another, each as it is
+-- told
+pub record IsToldView (told : ℕ → ℕ) (rows : List (List Event)) (calls : List Call) (times : List Times) : Type 0 where
   pub places : (r : ℕ) (row : List Event) → slice_get rows r ≡ Some row → length row ≡ length calls
   pub size : length times ≡ length rows * length calls
   pub stop : (r j : ℕ) (e : Event) (c : Call) → IsAt rows r j e → slice_get calls j ≡ Some c → c.stop.0 ≡ e.stop.0
   pub board : (r j : ℕ) (e : Event) (c : Call) → IsAt rows r j e → slice_get calls j ≡ Some c → c.board ≡ e.board
   pub alight : (r j : ℕ) (e : Event) (c : Call) → IsAt rows r j e → slice_get calls j ≡ Some c → c.alight ≡ e.alight
-  pub arrival : (r j : ℕ) (e : Event) → IsAt rows r j e → slice_index (arrivals_in times) (r * length calls + j) ≡ e.arrive
-  pub departure : (r j : ℕ) (e : Event) → IsAt rows r j e → slice_index (departures_in times) (r * length calls + j) ≡ e.depart
+  pub arrival : (r j : ℕ) (e : Event) → IsAt rows r j e → told (slice_index (arrivals_in times) (r * length calls + j)) ≡ e.arrive
+  pub departure : (r j : ℕ) (e : Event) → IsAt rows r j e → told (slice_index (departures_in times) (r * length calls + j)) ≡ e.depart
+
+-- the times as they stand
+abbrev pub IsViewOf : List (List Event) → List Call → List Times → Type 0
+IsViewOf rows calls times = IsToldView (λ time. time) rows calls times
 
 -- what an event says of its position
 abbrev pub call_of : Event → Call

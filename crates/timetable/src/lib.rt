@@ -7,6 +7,7 @@
 //! - `faults`: [`NetFault`], why footpaths or a network were refused.
 //! - `limits`: how large all of these may be.
 //! - `least`: [`NEVER`], the label of a stop that isn't reached, and the law that least durations are unique.
+//! - [`Network::serving`], [`Feet::seconds`] and [`are_stops`]: doors for other programs.
 //!
 //! `specs/` has the words of every layer above: what a ride, a journey and a least duration are
 //! (`Journeys`, `Least`), and what one trip, the footpaths and the change times offer in a round (`Steps`).
@@ -33,5 +34,5 @@ pub use limits::{
 };
 pub use lines::Lines;
 pub use networks::Network;
-pub use trips::{Event, Events, StopNo, Trip};
+pub use trips::{Event, Events, StopNo, Trip, are_stops};
 pub use views::{Call, Times};

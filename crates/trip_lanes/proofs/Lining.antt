@@ -4,11 +4,12 @@ use Rattle.std.proofs.lemmas.Bool.{cases_lt}
 use Rattle.std.proofs.lemmas.Option.{same_Some, slice_get_within, slice_get-get_or}
 use Rattle.timetable.specs.declared.trips.Event.{Event}
 use Rattle.timetable.specs.declared.trips.Trip.{Trip}
+use Rattle.timetable.specs.LineViews.{IsAt}
 use Rattle.timetable.specs.Steps.{Lowers, Carries}
 use Rattle.timetable.specs.declared.views.Call.{Call}
 use Rattle.timetable.specs.declared.views.Times.{Times}
 use Rattle.trip_lanes.specs.Scan.{NothingLower, FallsTo}
-use Rattle.trip_lanes.specs.Rows.{IsAt, NoneOvertakes, IsCutViewOf, CarriesRow, IsCaught, IsPast, NoneCaughtBefore}
+use Rattle.trip_lanes.specs.Rows.{NoneOvertakes, IsCutViewOf, CarriesRow, IsCaught, IsPast, NoneCaughtBefore}
 use Rattle.trip_lanes.proofs.Again.{nothing_changes}
 use Rattle.trip_lanes.proofs.Carry.{lane_falls}
 use Rattle.trip_lanes.proofs.Falling.{falls_none, falls_then, lowers_of}

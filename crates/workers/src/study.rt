@@ -6,7 +6,7 @@ ghost use Rattle.workers.specs.Study.{study_of, is_share, SharesFit, LimitsFit, 
 ghost use Rattle.workers.specs.declared.study.TheConstants as limit;
 
 use rounds::Window;
-use timetable::{MOST_STOPS, Network, StopNo};
+use timetable::{MOST_STOPS, Network, StopNo, are_stops};
 
 /// The most scenarios of a study.
 pub const MOST_SCENARIOS: usize = 16;
@@ -60,7 +60,7 @@ pub struct Study<'a> {
 }
 
 impl Study<'_> {
-    /// Whether the study is within the limits.
+    /// A door for other programs: whether the study is within the limits.
     ///
     /// There are at most 16 networks, each with as many stops as there are opportunities; at most 65,535 origins and as many
     /// destinations, each of them one of these stops; the window fits; there are 1 to 8 rides; and the shares and the limits fit.
@@ -81,14 +81,15 @@ impl Study<'_> {
     }
 }
 
-/// Whether these are shares to ask for: 1 to 8 of them, each above the one before, all 1 to 100.
+/// A door for other programs: whether these are shares to ask for, 1 to 8 of them, each above the one before, all 1 to
+/// 100.
 pub fn shares_fit(shares: &[u32]) -> bool
     ensures { IsTrue result ↔ SharesFit shares.now }
 {
     1 <= shares.len() && shares.len() <= MOST_SHARES && are_rising(shares) && are_shares(shares)
 }
 
-/// Whether these are limits to ask for: 1 to 8 of them, each above the one before.
+/// A door for other programs: whether these are limits to ask for, 1 to 8 of them, each above the one before.
 pub fn limits_fit(limits: &[u32]) -> bool
     ensures { IsTrue result ↔ LimitsFit limits.now }
 {
@@ -117,11 +118,4 @@ fn have_stops(networks: &[Network], stops: usize) -> bool
     networks
         .iter()
         .all(|network| network.stops() as usize == stops)
-}
-
-/// Whether each of these is one of so many stops.
-fn are_stops(named: &[StopNo], stops: usize) -> bool
-    ensures { IsTrue result ↔ All (λ o. o.0 < stops) named.now }
-{
-    named.iter().all(|stop| (stop.0 as usize) < stops)
 }

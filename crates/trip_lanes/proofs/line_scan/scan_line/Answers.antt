@@ -5,12 +5,12 @@ use Rattle.std.proofs.lemmas.Option.{slice_get-get_or}
 use Rattle.timetable.specs.declared.trips.Event.{Event}
 use Rattle.trip_lanes.specs.declared.falls.Fall.{Fall}
 use Rattle.timetable.specs.declared.views.Call.{Call}
-use Rattle.timetable.specs.LineViews.{departures_in}
+use Rattle.timetable.specs.LineViews.{departures_in, IsAt}
 use Rattle.trip_lanes.specs.Cut.{cut}
 use Rattle.trip_lanes.specs.Falls.{HasFallen}
 use Rattle.trip_lanes.specs.Lane.{lane, labels_in}
 use Rattle.trip_lanes.specs.Ranks.{Rides, Ascend}
-use Rattle.trip_lanes.specs.Rows.{IsAt, IsCutViewOf, NoneOvertakes, IsCaught}
+use Rattle.trip_lanes.specs.Rows.{IsCutViewOf, NoneOvertakes, IsCaught}
 use Rattle.trip_lanes.proofs.Lower.{row_lane}
 use Rattle.trip_lanes.proofs.Carry.{lane_falls, marks_then}
 use Rattle.trip_lanes.proofs.Lining.{LineAt, at_place, slice_get_row, line_alight, line_pass, line_board, line_stay, line_past}
