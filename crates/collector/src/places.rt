@@ -144,7 +144,7 @@ impl Collector {
         Offer::Kept
     }
 
-    /// The row that a place keeps, if it keeps one.
+    /// A door for other programs: the row that a place keeps, if it keeps one.
     pub fn place(&self, scenario: u32, origin: u32) -> Option<&Row>
         requires scenario { scenario < self.now.scenarios }
         requires origin { origin < self.now.origins }
@@ -253,21 +253,21 @@ impl Matrix {
         self.origins
     }
 
-    /// How many cells each row has for a share.
+    /// A door for other programs: how many cells each row has for a share.
     pub fn width(&self) -> u32
         ensures { result ≡ self.now.width }
     {
         self.width
     }
 
-    /// How many shares each row has.
+    /// A door for other programs: how many shares each row has.
     pub fn shares(&self) -> u32
         ensures { result ≡ self.now.shares }
     {
         self.shares
     }
 
-    /// How many access sums each row has for a share.
+    /// A door for other programs: how many access sums each row has for a share.
     pub fn limits(&self) -> u32
         ensures { result ≡ self.now.limits }
     {

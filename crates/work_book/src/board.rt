@@ -35,14 +35,14 @@ impl Board {
         Ok((board, first))
     }
 
-    /// How many jobs there are.
+    /// A door for other programs: how many jobs there are.
     pub fn jobs(&self) -> u32
         ensures { result ≡ self.now.jobs }
     {
         self.jobs
     }
 
-    /// How often each job is offered.
+    /// A door for other programs: how often each job is offered.
     pub fn tries(&self) -> u32
         ensures { result ≡ self.now.tries }
     {
@@ -142,7 +142,7 @@ impl Board {
         }
     }
 
-    /// What is left when no thread shares the board any more.
+    /// A door for other programs, and what a law speaks of: what is left when no thread shares the board any more.
     pub fn close(self, seat: WorkSeat) -> Closed
         requires board { IsOf self seat }
         ensures size { (result.jobs ≡ self.jobs) × (result.tries ≡ self.tries) }
@@ -173,7 +173,8 @@ impl Board {
 }
 
 impl WorkSeat {
-    /// The seat's share of the board, at least 1. The first seat has 65,536, and each split takes one.
+    /// A door for other programs: the seat's share of the board, at least 1. The first seat has 65,536, and each split
+    /// takes one.
     pub fn share(&self) -> u32
         ensures { result ≡ (seen_by self.now).share }
     {

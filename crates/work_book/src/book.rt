@@ -14,7 +14,8 @@ use crate::steps::{Answer, Step};
 use std::alloc::{AllocError, Global};
 use std::marker::Model;
 
-/// Who drew which number, and which jobs are settled.
+/// Who drew which number, and which jobs are settled, by one thread: the plain form that a [`Board`](crate::Board) is
+/// proved against.
 ///
 /// Job and seat numbers count from 0. A refused step changes nothing, nor does one that runs out of memory.
 #[derive(Drop)]

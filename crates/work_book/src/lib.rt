@@ -2,15 +2,16 @@
 //! their rows. Jobs are numbered once for all seats, and the first seat that settles a job keeps it, whatever the
 //! others do.
 //!
-//! - `Book` is the whole state, and one call is one step: `draw`, `look`, `settle`, `lose`.
-//! - `Step` and `Answer` are the same steps as data, and `Book::run` makes a list of them.
-//! - `runs_are_fair` is what holds of every list of steps.
-//! - `Board` is a book that threads share, each with a `WorkSeat` of its own; `Closed` is what is left of it at the end.
-//! - `closed_boards_are_runs` says that it then tells what some list of steps of a `Book` tells.
+//! - `Board` is a book that threads share, each with a `WorkSeat` of its own.
+//! - `Book`, the plain form that it is proved against, is the whole state, and one call is one step: `draw`, `look`,
+//!   `settle`, `lose`. `Step` and `Answer` are the same steps as data, and `Book::run` makes a list of them.
+//! - `runs_are_fair` is what holds of every list of steps; `closed_boards_are_runs` says that a board that is `Closed`
+//!   tells what some list of steps of a `Book` tells.
+//! - `Board::close`, `jobs`, `tries` and `WorkSeat::share` are doors for other programs.
 //!
 //! - `limits`: how many jobs there may be, and how often each is offered.
-//! - `lease` is what a seat draws; `steps` and `seat` are the book's; `shared`, `rule` and `moves` are the board's: its types, what holds
-//!   of its words between any two steps, and the kinds of its steps.
+//! - `lease` is what a seat draws; `steps` and `seat` are the book's; `shared`, `rule` and `moves` are the board's: its
+//!   types, what holds of its words between any two steps, and the kinds of its steps.
 //!
 //! A step's answer and change stand in `specs/Steps.antt`, as a table by cases; the laws stand in `specs/Laws.antt`.
 //! What holds of a board in every schedule stands in `specs/Rule.antt`, and what its calls promise in `specs/Board.antt`.

@@ -42,7 +42,7 @@ pub struct WorkSeat {
     ghost empty: { seat.me.1 ≡ [] },
 }
 
-/// A board that no thread shares any more.
+/// A board that no thread shares any more, for other programs.
 pub struct Closed {
     pub(crate) words: atomic_table::Closed<(), Global>,
     pub(crate) jobs: u32,

@@ -12,8 +12,8 @@ use rounds::Search;
 use std::alloc::{AllocError, Global};
 use work_book::{Answer, Book};
 
-/// The matrix of a study that fits, by the calling thread alone: the plain form that
-/// [`run_workers`](crate::run_workers) is proved against.
+/// The plain form that [`run_workers`](crate::run_workers) is proved against: the matrix of a study that fits, by the
+/// calling thread alone.
 ///
 /// `Memory` is the only error that comes.
 pub fn one_thread(alloc: Global, study: &Study) -> Result<Matrix, RunFault>

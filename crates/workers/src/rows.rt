@@ -10,8 +10,9 @@ use rounds::{Durations, Search};
 use shares::{access, cells_of};
 use std::alloc::{AllocError, Global};
 
-/// The row of a scenario and an origin, by their positions from 0: for each share the travel time to each destination that so
-/// many of the window's minutes attain, and for each limit the opportunities at the stops within reach, of all stops.
+/// A door for other programs: the row of a scenario and an origin, by their positions from 0. For each share it has the
+/// travel time to each destination that so many of the window's minutes attain, and for each limit the opportunities at
+/// the stops within reach, of all stops.
 ///
 /// The only error is out of memory.
 pub fn row_of(alloc: Global, study: &Study, scenario: u32, origin: u32) -> Result<Row, AllocError>
