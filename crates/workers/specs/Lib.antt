@@ -3,7 +3,6 @@ pub mod Rows
 pub mod Matrices
 pub mod Jobs
 pub mod Held
-pub mod Parts
 pub mod Threads
 pub mod Filling
 pub mod Outcomes

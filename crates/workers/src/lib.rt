@@ -2,12 +2,16 @@
 //! rows. A study asks for one row per scenario and origin; each row depends on its own scenario's network alone.
 //!
 //! - `study`: [`Study`], what is asked for, and [`Asked`], what of it is asked of every network.
-//! - `rows`: [`row_of`], the row of one scenario and origin.
-//! - `jobs`: [`one_thread`], the matrix, row after row: the plain form of `run`.
-//! - `run`: [`run_workers`], the same matrix, by workers in threads of their own that share a board of jobs.
-//! - `worker`, `promise`, `threads`: what one worker does, what it promises of its rows, and how workers start and end.
+//! - `rows`: the row of one scenario and origin.
+//! - `run`: [`run_workers`], the matrix, by workers in threads of their own that share a board of jobs.
+//! - `worker`, `task`, `threads`: what one worker does, what it promises of its rows, and how workers start and end.
 //! - `gates`: [`Gate`], which decides what becomes of a worker's lease, and [`Open`], which lets each be worked at.
 //! - `faults`: [`RunFault`], why a run gave no matrix.
+//!
+//! Not on the program's way:
+//!
+//! - `jobs`: [`one_thread`], the matrix, row after row: the plain form of `run`.
+//! - [`row_of`], [`Study::fits`], [`shares_fit`] and [`limits_fit`]: doors for other programs.
 //! - `laws`: what follows for rows and matrices, as that a study has one matrix.
 //!
 //! What a row and a matrix are stands in `specs/` (`Rows`, `Matrices`); what a worker promises, in `Held`; and what a run
@@ -18,10 +22,10 @@ mod faults;
 mod gates;
 mod jobs;
 mod laws;
-mod promise;
 mod rows;
 mod run;
 mod study;
+mod task;
 mod threads;
 mod worker;
 

@@ -1,19 +1,16 @@
 //! Workers in threads: started together, and joined.
-ghost use Rattle.std.specs.Prelude.{◌≡◌, ◌+◌, ◌≤◌, [], All, IfOk, vec_len, vec_capacity};
+ghost use Rattle.std.specs.Prelude.{◌≡◌, ◌+◌, ◌≤◌, [], All, IfOk, IfSome, vec_len, vec_capacity};
 ghost use Rattle.workers.specs.Study.{study_of};
-ghost use Rattle.workers.specs.Held.{WorkedFor};
-ghost use Rattle.workers.specs.Parts.{study_by};
-ghost use Rattle.workers.specs.Threads.{AreOfOneStudy, IsReady, AreReady, AreWorked};
+ghost use Rattle.workers.specs.Threads.{AreOfOneStudy, AreReady, AreWorked};
 
 use crate::gates::Gate;
-use crate::promise::{Promised, Terms};
-use crate::study::{Asked, Study};
-use crate::worker::{Worked, work};
+use crate::study::Study;
+use crate::task::{Promised, StudyTask, Task};
+use crate::worker::Worked;
 use std::alloc::{AllocError, Global};
 use std::sync::Wait;
 use std::thread;
-use std::thread::{PromisedHandle, Threads};
-use timetable::{Network, StopNo};
+use std::thread::{PromisedHandle, Scope, Threads};
 use work_book::{Board, WorkSeat};
 
 /// Runs a worker with each seat, all of them at once. One whose start is refused is left out, and its seat dropped.
@@ -29,134 +26,95 @@ pub(crate) fn run_all<G: Gate + Sync, R: Threads + Wait + Sync>(
     requires seats { AreReady board.now seats.items }
     ensures { IfOk result (λ all. AreWorked board.now (study_of study.now) (G.decides gate.now) (G.was_told gate.now) all.items) }
 {
-    let Study {
-        number,
-        networks,
-        origins,
-        opportunities,
-        asked,
-    } = *study;
-    let Asked {
-        window,
-        rides,
-        shares,
-        limits,
-        destinations,
-    } = asked;
-    let terms = Terms {
-        number,
-        window,
-        rides,
+    let task = StudyTask {
+        alloc,
+        study,
+        board,
+        gate,
     };
+    do_all(rt, alloc, &task, seats)
+}
+
+/// Does a task with each seat, in a thread of its own.
+fn do_all<T: Task + Sync, R: Threads + Wait + Sync>(
+    rt: &R,
+    alloc: Global,
+    task: &T,
+    seats: Vec<WorkSeat>,
+) -> Result<Vec<Worked>, AllocError>
+    requires { All (λ seat. T.takes task.now seat) seats.items }
+    ensures { IfOk result (λ all. All (λ worked. T.gives task.now worked) all.items) }
+{
     thread::scope(
         thread::scope_env(),
         rt,
         move |scope| -> Result<Vec<Worked>, AllocError>
-            requires { AreOfOneStudy board.now (study_by terms networks.now origins.now opportunities.now destinations.now shares.now limits.now)
-                × AreReady board.now seats.items }
-            ensures { IfOk result (λ all.
-                AreWorked board.entry.now
-                (study_by terms networks.entry.now origins.entry.now opportunities.entry.now destinations.entry.now shares.entry.now limits.entry.now)
-                (G.decides gate.entry.now) (G.was_told gate.entry.now)
-                all.items) }
+            requires { All (λ seat. T.takes task.now seat) seats.items }
+            ensures { IfOk result (λ all. All (λ worked. T.gives task.entry.now worked) all.items) }
         {
             let done = Vec::with_capacity(alloc, seats.len())?;
-            let mut handles = Vec::with_capacity(alloc, seats.len())?;
-            let promised = Promised {
-                terms,
-                networks,
-                origins,
-                opportunities,
-                destinations,
-                shares,
-                limits,
-                board,
-                gate,
-            };
-            for seat in seats {
-                match scope.spawn_with(
-                    promised,
-                    move || -> Worked
-                        requires { AreOfOneStudy board.now (study_by terms networks.now origins.now opportunities.now destinations.now shares.now limits.now)
-                            × IsReady board.now seat }
-                        ensures { WorkedFor board.entry.now
-                            (study_by terms networks.entry.now origins.entry.now opportunities.entry.now destinations.entry.now shares.entry.now limits.entry.now)
-                            (G.decides gate.entry.now) (G.was_told gate.entry.now)
-                            result }
-                    {
-                        work_in_parts(
-                            alloc,
-                            terms,
-                            networks,
-                            origins,
-                            opportunities,
-                            destinations,
-                            shares,
-                            limits,
-                            board,
-                            seat,
-                            gate,
-                        )
-                    },
-                ) {
-                    Ok(handle) => handles.push_reserved(handle),
-                    Err(refused) => drop(refused),
-                }
-            }
-            Ok(join_all(rt, promised, handles, done))
+            let handles = start_all(scope, alloc, task, seats)?;
+            Ok(join_all(rt, task, handles, done))
         },
     )
 }
 
-/// What a worker does, by the parts of its study.
-fn work_in_parts<G: Gate>(
+/// Starts a thread for each seat.
+fn start_all<'s, 'a: 's, T: Task + Sync, E>(
+    scope: &Scope<'s, E>,
     alloc: Global,
-    terms: Terms,
-    networks: &[Network],
-    origins: &[StopNo],
-    opportunities: &[u32],
-    destinations: &[StopNo],
-    shares: &[u32],
-    limits: &[u32],
-    board: &Board,
-    seat: WorkSeat,
-    gate: &G,
-) -> Worked
-    requires study { AreOfOneStudy board.now (study_by terms networks.now origins.now opportunities.now destinations.now shares.now limits.now) }
-    requires seat { IsReady board.now seat }
-    ensures { WorkedFor board.now (study_by terms networks.now origins.now opportunities.now destinations.now shares.now limits.now) (G.decides gate.now) (G.was_told gate.now) result }
+    task: &'a T,
+    seats: Vec<WorkSeat>,
+) -> Result<Vec<PromisedHandle<Worked, Promised<'a, T>>>, AllocError>
+    requires { All (λ seat. T.takes task.now seat) seats.items }
+    ensures promised { IfOk result (λ handles. All (λ handle. handle.promise.task.now ≡ task.now) handles.items) }
+    ensures count { IfOk result (λ handles. vec_len handles ≤ vec_len seats) }
 {
-    let study = Study {
-        number: terms.number,
-        networks,
-        origins,
-        opportunities,
-        asked: Asked {
-            window: terms.window,
-            rides: terms.rides,
-            shares,
-            limits,
-            destinations,
-        },
-    };
-    work(alloc, &study, board, seat, gate)
+    let mut handles = Vec::with_capacity(alloc, seats.len())?;
+    for seat in seats {
+        if let Some(handle) = start(scope, task, seat) {
+            handles.push_reserved(handle);
+        }
+    }
+    Ok(handles)
 }
 
-/// Joins each worker.
-fn join_all<'a, 'b, G: Gate, R: Threads>(
+/// Starts a thread; none where that is refused.
+fn start<'s, 'a: 's, T: Task + Sync, E>(
+    scope: &Scope<'s, E>,
+    task: &'a T,
+    seat: WorkSeat,
+) -> Option<PromisedHandle<Worked, Promised<'a, T>>>
+    requires { T.takes task.now seat }
+    ensures { IfSome result (λ handle. handle.promise.task.now ≡ task.now) }
+{
+    let started = scope.spawn_with(
+        Promised { task },
+        move || -> Worked
+            requires { T.takes task.now seat }
+            ensures { T.gives task.entry.now result }
+        { task.run(seat) },
+    );
+    match started {
+        Ok(handle) => Some(handle),
+        Err(refused) => {
+            drop(refused);
+            None
+        }
+    }
+}
+
+/// Joins each thread.
+fn join_all<'a, T: Task, R: Threads>(
     rt: &R,
-    promised: Promised<'a, 'b, G>,
-    handles: Vec<PromisedHandle<Worked, Promised<'a, 'b, G>>>,
+    task: &'a T,
+    handles: Vec<PromisedHandle<Worked, Promised<'a, T>>>,
     mut done: Vec<Worked>,
 ) -> Vec<Worked>
     requires room { vec_len done + vec_len handles ≤ vec_capacity done }
     requires none { done.items ≡ [] }
-    requires promised { All (λ handle. handle.promise ≡ promised) handles.items }
-    ensures worked { AreWorked promised.entry.board.now
-        (study_by promised.entry.terms promised.entry.networks.now promised.entry.origins.now promised.entry.opportunities.now
-        promised.entry.destinations.now promised.entry.shares.now promised.entry.limits.now)
-        (G.decides promised.entry.gate.now) (G.was_told promised.entry.gate.now)
-        result.items }
+    requires promised { All (λ handle. handle.promise.task.now ≡ task.now) handles.items }
+    ensures worked { All (λ worked. T.gives task.now worked) result.items }
     ensures len { vec_len result ≡ vec_len handles.entry }
 {
     for handle in handles {
