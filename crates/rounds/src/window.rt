@@ -42,8 +42,8 @@ impl Window {
     }
 }
 
-/// The least durations from `origin` to every stop, for each departure of the window and journeys of at most `rides`
-/// rides, of which there may be 8, in seconds, waiting included.
+/// A door for other programs: the least durations from `origin` to every stop, for each departure of the window and
+/// journeys of at most `rides` rides, of which there may be 8, in seconds, waiting included.
 ///
 /// Out of memory is the only error. Who asks for several origins keeps a [`Search`].
 pub fn durations(

@@ -28,7 +28,8 @@ use std::sync::Wait;
 use std::thread::Threads;
 use workers::{Gate, Study};
 
-/// The text of the matrix of the study that the files mean, or why there is none.
+/// A door for other programs, without a watch: the text of the matrix of the study that the files mean, or why there is
+/// none.
 ///
 /// Of what is refused the first is told, in the order of [`StudyFault`]; out of memory may be told in its place. The
 /// condition is that the files and the settings fit ([`Inputs::fits`], [`Settings::fits`]). The rows are computed by as

@@ -83,7 +83,8 @@ pub(crate) fn lower_lanes(
     }
 }
 
-/// Carries travellers along a trip in each lane, and marks the stops where one fell.
+/// The plain form of [`scan_line`](crate::scan_line), for a single trip: carries travellers along it in each lane,
+/// and marks the stops where one fell.
 pub fn carry_trip(trip: &Trip, ready: &[Lanes], ride: &mut [Lanes], marked: &mut [bool])
     requires stops { (k : ℕ) (e : Event) → slice_get trip.now.events k ≡ Some e → e.stop.0 < length ride.old }
     requires ready { length ready.now ≡ length ride.old }

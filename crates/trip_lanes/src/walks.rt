@@ -11,7 +11,8 @@ use std::simd::prelude::*;
 use std::simd::u32x16;
 use timetable::{Feet, NEVER, StopNo};
 
-/// Walks from every stop that a ride reached, or stays there, in each lane.
+/// The plain form of [`walk_marked`](crate::walk_marked): walks from every stop that a ride reached,
+/// or stays there, in each lane.
 ///
 /// It reads `ride` and lowers `ready`, so no walk begins where another ended.
 pub fn walk(feet: &Feet, ride: &[Lanes], ready: &mut [Lanes])
@@ -29,8 +30,9 @@ pub fn walk(feet: &Feet, ride: &[Lanes], ready: &mut [Lanes])
     }
 }
 
-/// Changes to another vehicle at every stop that a ride reached, or walks from there, in each lane: who stays is ready to
-/// board once the stop's change time has passed, and who walks at once.
+/// The plain form of [`transfer_marked`](crate::transfer_marked): changes to another vehicle at every
+/// stop that a ride reached, or walks from there, in each lane: who stays is ready to board once the stop's change time
+/// has passed, and who walks at once.
 ///
 /// It reads `ride` and lowers `ready`.
 pub fn transfer(feet: &Feet, ride: &[Lanes], ready: &mut [Lanes])
