@@ -1,13 +1,17 @@
-//! The command line of a study: what its words ask for, the bytes of a file that they name, and the lines that tell a fault.
+//! The command line of a study: what its words ask for, the bytes of a file that they name, and the lines that tell a
+//! fault.
 //!
 //! - `options`: the command that the words are taken by. `version`: what it tells of its version.
-//! - `words`: [`task_of`] reads the words into a [`Task`], or tells why they ask for no study ([`WordFault`]); [`text_of`] is the text
-//!   that they give one option. `window`: [`window_of`], the departures that two times name. `numbers`: [`numbers_of`], the numbers that a text lists.
+//! - `words`: [`task_of`] reads the words into a [`Task`], or tells why they ask for no study ([`WordFault`]);
+//!   [`text_of`] is the text that they give one option. `window`: [`window_of`], the departures that two times name.
+//!   `numbers`: [`numbers_of`], the numbers that a text lists.
 //! - `option_lines`: [`explain_option`] tells what is allowed of an option that is refused.
 //! - `paths`: the path of a file of the feed, and the name of a scenario. `files`: [`read_all`], a file read whole.
-//! - `lines`: the line and the exit status of each fault. `statuses`: the statuses in numbers. `telling` puts a line out.
+//! - `lines`: the line and the exit status of each fault. `statuses`: the statuses in numbers. `telling` puts a line
+//!   out.
 //!
-//! `specs/Words` says what the words ask for, `specs/Numbers` which numbers a text lists, `specs/Lines` which line tells a fault.
+//! `specs/Words` says what the words ask for, `specs/Numbers` which numbers a text lists, `specs/Lines` which line
+//! tells a fault.
 #![tactic(auto)]
 
 mod files;

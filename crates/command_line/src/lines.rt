@@ -22,9 +22,9 @@ const OUT_OF_MEMORY: &[u8] = b"out of memory";
 
 /// The line that tells why a study isn't made: `ttm: `, what is wrong and where, and LF.
 ///
-/// Files of the feed are told by their names, the analyst's own as `origins`, `opportunities`, `destinations` and `footpaths.csv`;
-/// records count from 1 with the header. A network that can't be made is always told as too large: the other two
-/// faults of a network can't come from a feed that was read. A name is told as it is.
+/// Files of the feed are told by their names, the analyst's own as `origins`, `opportunities`, `destinations` and
+/// `footpaths.csv`; records count from 1 with the header. A network that can't be made is always told as too large: the
+/// other two faults of a network can't come from a feed that was read. A name is told as it is.
 pub fn fault_line(
     alloc: Global,
     fault: &StudyFault,

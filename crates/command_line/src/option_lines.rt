@@ -25,7 +25,8 @@ const NO_LIST: &str =
 /// What is wrong with a list whose numbers don't ascend.
 const NO_ASCENT: &str = "each number of a list is greater than the one before it";
 
-/// Tells what the line of a bad option can't say, if the words ask for a report: its text as it stands there, and what is allowed.
+/// Tells what the line of a bad option can't say, if the words ask for a report: its text as it stands there, and what
+/// is allowed.
 pub fn explain_option<C: Console>(console: &C, alloc: Global, words: &[String], option: Opt) {
     if let Some(report) = text_at(alloc, words, "report") {
         if report.as_str() == "true" {
@@ -153,7 +154,8 @@ fn ascends(text: &[u8]) -> bool {
     true
 }
 
-/// Tells what is wrong with the window: each of its ends that is no time of day, or that they stand the wrong way round.
+/// Tells what is wrong with the window: each of its ends that is no time of day, or that they stand the wrong way
+/// round.
 fn tell_window<C: Console>(console: &C, alloc: Global, words: &[String]) {
     let Some(from) = text_at(alloc, words, "from") else {
         return;

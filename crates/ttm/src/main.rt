@@ -1,9 +1,10 @@
 //! `ttm`: an analyst's travel time matrices over GTFS timetables.
 //!
-//! With words the program makes the study that they ask for; with none, a study of the small feed that it carries (`example`).
+//! With words the program makes the study that they ask for; with none, a study of the small feed that it carries
+//! (`example`).
 //!
-//! - `program`: the whole way on a `host`, from words to a printed matrix. `answers`: what is put out and told of a study,
-//!   and its report.
+//! - `program`: the whole way on a `host`, from words to a printed matrix. `answers`: what is put out and told of a
+//!   study, and its report.
 //! - `reading` reads the files that the words name from the `disk` into `study_files`, or answers why one is `unread`;
 //!   the crate `studies` makes the matrix's text of them.
 //!

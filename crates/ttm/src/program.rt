@@ -1,7 +1,7 @@
 //! The program: words name files, the files and settings are a study, and its matrix goes to the standard output.
 //!
-//! A report, where the words ask for one, goes to a console, which is another way to the standard error: so what is promised of
-//! the two outputs is said of every run, reported or not.
+//! A report, where the words ask for one, goes to a console, which is another way to the standard error: so what is
+//! promised of the two outputs is said of every run, reported or not.
 //!
 //! A fault is told by one line on the standard error, and by the exit status. Nothing but the whole matrix, or the
 //! help or the version that was asked for, is a success.
