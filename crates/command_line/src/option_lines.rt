@@ -154,7 +154,8 @@ fn ascends(text: &[u8]) -> bool {
     true
 }
 
-/// Tells what is wrong with the window: each of its ends that is no time of day, or that they stand the wrong way round.
+/// Tells what is wrong with the window: each of its ends that is no time of day, or that they stand the wrong way
+/// round.
 fn tell_window<C: Console>(console: &C, alloc: Global, words: &[String]) {
     let Some(from) = text_at(alloc, words, "from") else {
         return;

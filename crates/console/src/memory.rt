@@ -15,8 +15,8 @@ pub struct Memory {
     pub peak: Option<u64>,
 }
 
-/// The bytes that the first line of a text with this name at its head tells, as `MemAvailable:   16102636 kB` does: whole
-/// kilobytes. None where no such line tells them.
+/// The bytes that the first line of a text with this name at its head tells, as `MemAvailable:   16102636 kB` does:
+/// whole kilobytes. None where no such line tells them.
 pub fn memory_of(text: &[u8], name: &[u8]) -> Option<u64>
     ensures { IfSome result (λ bytes. bytes % 1024 ≡ 0) }
 {

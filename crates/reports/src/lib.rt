@@ -5,8 +5,8 @@
 //! - `table_lines`, `day_lines` and `row_lines` make the lines of each stage; a `console` takes them. `calendar_lines`:
 //!   which dates have trips, where the date of the departures has none.
 //! - `progress`: how many rows are done, and when it is time to tell so; `measures`: shares and times in numbers.
-//! - `explain`: what the line of a fault can't say, by a second look at the file (`records`): the field that a check of its file
-//!   refused, and what is allowed there (`rules`); `advice`: what to do about faults of no field.
+//! - `explain`: what the line of a fault can't say, by a second look at the file (`records`): the field that a check of
+//!   its file refused, and what is allowed there (`rules`); `advice`: what to do about faults of no field.
 //! - `folder_lines`: what stands in the folder of a feed that lacks a file, or why it isn't one ([`explain_folder`]).
 //!
 //! A line tells one fact. A line for which memory runs out is left out.

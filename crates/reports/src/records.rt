@@ -18,8 +18,8 @@ impl Found {
     }
 }
 
-/// The header of a file, and the record with a number, which counts the header as 1; none where there is no such record, or
-/// no memory to read it. Of record 1 there is the header alone.
+/// The header of a file, and the record with a number, which counts the header as 1; none where there is no such
+/// record, or no memory to read it. Of record 1 there is the header alone.
 pub(crate) fn record_at(alloc: Global, bytes: &[u8], at: u64) -> Option<Found> {
     let mut rows = Rows::new(alloc, bytes);
     let mut header = ByteRecord::new(alloc);

@@ -53,8 +53,9 @@ impl<'a, C: Console> Report<'a, C> {
         }
     }
 
-    /// Tells what the line of a fault of these files can't say, if there is more to say: the column, its value as it stands in the
-    /// record, and what is allowed; or what can be done; or, of a file of the feed that is missing, what stands in the feed's folder.
+    /// Tells what the line of a fault of these files can't say, if there is more to say: the column, its value as it
+    /// stands in the record, and what is allowed; or what can be done; or, of a file of the feed that is missing, what
+    /// stands in the feed's folder.
     pub fn refused(&self, fault: &StudyFault, inputs: &Inputs<'_>, folder: &str) {
         if is_missing(fault) {
             tell_folder(self.console, self.alloc, folder);

@@ -1,7 +1,8 @@
-//! What is put out and told of a study: its whole matrix, or why there is none; and beside it the report, where one is asked for.
+//! What is put out and told of a study: its whole matrix, or why there is none; and beside it the report, where one is
+//! asked for.
 //!
-//! A report is told on a console, and is neither of the two outputs. What is put out, what is told and the exit status are
-//! promised in the same words with a report and without.
+//! A report is told on a console, and is neither of the two outputs. What is put out, what is told and the exit status
+//! are promised in the same words with a report and without.
 
 ghost use Rattle.std.specs.Prelude.{◌≡◌, ◌≤◌, IfErr, OnOk};
 ghost use Rattle.std.specs.Process.{exit_status};
@@ -19,8 +20,8 @@ use std::process::ExitCode;
 use studies::{Inputs, Settings, StudyFault, Unwatched, Watch, watch_study};
 use workers::{Gate, Open};
 
-/// Puts out the matrix of a task whose files are read, or tells why there is none; and reports it, if the task says so. The matrix is
-/// the same with a report and without, and no promise of it or of the status asks whether there is one.
+/// Puts out the matrix of a task whose files are read, or tells why there is none; and reports it, if the task says so.
+/// The matrix is the same with a report and without, and no promise of it or of the status asks whether there is one.
 pub(crate) fn answer_task<'a, H: Host, O: Write, E: Write>(
     host: &'a H,
     task: &Task,

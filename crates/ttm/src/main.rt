@@ -3,8 +3,8 @@
 //! With arguments the program makes the study that they ask for; with none, one of the small feed that it carries
 //! (`example`).
 //!
-//! - `program`: the whole way on a `host`, from arguments to a printed matrix. `answers`: what is put out and told of a study,
-//!   and its report.
+//! - `program`: the whole way on a `host`, from arguments to a printed matrix. `answers`: what is put out and told of a
+//!   study, and its report.
 //! - `reading` reads the files that the arguments name from the `disk` into `study_files`, or answers why one is `unread`;
 //!   the crate `studies` makes the matrix's text of them.
 //!

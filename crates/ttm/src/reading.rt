@@ -1,4 +1,5 @@
-//! The files that a study names, each read whole: which of them have to be there, and which is the first that isn't read.
+//! The files that a study names, each read whole: which of them have to be there, and which is the first that isn't
+//! read.
 
 ghost use Rattle.std.specs.Prelude.{◌≡◌, ◌∷◌, All, IfErr, IfOk, OnOk, Ok, Some, [], map, option_map, string_bytes};
 ghost use Rattle.command_line.specs.Paths as paths;
