@@ -15,10 +15,10 @@ pub fn runs_are_right()
     ensures drawn { (s : Setup) (steps : List CoreStep) → AreDrawnAtNothing s steps }
 {}
 
-/// For every book, every collector and every list of steps, rows handed over among them, the steps of the book are fair:
-/// the book is as if its own steps had been made alone, and answers the same; the numbers drawn are those below the next
-/// number, each once; a job is kept once where it is settled and by nobody else; and the book answers `Nothing` only once
-/// every number was drawn.
+/// For every book, every collector and every list of steps, rows handed over among them, the steps of the book are
+/// fair: the book is as if its own steps had been made alone, and answers the same; the numbers drawn are those below
+/// the next number, each once; a job is kept once where it is settled and by nobody else; and the book answers
+/// `Nothing` only once every number was drawn.
 pub fn core_runs_are_fair()
     ensures alone { (s : Setup) (steps : List CoreStep) → IsRunOfBook s steps }
     ensures drawn { (s : Setup) (steps : List CoreStep) → AreDrawnOnce (reached s steps).book }

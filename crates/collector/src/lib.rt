@@ -5,8 +5,8 @@
 //! - `Row` is what one scenario and one origin give, `Cells` for each share; `Collector` has a place for each row, and
 //!   `finish` makes the `Matrix`.
 //! - Doors for other programs are `Collector::place`, the sizes of a `Matrix`, and `run_core`, which makes a list of
-//!   steps: those of a book and offers of rows, as data (`CoreStep`, answered by `CoreAnswer`). `runs_are_right` is what
-//!   holds of every such list, `core_runs_are_fair` what holds of the book in it.
+//!   steps: those of a book and offers of rows, as data (`CoreStep`, answered by `CoreAnswer`). `runs_are_right` is
+//!   what holds of every such list, `core_runs_are_fair` what holds of the book in it.
 //!
 //! `specs/Places.antt` says what places are, `specs/Offers.antt` what an offer and a finish do, `specs/Laws.antt` the
 //! laws.

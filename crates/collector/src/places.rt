@@ -48,7 +48,8 @@ pub enum Offer {
     Kept,
     /// Its place has a row already.
     Double(Row),
-    /// It has no place here: another study, a scenario or origin out of range, or another number of shares, cells or access sums.
+    /// It has no place here: another study, a scenario or origin out of range, or another number of shares, cells or
+    /// access sums.
     Stranger(Row),
 }
 
@@ -95,8 +96,8 @@ impl Model for Matrix {
 }
 
 impl Collector {
-    /// An empty place for each of `scenarios` times `origins` rows, which have `width` cells and `limits` access sums for each of
-    /// `shares` shares.
+    /// An empty place for each of `scenarios` times `origins` rows, which have `width` cells and `limits` access sums
+    /// for each of `shares` shares.
     ///
     /// There are at most as many places as a book may have jobs.
     pub fn new(

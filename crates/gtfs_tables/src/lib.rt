@@ -1,20 +1,20 @@
 //! The tables of a GTFS feed, from the bytes of its files to the data that they state, or to their first fault.
 //! (GTFS Schedule reference, the files from `stops.txt` to `transfers.txt`.)
 //!
-//! [`read_feed`] takes the files as [`FeedBytes`] and gives a [`Feed`]: stops, routes, services and trips by number, each
-//! trip a [`FeedTrip`] with its events, the rows of both calendars, the [`Place`]s of `stops.txt` with the stops of each
-//! station, and each walk of `transfers.txt` as a [`Link`] between two locations. A refusal is a [`FeedFault`]: which file, which
-//! record, and what is wrong with it.
+//! [`read_feed`] takes the files as [`FeedBytes`] and gives a [`Feed`]: stops, routes, services and trips by number,
+//! each trip a [`FeedTrip`] with its events, the rows of both calendars, the [`Place`]s of `stops.txt` with the stops
+//! of each station, and each walk of `transfers.txt` as a [`Link`] between two locations. A refusal is a [`FeedFault`]:
+//! which file, which record, and what is wrong with it.
 //!
-//! [`read_origins`] and [`read_opportunities`] read the two files of an analysis that name the feed's stops: where journeys
-//! begin, and how much there is to reach at each stop. Neither is part of GTFS, and each may be absent.
+//! [`read_origins`] and [`read_opportunities`] read the two files of an analysis that name the feed's stops: where
+//! journeys begin, and how much there is to reach at each stop. Neither is part of GTFS, and each may be absent.
 //!
 //! - `feed_bytes`: the files' bytes; `read` and `catalog` read them, `feed` and `trip` are what they say.
 //! - `origins` and `opportunities` read an analysis' own files, with `named_stops`.
 //!
 //! `specs/Files` says what the files state and which fault comes first, `specs/Feed` what is true of every feed.
-//! `specs/Origins` and `specs/Opportunities` say the same of their files.
-//! How the single files are read is in the crates `table_files` and `trip_events`, and how their fields are in `table_records`.
+//! `specs/Origins` and `specs/Opportunities` say the same of their files. How the single files are read is in the
+//! crates `table_files` and `trip_events`, and how their fields are in `table_records`.
 #![tactic(auto)]
 
 mod catalog;

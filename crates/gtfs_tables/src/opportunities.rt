@@ -29,12 +29,11 @@ pub fn opportunity_checks() -> Checks
     CHECKS
 }
 
-/// The number of opportunities at each stop of the feed. Without a file it is 1 for each; with one, 0 for the stops that
-/// it doesn't name.
+/// The number of opportunities at each stop of the feed. Without a file it is 1 for each; with one, 0 for the stops
+/// that it doesn't name.
 ///
-/// The file's required columns are `stop_id` and `opportunities`. An identifier that is empty, no stop's or given before
-/// is refused, and a count that is no number.
-/// The bytes are at most 2^30, the limit of an input file.
+/// The file's required columns are `stop_id` and `opportunities`. An identifier that is empty, no stop's or given
+/// before is refused, and a count that is no number. The bytes are at most 2^30, the limit of an input file.
 pub fn read_opportunities(
     alloc: Global,
     file: Option<&[u8]>,

@@ -24,9 +24,9 @@ use trip_events::{StopTimes, read_stop_times};
 /// What the files of a feed state, or the first fault among them: by file, then by record, then by check.
 ///
 /// The files are read in the order `stops.txt`, `routes.txt`, `calendar.txt`, `calendar_dates.txt`, `trips.txt`,
-/// `stop_times.txt`, `frequencies.txt`, `transfers.txt`. The last two may be absent, and of the two calendars one. Records are counted from 1
-/// with the header, and a file that is absent has its fault at record 0. After the last record of `stop_times.txt` each
-/// trip is checked as a whole, in the order of `trips.txt`.
+/// `stop_times.txt`, `frequencies.txt`, `transfers.txt`. The last two may be absent, and of the two calendars one.
+/// Records are counted from 1 with the header, and a file that is absent has its fault at record 0. After the last
+/// record of `stop_times.txt` each trip is checked as a whole, in the order of `trips.txt`.
 ///
 /// Each file has at most 2^30 bytes, which [`FeedBytes::fits`] tests.
 pub fn read_feed(alloc: Global, files: &FeedBytes<'_>) -> Result<Feed, FeedFault>

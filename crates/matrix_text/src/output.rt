@@ -8,7 +8,8 @@ use std::io::Write;
 
 /// Puts out all of the bytes.
 ///
-/// An error of the writer, or a call that takes nothing, is `Write`; then a prefix of the bytes is out, and not all of them.
+/// An error of the writer, or a call that takes nothing, is `Write`; then a prefix of the bytes is out, and not all of
+/// them.
 pub fn put_all<W: Write>(bytes: &[u8], w: &mut W) -> Result<(), TextFault>
     ensures ok { OnOk result (Appends (W.contents w.old) (W.contents w.new) bytes.now) }
     ensures err { OnErr result (PutsPrefix (W.contents w.old) (W.contents w.new) bytes.now) }

@@ -16,10 +16,10 @@ use timetable::StopNo;
 /// Writes the text of a matrix, where the labels fit it.
 ///
 /// The header has the fields `scenario`, `origin`, `share`, one for each limit, as `access_1800`, and the destinations'
-/// identifiers in order. Records follow for each row, scenarios in order, and each scenario's origins in order; a row has one for each
-/// share, in order: the scenario's name, the identifier of the origin's stop, the share, an access for each limit, and the
-/// cells in seconds, an absent one as an empty field. Fields are quoted where commas, quotes or line ends in them ask for
-/// it (RFC 4180), and each line ends with LF.
+/// identifiers in order. Records follow for each row, scenarios in order, and each scenario's origins in order; a row
+/// has one for each share, in order: the scenario's name, the identifier of the origin's stop, the share, an access for
+/// each limit, and the cells in seconds, an absent one as an empty field. Fields are quoted where commas, quotes or
+/// line ends in them ask for it (RFC 4180), and each line ends with LF.
 ///
 /// `Write` comes where the writer fails or takes nothing, `Memory` where a line ran out of memory; then a prefix of the
 /// text is out.

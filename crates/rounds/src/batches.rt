@@ -63,8 +63,8 @@ fn are_told<R: Row>(ride: &[R], ready: &[R], departs: R, base: u32, last: &[u32]
     true
 }
 
-/// Writes by when stops are reached in a part of a batch, by a ride or by a walk, among the lanes of all departures, where
-/// those of a stop stand side by side.
+/// Writes by when stops are reached in a part of a batch, by a ride or by a walk, among the lanes of all departures,
+/// where those of a stop stand side by side.
 fn write_part<R: Row>(
     labels: &mut [Lanes],
     tables: &Tables<R>,
@@ -154,8 +154,8 @@ fn are_told_of_reached<R: Row>(
 /// Writes the least durations for each minute of a window, batch by batch from the last, each bounded by the one after
 /// it. Where labels can't tell all of them it gives up, and says so: what is written is then of no use.
 ///
-/// `last` bounds how late somebody may be at each stop. It is found, and stops that no journey reaches are left out of it,
-/// by the tables `beside`, only where labels need it. Out of memory there is the only error.
+/// `last` bounds how late somebody may be at each stop. It is found, and stops that no journey reaches are left out of
+/// it, by the tables `beside`, only where labels need it. Out of memory there is the only error.
 pub(crate) fn run_window<R: Row>(
     alloc: Global,
     query: Query<'_>,

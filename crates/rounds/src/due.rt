@@ -1,5 +1,5 @@
-//! Which lines a round scans, and from where: those that one may board at a stop where a label fell, each from the first of
-//! such positions on.
+//! Which lines a round scans, and from where: those that one may board at a stop where a label fell, each from the
+//! first of such positions on.
 ghost use Rattle.std.specs.Prelude.{◌≡◌, ℕ, ◌<◌, ◌≤◌, length, slice_get, slice_index, Some};
 ghost use Rattle.timetable.specs.FlatLists.{IsIn};
 ghost use Rattle.timetable.specs.declared.limits.TheConstants.{MOST_STOPS};

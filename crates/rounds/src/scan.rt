@@ -34,8 +34,8 @@ pub(crate) struct Round<'a, 'b, R> {
     pub base: u32,
 }
 
-/// Carries travellers along the trips of a line: who is ready by a departure and was not before. Nobody newly catches a trip
-/// of it before the first position.
+/// Carries travellers along the trips of a line: who is ready by a departure and was not before. Nobody newly catches a
+/// trip of it before the first position.
 fn scan_trips<R: Row>(
     round: Round<'_, '_, R>,
     line: u32,

@@ -45,8 +45,8 @@ impl Search {
         }
     }
 
-    /// The least durations from `origin` to every stop, for each departure of the window and journeys of at most `rides`
-    /// rides, of which there may be 8, in seconds, waiting included.
+    /// The least durations from `origin` to every stop, for each departure of the window and journeys of at most
+    /// `rides` rides, of which there may be 8, in seconds, waiting included.
     ///
     /// Out of memory is the only error.
     pub fn durations(

@@ -1,5 +1,5 @@
-//! Stops that no journey of a query reaches, however late it arrives: where labels that reach less far don't tell whether
-//! somebody is late, one search of the first departure does, by labels that reach as far as times go.
+//! Stops that no journey of a query reaches, however late it arrives: where labels that reach less far don't tell
+//! whether somebody is late, one search of the first departure does, by labels that reach as far as times go.
 ghost use Rattle.std.specs.Prelude.{◌≡◌, ◌≢◌, ℕ, ◌+◌, ◌<◌, ◌≤◌, length, slice_index, All, OnOk};
 ghost use Rattle.timetable.specs.declared.limits.TheConstants.{END_OF_AXIS, MOST_FOOT_SECONDS};
 ghost use Rattle.timetable.specs.declared.least.TheConstants.{NEVER as NEVER_VALUE};
@@ -64,8 +64,8 @@ fn leave_out<R: Row>(ride: &[R], ready: &[R], last: &mut [u32])
     }
 }
 
-/// Makes the number of each stop 0 that no journey of the query reaches: who leaves later reaches no more stops than who
-/// leaves first. Out of memory is the only error.
+/// Makes the number of each stop 0 that no journey of the query reaches: who leaves later reaches no more stops than
+/// who leaves first. Out of memory is the only error.
 pub(crate) fn leave_out_unreached(
     alloc: Global,
     query: Query<'_>,

@@ -7,8 +7,8 @@ use crate::percentiles::is_reached;
 use rounds::Durations;
 use timetable::StopNo;
 
-/// The sum of the opportunities at the stops whose cell for a share is at most `within` seconds. A stop without a cell isn't
-/// within reach of any limit.
+/// The sum of the opportunities at the stops whose cell for a share is at most `within` seconds. A stop without a cell
+/// isn't within reach of any limit.
 ///
 /// The stops' cells aren't looked for: of each stop the minutes within the limit are counted.
 pub fn access(durations: &Durations, opportunities: &[u32], share: u32, within: u32) -> u64

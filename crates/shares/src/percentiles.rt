@@ -40,8 +40,8 @@ pub fn cells(
     Ok(cells)
 }
 
-/// Whether so many of a hundred minutes have a duration to a stop of at most a limit: then the stop's cell is within it, and
-/// else it isn't.
+/// Whether so many of a hundred minutes have a duration to a stop of at most a limit: then the stop's cell is within
+/// it, and else it isn't.
 pub(crate) fn is_reached(durations: &Durations, stop: StopNo, share: u32, within: u32) -> bool
     requires stop { stop.0 < durations.now.stops }
     requires share { share ≤ 100 }
@@ -65,8 +65,8 @@ fn reach_of(lanes: &[Lanes], within: u32) -> u32
     }
 }
 
-/// The least duration that the share of so many minutes attains, by halving the range in which it lies, which ends with the
-/// greatest of them.
+/// The least duration that the share of so many minutes attains, by halving the range in which it lies, which ends with
+/// the greatest of them.
 fn least_attained(lanes: &[Lanes], minutes: u32, share: u32) -> Option<u32>
     requires lanes { HoldMinutes lanes.now minutes }
     requires share { share ≤ 100 }

@@ -1,5 +1,5 @@
-//! Planes: the labels of a stop, bit by bit. A plane has one bit for each lane, which says whether the lane's label has the
-//! plane's bit; so a rank is found from the highest bit to the lowest, sixty-four lanes at a time.
+//! Planes: the labels of a stop, bit by bit. A plane has one bit for each lane, which says whether the lane's label has
+//! the plane's bit; so a rank is found from the highest bit to the lowest, sixty-four lanes at a time.
 ghost use Rattle.std.specs.Prelude.{◌≡◌, ◌≢◌, ◌&&◌, ◌<◌, ◌≤◌, ◌+◌, ◌*◌, ◌^◌, [], ℕ, Bool, List, cond, not, length, slice_index, slice_index_or};
 ghost use Rattle.shares.specs.Planes.{AreMasks, ArePlanes, IsRanked, block, count_of, has, mask, words_of};
 ghost use Rattle.trip_lanes.specs.declared.lanes.TheConstants.{LANES};
@@ -94,8 +94,8 @@ fn mask_of(batch: Lanes, bit: u32) -> u64
 
 /// The label of a rank, counted from 1, among labels that are cut to so many bits.
 ///
-/// Windows of one or two hours have one or two words, and where that is known there is no loop over them: they go through each
-/// bit in a third of the steps.
+/// Windows of one or two hours have one or two words, and where that is known there is no loop over them: they go
+/// through each bit in a third of the steps.
 pub(crate) fn value_at(lanes: &[Lanes], planes: &[Plane], bits: u32, rank: u32) -> u32
     requires few { length lanes.now ≤ 90 }
     requires bits { bits ≤ 32 }

@@ -1,5 +1,5 @@
-//! The cells of several shares: the labels of a stop are laid out bit by bit once, and each share looks up its rank there. A
-//! single share is quicker by halving.
+//! The cells of several shares: the labels of a stop are laid out bit by bit once, and each share looks up its rank
+//! there. A single share is quicker by halving.
 ghost use Rattle.std.specs.Prelude.{◌≡◌, ◌<◌, ◌≤◌, ◌+◌, ◌^◌, ◌∷◌, [], ℕ, All, length, IfOk, OnOk};
 ghost use Rattle.rounds.specs.Table.{known_of, label_in, IsLeastOrNone};
 ghost use Rattle.shares.specs.Percentiles.{Attains, AreCellsOf, HoldMinutes, IsTop};
@@ -111,7 +111,8 @@ fn push_cells(
     Ok(())
 }
 
-/// The least duration that the share of so many minutes attains: that of the share's rank, where it isn't past the greatest.
+/// The least duration that the share of so many minutes attains: that of the share's rank, where it isn't past the
+/// greatest.
 fn at_rank(
     lanes: &[Lanes],
     minutes: u32,

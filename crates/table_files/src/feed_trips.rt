@@ -26,7 +26,8 @@ pub struct TripNumbers {
     pub service: u32,
 }
 
-/// What `trips.txt` says: the trips' identifiers and numbers, in file order, and the services that are known after them.
+/// What `trips.txt` says: the trips' identifiers and numbers, in file order, and the services that are known after
+/// them.
 #[derive(Drop)]
 pub struct FeedTrips {
     pub ids: Identifiers,

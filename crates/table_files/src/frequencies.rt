@@ -19,7 +19,8 @@ use table_records::{
     number, open_table, read_records, read_time, trim,
 };
 
-/// A row of `frequencies.txt`: a trip departs at its start and every headway after it, as long as that is before its end.
+/// A row of `frequencies.txt`: a trip departs at its start and every headway after it, as long as that is before its
+/// end.
 ///
 /// All three are seconds. An end that isn't after the start gives no departure.
 #[derive(Clone, Copy, Debug, PartialEq, Eq)]

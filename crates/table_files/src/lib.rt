@@ -1,9 +1,10 @@
-//! The files of a feed but `stop_times.txt`, one module for each: what their records say, or the first fault among them.
-//! (GTFS Schedule reference: `stops.txt`, `routes.txt`, `calendar.txt`, `calendar_dates.txt`, `trips.txt`, `frequencies.txt`,
-//! `transfers.txt`.)
+//! The files of a feed but `stop_times.txt`, one module for each: what their records say, or the first fault among
+//! them. (GTFS Schedule reference: `stops.txt`, `routes.txt`, `calendar.txt`, `calendar_dates.txt`, `trips.txt`,
+//! `frequencies.txt`, `transfers.txt`.)
 //!
 //! - [`read_locations`] gives the stops, stations and other locations, and the stops of each station.
-//! - [`read_routes`] gives the identifiers of the routes, and [`read_feed_trips`] the trips with their routes and services.
+//! - [`read_routes`] gives the identifiers of the routes, and [`read_feed_trips`] the trips with their routes and
+//!   services.
 //! - [`read_calendar`] and [`read_calendar_dates`] give the days of the services.
 //! - [`read_frequencies`] gives the departures of the trips that run at a headway.
 //! - [`read_transfers`] gives the walks between stops and stations.

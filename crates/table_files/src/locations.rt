@@ -118,7 +118,8 @@ pub struct LocationColumns {
     pub parent: Option<usize>,
 }
 
-/// The locations of the records so far. A parent may come later in the file than its child, so the stops' parents are kept.
+/// The locations of the records so far. A parent may come later in the file than its child, so the stops' parents are
+/// kept.
 #[derive(Drop)]
 pub struct LocationList {
     pub names: Identifiers,
@@ -265,8 +266,8 @@ fn columns_in(header: &ByteRecord) -> LocationColumns
 
 /// The locations of `stops.txt`, or its first fault.
 ///
-/// Records of `location_type` empty or 0 are stops, those of 1 stations. A stop's `parent_station` counts where it names a station.
-/// The bytes are at most 2^30, the limit of an input file.
+/// Records of `location_type` empty or 0 are stops, those of 1 stations. A stop's `parent_station` counts where it
+/// names a station. The bytes are at most 2^30, the limit of an input file.
 pub fn read_locations(alloc: Global, bytes: &[u8]) -> Result<Locations, FeedFault>
     requires { length bytes.now ≤ MOST_BYTES }
     ensures good { IfOk result (λ p. (spec.stop_faults bytes.now ≡ []) × (p ≡ spec.locations_in (spec.location_records bytes.now))) }

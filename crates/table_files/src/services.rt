@@ -7,8 +7,8 @@ ghost use Rattle.table_files.specs.Services.{named};
 use std::alloc::{AllocError, Global};
 use table_records::Identifiers;
 
-/// The number of a service, which gets the next number where it is named for the first time. It is looked for where it is
-/// likely first.
+/// The number of a service, which gets the next number where it is named for the first time. It is looked for where it
+/// is likely first.
 pub fn number_service(
     alloc: Global,
     services: &mut Identifiers,

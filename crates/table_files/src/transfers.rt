@@ -34,7 +34,8 @@ pub struct Link {
     pub at: u64,
 }
 
-/// What `transfers.txt` says: the rows that give a walk or a change time, in file order, and how many rows give neither.
+/// What `transfers.txt` says: the rows that give a walk or a change time, in file order, and how many rows give
+/// neither.
 #[derive(Debug, Drop)]
 pub struct Transfers {
     pub links: Vec<Link>,
@@ -279,9 +280,9 @@ fn open_file(alloc: Global, bytes: &[u8]) -> Result<OpenTable<'_>, AllocError>
 
 /// The walks and change times of `transfers.txt`, or its first fault. No column is required, nor any record.
 ///
-/// A row counts where its type is empty or at most 2, it names no route and no trip, it has a `min_transfer_time`, and its ends stand
-/// for two different stops at least, or its type is 2 and its two ends are one stop or one station with stops; all other rows are
-/// counted as unused. The bytes are at most 2^30, the limit of an input file.
+/// A row counts where its type is empty or at most 2, it names no route and no trip, it has a `min_transfer_time`, and
+/// its ends stand for two different stops at least, or its type is 2 and its two ends are one stop or one station with
+/// stops; all other rows are counted as unused. The bytes are at most 2^30, the limit of an input file.
 pub fn read_transfers(
     alloc: Global,
     bytes: &[u8],

@@ -55,8 +55,8 @@ impl Identifiers {
         self.set.get_index_of(id)
     }
 
-    /// The number of an identifier, if it is here: the same as [`Identifiers::number`], found soonest where it is `guess` or
-    /// the one after it.
+    /// The number of an identifier, if it is here: the same as [`Identifiers::number`], found soonest where it is
+    /// `guess` or the one after it.
     pub fn number_near(&self, id: &[u8], guess: usize) -> Option<usize>
         ensures { result ≡ position (bytes_eq id.now) self.now }
     {
@@ -105,7 +105,8 @@ impl Identifiers {
     }
 }
 
-// Whether two identifiers are equal. Nearly all have 4 to 16 bytes, which their first and their last ones tell in two steps.
+// Whether two identifiers are equal. Nearly all have 4 to 16 bytes, which their first and their last ones tell in two
+// steps.
 fn are_equal(a: &[u8], b: &[u8]) -> bool
     ensures { IsTrue result → a.now ≡ b.now }
 {

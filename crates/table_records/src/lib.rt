@@ -8,9 +8,10 @@
 //! - `identifiers`: [`Identifiers`] numbers stops, routes, trips and services.
 //! - `limits`: [`MOST_BYTES`] is the most bytes of a file.
 //! - `reading`: [`open_table`] reads a header with its required columns, and [`read_records`] record after record by a
-//!   [`RecordReader`], up to the first fault. [`open_records`] and [`take_records`] do the same for a file with faults of its
-//!   own, by a [`RecordTaker`].
-//! - `fault`: [`FeedFault`] says what is wrong ([`What`]), in which file and record; [`HeaderFault`], that a header can't be used.
+//!   [`RecordReader`], up to the first fault. [`open_records`] and [`take_records`] do the same for a file with faults
+//!   of its own, by a [`RecordTaker`].
+//! - `fault`: [`FeedFault`] says what is wrong ([`What`]), in which file and record; [`HeaderFault`], that a header
+//!   can't be used.
 //!
 //! The rules are those of the GTFS Schedule reference ("File requirements" and "Field types"),
 //! with the grammars of times and numbers narrowed to what the engine counts with. Their

@@ -1,4 +1,5 @@
-//! Tests of the tables: worked rows of `table_records`, `table_files`, `trip_events` and `gtfs_tables`, by their public calls.
+//! Tests of the tables: worked rows of `table_records`, `table_files`, `trip_events` and `gtfs_tables`, by their public
+//! calls.
 //!
 //! - `records`: records, columns, fields and identifiers.
 //! - `calendar`, `calendar_dates`, `feed_trips`, `frequencies`, `places`, `routes`, `stop_times`, `transfers`: one file

@@ -1,5 +1,5 @@
-//! Timetables: stops, trips with their events, footpaths between stops, and networks of all three.
-//! A network that was accepted has its stops in range, times that never fall along a trip, and a size within the limits.
+//! Timetables: stops, trips with their events, footpaths between stops, and networks of all three. A network that was
+//! accepted has its stops in range, times that never fall along a trip, and a size within the limits.
 //!
 //! - `trips`: [`StopNo`], [`Event`], [`Events`] and [`Trip`].
 //! - `footpaths`: [`Feet`], at most one footpath from each stop to each other, and the change time of each stop.

@@ -1,5 +1,5 @@
-//! Lines: trips with the same stops in the same order, where one may board and alight alike, and none overtakes another.
-//! (The RAPTOR paper has them as routes: Delling, Pajor, Werneck, ALENEX 2012.)
+//! Lines: trips with the same stops in the same order, where one may board and alight alike, and none overtakes
+//! another. (The RAPTOR paper has them as routes: Delling, Pajor, Werneck, ALENEX 2012.)
 ghost use Rattle.std.specs.Prelude.{◌≡◌, ◌<◌, ◌≤◌, ◌+◌, ◌↔◌, ℕ, IsTrue, IfOk, OnOk, IfSome, All, [], map, length, slice_get, slice_index_or, Some};
 ghost use Rattle.std.specs.Bool.{OnTrue};
 ghost use Rattle.std.specs.List.{Contains};
@@ -17,7 +17,8 @@ use std::marker::Model;
 /// How many of the last lines a trip may join.
 const OPEN_LINES: usize = 8;
 
-/// The lines of a network's trips, for each stop where they can be boarded, and the events of each line, laid out for a scan.
+/// The lines of a network's trips, for each stop where they can be boarded, and the events of each line, laid out for a
+/// scan.
 #[derive(Drop)]
 pub struct Lines {
     lines: FlatLists<u32>,

@@ -41,8 +41,8 @@ const CHECKS: Checks = Checks {
     ],
 };
 
-/// What is checked of `stop_times.txt`, beside its limit: each fault of a record is that of a check. The last is that of
-/// a whole trip, which is looked at after all records.
+/// What is checked of `stop_times.txt`, beside its limit: each fault of a record is that of a check. The last is that
+/// of a whole trip, which is looked at after all records.
 pub fn stop_time_checks() -> Checks
     ensures required { map (λ name. name.now) result.required.now ≡ spec.required }
     ensures explains { (trips stops : List (List ℕ)) → Explains result.fields.now spec.row_of (spec.checks trips stops) }
@@ -302,7 +302,8 @@ fn no_records(alloc: Global, count: usize) -> Result<Vec<TripTimes>, AllocError>
 
 /// The events of each trip in the bytes of `stop_times.txt`, or its first fault.
 ///
-/// `trips` and `stops` are the identifiers of the feed's trips and stops. The bytes are at most 2^30, the limit of an input file.
+/// `trips` and `stops` are the identifiers of the feed's trips and stops. The bytes are at most 2^30, the limit of an
+/// input file.
 pub fn read_stop_times(
     alloc: Global,
     bytes: &[u8],

@@ -34,7 +34,8 @@ pub struct StopTime {
 
 /// The records of one trip in ascending order, each sequence number once. Contracts see the list.
 ///
-/// Room for a record is made from the nearer end, so that records which ascend take as little time as those which descend.
+/// Room for a record is made from the nearer end, so that records which ascend take as little time as those which
+/// descend.
 #[derive(Drop)]
 pub struct TripTimes {
     items: VecDeque<StopTime>,

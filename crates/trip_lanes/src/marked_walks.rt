@@ -9,8 +9,8 @@ use crate::kernels::lower_row;
 use crate::rows::Row;
 use timetable::{Feet, StopNo};
 
-/// Walks from each marked stop, or stays there, in each lane, and notes the stops where a label fell. From the other stops
-/// nobody reaches a stop earlier.
+/// Walks from each marked stop, or stays there, in each lane, and notes the stops where a label fell. From the other
+/// stops nobody reaches a stop earlier.
 pub fn walk_marked<R: Row>(
     feet: &Feet,
     ride: &[R],

@@ -10,8 +10,8 @@ use crate::falls::Fall;
 use crate::lanes::Lanes;
 use crate::ranks::Span;
 
-/// The labels of one stop, one for each of some departures. A search is written once over rows, and runs over each width
-/// of number: narrow rows are the quicker ones, and wide ones reach as far as times go.
+/// The labels of one stop, one for each of some departures. A search is written once over rows, and runs over each
+/// width of number: narrow rows are the quicker ones, and wide ones reach as far as times go.
 pub trait Row: Copy + Drop {
     /// How many departures have a label.
     ghost LANES: { ℕ };

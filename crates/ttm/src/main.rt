@@ -5,8 +5,8 @@
 //!
 //! - `program`: the whole way on a `host`, from arguments to a printed matrix. `answers`: what is put out and told of a
 //!   study, and its report.
-//! - `reading` reads the files that the arguments name from the `disk` into `study_files`, or answers why one is `unread`;
-//!   the crate `studies` makes the matrix's text of them.
+//! - `reading` reads the files that the arguments name from the `disk` into `study_files`, or answers why one is
+//!   `unread`; the crate `studies` makes the matrix's text of them.
 //!
 //! What the arguments ask for and which line tells a fault is the crate `command_line`'s.
 #![tactic(auto)]

@@ -14,7 +14,8 @@
 //!   types, what holds of its words between any two steps, and the kinds of its steps.
 //!
 //! A step's answer and change stand in `specs/Steps.antt`, as a table by cases; the laws stand in `specs/Laws.antt`.
-//! What holds of a board in every schedule stands in `specs/Rule.antt`, and what its calls promise in `specs/Board.antt`.
+//! What holds of a board in every schedule stands in `specs/Rule.antt`, and what its calls promise in
+//! `specs/Board.antt`.
 #![tactic(auto)]
 
 mod board;

@@ -18,8 +18,8 @@ pub enum Verdict {
 
 /// Decides what becomes of each lease, and is told what came of it. It is asked by several workers at once.
 ///
-/// Contracts know of a gate what it may decide, and what it was told. Both come from its calls alone: nobody else can say
-/// of a gate that it let a worker vanish, or that it was told of a row.
+/// Contracts know of a gate what it may decide, and what it was told. Both come from its calls alone: nobody else can
+/// say of a gate that it let a worker vanish, or that it was told of a row.
 pub trait Gate {
     ghost use Rattle.work_book.specs.declared.lease.Lease.{Lease};
     ghost use Rattle.work_book.specs.declared.lease.Settled.{Settled};

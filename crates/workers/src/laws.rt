@@ -38,9 +38,9 @@ pub fn rows_depend_on_their_network()
 
 /// A law: which stops are destinations changes no number.
 ///
-/// Beside the row of the same network, origin, opportunities and question with all stops as destinations, a row has the same
-/// access sums, and for each of its destinations the cell that the other one has at that stop. So the matrix of a study is that
-/// of the same study with all stops, with the other columns left out.
+/// Beside the row of the same network, origin, opportunities and question with all stops as destinations, a row has the
+/// same access sums, and for each of its destinations the cell that the other one has at that stop. So the matrix of a
+/// study is that of the same study with all stops, with the other columns left out.
 pub fn rows_have_their_columns()
     ensures rows { RowsHaveTheirColumns }
     ensures matrices { MatricesHaveTheirColumns }
@@ -48,8 +48,8 @@ pub fn rows_have_their_columns()
 
 /// A law: the rows of a study are those of its parts, each a study of some of the origins.
 ///
-/// Where the parts ask the same of the same networks and have the study's origins, one part after the other, then in each
-/// scenario their rows, one part after the other, have the cells and access sums of the study's rows.
+/// Where the parts ask the same of the same networks and have the study's origins, one part after the other, then in
+/// each scenario their rows, one part after the other, have the cells and access sums of the study's rows.
 pub fn wholes_have_the_rows_of_their_parts()
     ensures { WholesHaveTheRowsOfTheirParts }
 {}

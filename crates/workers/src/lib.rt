@@ -14,8 +14,8 @@
 //! - [`row_of`], [`Study::fits`], [`shares_fit`] and [`limits_fit`]: doors for other programs.
 //! - `laws`: what follows for rows and matrices, as that a study has one matrix.
 //!
-//! What a row and a matrix are stands in `specs/` (`Rows`, `Matrices`); what a worker promises, in `Held`; and what a run
-//! of workers ends with, in `Outcomes`.
+//! What a row and a matrix are stands in `specs/` (`Rows`, `Matrices`); what a worker promises, in `Held`; and what a
+//! run of workers ends with, in `Outcomes`.
 #![tactic(auto)]
 
 mod faults;

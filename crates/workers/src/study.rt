@@ -39,8 +39,8 @@ pub struct Asked<'a> {
     pub destinations: &'a [StopNo],
 }
 
-/// What is asked for: one row per scenario and origin, with, for each share, one cell per destination and one access sum per
-/// limit.
+/// What is asked for: one row per scenario and origin, with, for each share, one cell per destination and one access
+/// sum per limit.
 #[derive(Clone, Copy)]
 pub struct Study<'a> {
     /// The study's number, which each of its rows bears.
@@ -58,8 +58,9 @@ pub struct Study<'a> {
 impl Study<'_> {
     /// A door for other programs: whether the study is within the limits.
     ///
-    /// There are at most 16 networks, each with as many stops as there are opportunities; at most 65,535 origins and as many
-    /// destinations, each of them one of these stops; the window fits; there are 1 to 8 rides; and the shares and the limits fit.
+    /// There are at most 16 networks, each with as many stops as there are opportunities; at most 65,535 origins and as
+    /// many destinations, each of them one of these stops; the window fits; there are 1 to 8 rides; and the shares and
+    /// the limits fit.
     pub fn fits(&self) -> bool
         ensures { IsTrue result ↔ StudyFits (study_of self.now) }
     {
