@@ -38,7 +38,7 @@ Example: ttm --feed town --date 20260504 --from 08:00 --to 08:59 --trips 3 --wal
 
 /// The whole text of the version.
 const VERSION_TEXT: &str = "ttm 2.0.0
-proved with rattle-kit-13b logic dac8208d650f15bf
+proved with rattle-kit-13f logic dac8208d650f15bf
 ";
 
 /// The text that arguments give in place of a study, if `clap` has one for them.
