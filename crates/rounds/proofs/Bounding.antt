@@ -1,12 +1,12 @@
 -- Labels that are lowered to bounds, stop by stop.
-use Rattle.std.proofs.Common.{◌≡◌, ℕ, ◌<◌, ◌+◌, inl, inr, List, [], length, min, set, slice_index, get_or, arith, sym, ◌∙◌, ap}
+use Rattle.std.proofs.Common.{◌≡◌, ℕ, ◌<◌, ◌+◌, inl, inr, List, length, min, set, slice_index, get_or, arith, sym, ◌∙◌, ap}
 use Rattle.std.proofs.lemmas.Bool.{cases_lt}
 use Rattle.std.proofs.lemmas.List.{length-map, get_or-map, map-set}
 use Rattle.timetable.specs.Steps.{Lowers}
 use Rattle.timetable.proofs.Lowering.{lowers_alike, lowers_both}
 use Rattle.trip_lanes.specs.Cut.{cut}
 use Rattle.trip_lanes.specs.Lane.{lane, labels_in}
-use Rattle.trip_lanes.proofs.Lower.{lane_old, lowers_set, row_lane}
+use Rattle.trip_lanes.proofs.Lower.{lowers_set, row_lane}
 use Rattle.rounds.specs.Batches.{bounds_in}
 
 -- one stop more
@@ -20,16 +20,11 @@ one_more bound s time e h k =
     ])
     (lowers_both h k)
 
--- the bound of a stop
-bounds_at : (base cap k : ℕ) (kept : List (List ℕ)) (s : ℕ) → s < length kept → slice_index (bounds_in base cap k kept) s ≡ cut base cap (slice_index (get_or kept s []) k)
-bounds_at base cap k kept s within =
-    get_or-map (cut base cap) (lane k kept) s 0 0 (omega (arith, within, length-map kept (λ w. slice_index w k))) ∙ ap (cut base cap) (lane_old kept s k within)
-
 -- the row of a stop that is lowered to its bound, in one lane
-pub one_more_row : {A : Type 0} (labels : A → List ℕ) (rows : List A) (s l : ℕ) (row low : A) (base cap k : ℕ) (kept : List (List ℕ)) (bound : ℕ) {old : List ℕ} → row ≡ get_or rows s row → s < length rows → s < length kept → slice_index (labels low) l ≡ min (slice_index (labels row) l) bound → bound ≡ cut base cap (slice_index (get_or kept s []) k) → Lowers (λ p x. (p < s) × (x ≡ slice_index (bounds_in base cap k kept) p)) old (lane l (labels_in labels rows)) → Lowers (λ p x. (p < s + 1) × (x ≡ slice_index (bounds_in base cap k kept) p)) old (lane l (labels_in labels (set rows s low)))
-one_more_row labels rows s l row low base cap k kept bound is within there lower e before =
+pub one_more_row : {A : Type 0} (labels : A → List ℕ) (rows : List A) (s l : ℕ) (row low : A) (base cap : ℕ) (kept : List ℕ) (bound : ℕ) {old : List ℕ} → row ≡ get_or rows s row → s < length rows → s < length kept → slice_index (labels low) l ≡ min (slice_index (labels row) l) bound → bound ≡ cut base cap (slice_index kept s) → Lowers (λ p x. (p < s) × (x ≡ slice_index (bounds_in base cap kept) p)) old (lane l (labels_in labels rows)) → Lowers (λ p x. (p < s + 1) × (x ≡ slice_index (bounds_in base cap kept) p)) old (lane l (labels_in labels (set rows s low)))
+one_more_row labels rows s l row low base cap kept bound is within there lower e before =
     let xs = labels_in labels rows in
     let long : s < length (lane l xs) = omega (arith, length-map xs (λ w. slice_index w l), length-map rows labels, within) in
     let lowered : Lowers (λ p x. (p ≡ s) × (x ≡ bound)) (lane l xs) (lane l (labels_in labels (set rows s low))) =
     rw (map-set labels rows s low, map-set (λ w. slice_index w l) xs s (labels low), lower, ← row_lane labels rows s l row row is within) (lowers_set (lane l xs) s bound long) in
-    one_more (bounds_in base cap k kept) s bound (e ∙ sym (bounds_at base cap k kept s there)) before lowered
+    one_more (bounds_in base cap kept) s bound (e ∙ sym (get_or-map (cut base cap) kept s 0 0 there)) before lowered

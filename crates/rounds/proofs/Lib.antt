@@ -3,7 +3,6 @@ pub mod BatchRows
 pub mod Batching
 pub mod Bounding
 pub mod Carrying
-pub mod Clearing
 pub mod CutDurations
 pub mod CutJourneys
 pub mod CutNetworks

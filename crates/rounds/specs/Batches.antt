@@ -1,17 +1,19 @@
 -- Batches of a window: minutes of it side by side, as many as a row has lanes.
-use Rattle.std.specs.Prelude.{◌≡◌, ℕ, ◌+◌, ◌*◌, ◌<◌, ◌≤◌, List, length, map, slice_index}
+use Rattle.std.specs.Prelude.{◌≡◌, ℕ, ◌+◌, ◌*◌, ◌<◌, ◌≤◌, List, length, map, slice_get, slice_index, Some}
 use Rattle.timetable.specs.declared.least.TheConstants.{NEVER}
 use Rattle.timetable.specs.Networks.{Net}
 use Rattle.timetable.specs.Least.{IsLeastOrNever}
 use Rattle.timetable.specs.Journeys.{IsDuration}
 use Rattle.timetable.specs.Journeys.{Whereabouts}
 use Rattle.rounds.specs.declared.bounded.Batch.{Batch}
+use Rattle.rounds.specs.declared.bounded.Kept.{Kept}
 use Rattle.rounds.specs.declared.query.Query.{Query}
 use Rattle.rounds.specs.declared.window.Window.{Window}
 use Rattle.rounds.specs.Window.{departure}
+use Rattle.rounds.specs.Cut.{cut_net}
+use Rattle.rounds.specs.Labels.{LaneStateTo}
 use Rattle.rounds.specs.Table.{batches_of, label_of}
 use Rattle.trip_lanes.specs.Cut.{cut}
-use Rattle.trip_lanes.specs.Lane.{lane}
 use Rattle.trip_lanes.specs.declared.lanes.TheConstants.{LANES}
 
 -- stop by stop, the least duration for each minute of a window, or NEVER where there is none; lanes past the window are dead
@@ -21,9 +23,9 @@ pub record AreLabels (n : Net) (origin : ℕ) (w : Window) (k : ℕ) (labels : L
       IsLeastOrNever (IsDuration n origin (departure w m) k p) (label_of w.minutes labels p m)
   pub dead : (p m : ℕ) → p < n.stops → w.minutes ≤ m → m < LANES * batches_of w.minutes → label_of w.minutes labels p m ≡ NEVER
 
--- the labels that are kept as times: those for k rides
-abbrev pub bounds_in : ℕ → ℕ → ℕ → List (List ℕ) → List ℕ
-bounds_in base cap k kept = map (cut base cap) (lane k kept)
+-- the labels that are kept as times
+abbrev pub bounds_in : ℕ → ℕ → List ℕ → List ℕ
+bounds_in base cap kept = map (cut base cap) kept
 
 -- labels reach to the end of 32 bits at most, each departure is a label, and none is later than the one whose labels bound them
 pub record IsBatch {R : Type 0} (lanes never : ℕ) (labels : R → List ℕ) (b : Batch R) : Type 0 where
@@ -34,3 +36,8 @@ pub record IsBatch {R : Type 0} (lanes never : ℕ) (labels : R → List ℕ) (b
 -- the start of a journey that departs then
 abbrev pub start_at : Query → ℕ → Whereabouts
 start_at q time = record { stop = q.origin.0; time = time }
+
+-- for each number of rides up to so many, the labels of who starts so, on the network with its times cut
+abbrev pub AreKept : ℕ → ℕ → Net → Whereabouts → ℕ → List Kept → Type 0
+AreKept never base n start rides kept = (k : ℕ) (x : Kept) → k ≤ rides → slice_get kept k ≡ Some x →
+    LaneStateTo never (cut_net base never n) start k (bounds_in base never x.ride.items) (bounds_in base never x.ready.items)

@@ -21,6 +21,4 @@ pub record AreTablesFor {R : Type 0} (stops : ℕ) (lines : LineTable) (t : Tabl
   pub falls : length t.falls.items ≡ stops
   pub marked : length t.marked.items ≡ stops
   pub fallen : length t.fallen.items ≡ stops
-  pub bound_ride : length t.bound_ride.items ≡ stops
-  pub bound_ready : length t.bound_ready.items ≡ stops
   pub due : length t.due.items ≡ length lines.lines

@@ -12,7 +12,7 @@ ghost use Rattle.rounds.specs.Query.{IsAsked, AreTablesFor};
 ghost use Rattle.rounds.specs.Table.{batches_of, label_of};
 ghost use Rattle.trip_lanes.specs.declared.lanes.TheConstants.{LANES};
 
-use crate::bounded::{Batch, clear_kept, run_bounded};
+use crate::bounded::{Batch, no_kept, run_bounded};
 use crate::last::fill_last_arrivals;
 use crate::query::Query;
 use crate::tables::Tables;
@@ -180,8 +180,8 @@ pub(crate) fn run_window<R: Row>(
     let lanes = R::LANES as u32;
     let minutes = query.window.minutes;
     let batches = (minutes + (lanes - 1)) / lanes;
-    clear_kept(tables.bound_ride.as_mut_slice());
-    clear_kept(tables.bound_ready.as_mut_slice());
+    let mut bounds = no_kept(alloc, query.network.stops() as usize, query.rides)?;
+    let kept = bounds.as_mut_slice();
     let mut later = NEVER;
     for i in 0..batches {
         let at = batches - 1 - i;
@@ -193,7 +193,7 @@ pub(crate) fn run_window<R: Row>(
             departs,
             later,
         };
-        run_bounded(query, batch, tables);
+        run_bounded(query, batch, kept, tables);
         later = first;
         if !are_told_of_reached(alloc, query, batch, tables, beside, last)? {
             return Ok(false);

@@ -21,7 +21,7 @@ use trip_lanes::{LANES, Lanes, Narrow, Row};
 /// After a search that narrow labels couldn't tell, how many go by wide ones at once.
 const WIDE_AT_ONCE: u32 = 15;
 
-/// The tables of a search: labels, bounds and marks, of each stop or line.
+/// The tables of a search: labels and marks, of each stop or line.
 ///
 /// They grow when a network is searched for the first time, and then serve each origin and window of it: what they hold
 /// from before doesn't matter. One search serves any network, and the tables are made anew where its size is another.

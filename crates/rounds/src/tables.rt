@@ -2,12 +2,11 @@
 ghost use Rattle.std.specs.Prelude.{◌≡◌, length, OnOk};
 ghost use Rattle.rounds.specs.Query.{AreTablesFor};
 
-use crate::bounded::Kept;
 use std::alloc::{AllocError, Global};
 use timetable::{Lines, NEVER};
 use trip_lanes::{Fall, Row, UNFALLEN};
 
-/// Labels, bounds and marks, of each stop or line. What they hold from before a search doesn't matter.
+/// Labels and marks, of each stop or line. What they hold from before a search doesn't matter.
 #[derive(Drop)]
 pub(crate) struct Tables<R> {
     /// By when each stop is reached by a ride, for departures side by side.
@@ -22,10 +21,6 @@ pub(crate) struct Tables<R> {
     pub marked: Vec<bool>,
     /// Whether a label of who is ready there fell.
     pub fallen: Vec<bool>,
-    /// The labels of the earliest departure of the batch after this one, for each number of rides: they bound those of
-    /// this one, and become its own.
-    pub bound_ride: Vec<Kept>,
-    pub bound_ready: Vec<Kept>,
     /// From which position on a line is scanned in this round, or `NEVER`.
     pub due: Vec<u32>,
 }
@@ -40,8 +35,6 @@ impl<R: Row> Tables<R> {
             falls: Vec::new(alloc),
             marked: Vec::new(alloc),
             fallen: Vec::new(alloc),
-            bound_ride: Vec::new(alloc),
-            bound_ready: Vec::new(alloc),
             due: Vec::new(alloc),
         }
     }
@@ -61,8 +54,6 @@ impl<R: Row> Tables<R> {
         make_falls(alloc, &mut self.falls, stops)?;
         make_marks(alloc, &mut self.marked, stops)?;
         make_marks(alloc, &mut self.fallen, stops)?;
-        make_kept(alloc, &mut self.bound_ride, stops)?;
-        make_kept(alloc, &mut self.bound_ready, stops)?;
         make_times(alloc, &mut self.due, lines.count())
     }
 }
@@ -73,16 +64,6 @@ fn make_rows<R: Row>(alloc: Global, table: &mut Vec<R>, places: usize) -> Result
 {
     if table.len() != places {
         *table = vec![in alloc; R::all(R::NEVER); places]?;
-    }
-    Ok(())
-}
-
-/// Makes a table of bounds that is so long, unless it is.
-fn make_kept(alloc: Global, table: &mut Vec<Kept>, places: usize) -> Result<(), AllocError>
-    ensures { OnOk result (length table.new.items ≡ places) }
-{
-    if table.len() != places {
-        *table = vec![in alloc; [NEVER; 9]; places]?;
     }
     Ok(())
 }

@@ -11,7 +11,7 @@ ghost use Rattle.rounds.specs.Last.{AreLastFrom};
 ghost use Rattle.rounds.specs.Query.{IsAsked, AreTablesFor};
 ghost use Rattle.rounds.specs.State.{arrival};
 
-use crate::bounded::{Batch, clear_kept, run_bounded};
+use crate::bounded::{Batch, no_kept, run_bounded};
 use crate::query::Query;
 use crate::tables::Tables;
 use std::alloc::{AllocError, Global};
@@ -19,16 +19,15 @@ use timetable::NEVER;
 use trip_lanes::{Lanes, Row};
 
 /// Fills in by when each stop is reached from the first departure of the window, in the first lane.
-fn run_first(query: Query<'_>, tables: &mut Tables<Lanes>)
+fn run_first(alloc: Global, query: Query<'_>, tables: &mut Tables<Lanes>) -> Result<(), AllocError>
     requires asked { IsAsked query }
     requires short { All (λ row. length row ≤ NEVER_VALUE) query.lines.now.lines }
     requires tables { AreTablesFor query.network.now.stops query.lines.now tables.old }
-    ensures tables { AreTablesFor query.entry.network.now.stops query.entry.lines.now tables.new }
-    ensures state { LaneStateTo NEVER_VALUE (cut_net 0 NEVER_VALUE query.entry.network.now) (start_at query.entry query.entry.window.first) query.entry.rides (lane 0 (labels_in (λ row. row) tables.new.ride.items)) (lane 0 (labels_in (λ row. row) tables.new.ready.items)) }
+    ensures tables { OnOk result (AreTablesFor query.entry.network.now.stops query.entry.lines.now tables.new) }
+    ensures state { OnOk result (LaneStateTo NEVER_VALUE (cut_net 0 NEVER_VALUE query.entry.network.now) (start_at query.entry query.entry.window.first) query.entry.rides (lane 0 (labels_in (λ row. row) tables.new.ride.items)) (lane 0 (labels_in (λ row. row) tables.new.ready.items))) }
 {
     query.network.known();
-    clear_kept(tables.bound_ride.as_mut_slice());
-    clear_kept(tables.bound_ready.as_mut_slice());
+    let mut kept = no_kept(alloc, query.network.stops() as usize, query.rides)?;
     let departs = Lanes::minutely(query.window.first, 1);
     run_bounded(
         query,
@@ -37,8 +36,10 @@ fn run_first(query: Query<'_>, tables: &mut Tables<Lanes>)
             departs,
             later: NEVER,
         },
+        kept.as_mut_slice(),
         tables,
     );
+    Ok(())
 }
 
 /// The number of a stop, or 0 where its label is never.
@@ -81,7 +82,7 @@ pub(crate) fn leave_out_unreached(
 {
     query.network.known();
     tables.fit(alloc, query.network.stops() as usize, query.lines)?;
-    run_first(query, tables);
+    run_first(alloc, query, tables)?;
     leave_out(tables.ride.as_slice(), tables.ready.as_slice(), last);
     Ok(())
 }

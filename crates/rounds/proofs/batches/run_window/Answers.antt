@@ -1,7 +1,5 @@
-use Rattle.std.proofs.Common.{◌≢◌, ◌≡◌, ◌<◌, ◌≤◌, ◌+◌, ◌-◌, ◌*◌, ◌/◌, ◌⊎◌, inl, inr, ℕ, List, length, replicate, slice_index, ap, refl, sym, ◌∙◌, arith, subst}
+use Rattle.std.proofs.Common.{◌≢◌, ◌≡◌, ◌<◌, ◌≤◌, ◌+◌, ◌-◌, ◌*◌, ◌/◌, ◌⊎◌, inl, inr, ℕ, List, length, slice_index, ap, refl, sym, ◌∙◌, arith, subst}
 use Rattle.std.proofs.lemmas.Bool.{cases_lt, cases_eq}
-use Rattle.std.proofs.lemmas.List.{with_items_is}
-use Rattle.std.specs.Vec.{with_items}
 use Rattle.timetable.specs.declared.limits.TheConstants.{END_OF_AXIS}
 use Rattle.timetable.specs.declared.least.TheConstants.{NEVER}
 use Rattle.timetable.specs.Least.{IsLeastOrNever}
@@ -11,46 +9,28 @@ use Rattle.rounds.specs.State.{arrival}
 use Rattle.rounds.specs.Window.{departure}
 use Rattle.rounds.specs.Table.{batches_of, label_of}
 use Rattle.rounds.proofs.Batching.{batches_reach, sixteens_reach, batch_at, turn_same, turn_begins, turn_after, turn_lives}
-use Rattle.rounds.proofs.Batch.{lane_since, lane_minute, lane_dead, bounds_never, bounds_rebased}
+use Rattle.rounds.proofs.Batch.{lane_since, lane_minute, lane_dead, kept_never, kept_rebased}
 use Rattle.rounds.proofs.batches.run_window.Goals as goal
 
 pub loop-i-init : goal.loop-i-init
 loop-i-init g c =
     let n = c.args.query.network.now in
     let w = c.args.query.window in
-    let tbl = c.args.tables.now in
     let lanes : ℕ = c.LANES-lanes.result in
     let same : lanes ≡ g.R.Row.LANES = c.LANES-lanes.ensures in
     let some : 0 < lanes = omega (arith, same, g.met.R.Row.some) in
     let whole : 16 * (lanes / 16) ≡ lanes = rw same g.met.R.Row.sixteens in
-    let rides : length c.as_mut_slice.result.now ≡ n.stops = ap length c.as_mut_slice.ensures.value ∙ c.requires.tables.bound_ride in
-    let readies : length c.as_mut_slice-2.result.now ≡ n.stops = ap length c.as_mut_slice-2.ensures.value ∙ c.requires.tables.bound_ready in
-    let a : c.clear_kept.new.labels ≡ replicate n.stops (replicate 9 NEVER) = c.clear_kept.ensures ∙ ap (λ (m : ℕ). replicate m (replicate 9 NEVER)) rides in
-    let b : c.clear_kept-2.new.labels ≡ replicate n.stops (replicate 9 NEVER) = c.clear_kept-2.ensures ∙ ap (λ (m : ℕ). replicate m (replicate 9 NEVER)) readies in
-    let ride : (with_items tbl.bound_ride c.clear_kept.new.labels).items ≡ c.clear_kept.new.labels = with_items_is tbl.bound_ride c.clear_kept.new.labels (c.clear_kept.auto.labels ∙ c.as_mut_slice.ensures.len) in
-    let ready : (with_items tbl.bound_ready c.clear_kept-2.new.labels).items ≡ c.clear_kept-2.new.labels = with_items_is tbl.bound_ready c.clear_kept-2.new.labels (c.clear_kept-2.auto.labels ∙ c.as_mut_slice-2.ensures.len) in
     let reach = batches_reach lanes w.minutes some in
     let far = sixteens_reach lanes w.minutes some whole in
     record {
-      tables = record {
-        ride = c.requires.tables.ride;
-        ready = c.requires.tables.ready;
-        before = c.requires.tables.before;
-        falls = c.requires.tables.falls;
-        marked = c.requires.tables.marked;
-        fallen = c.requires.tables.fallen;
-        bound_ride = ap length ride ∙ (c.clear_kept.auto.labels ∙ rides);
-        bound_ready = ap length ready ∙ (c.clear_kept-2.auto.labels ∙ readies);
-        due = c.requires.tables.due;
-      };
+      tables = c.requires.tables;
       labels = c.requires.labels;
       late = c.requires.last;
       few = c.requires.few;
       last = λ _. refl;
       next = λ batch e pos. absurd (omega arith);
-      bounds = λ base k at few.
-          let nine : k < 9 = omega (arith, c.requires.asked.rides) in
-          bounds_never n c.known.ensures base g.R.Row.NEVER c.args.query.origin.0 NEVER k _ _ (ride ∙ a) (ready ∙ b) nine at.fits refl;
+      many = ap length c.as_mut_slice-kept.ensures.value ∙ c.in_ok-bounds.ensures.many;
+      bounds = λ base at. rw c.as_mut_slice-kept.ensures.value (kept_never n c.known.ensures base g.R.Row.NEVER c.args.query.origin.0 NEVER c.args.query.rides _ (rw c.stops.ensures at c.in_ok-bounds.ensures.never) at.fits refl);
       each = λ batch p m e there l le.
           let at : g.R.Row.LANES * batch ≡ lanes * ((w.minutes + (lanes - 1)) / lanes) = ap (λ (x : ℕ). g.R.Row.LANES * x) (omega (arith, e)) ∙ ap (λ (x : ℕ). x * ((w.minutes + (lanes - 1)) / lanes)) (sym same) in
           absurd (omega (arith, at, reach, le, l));
@@ -112,7 +92,7 @@ run_bounded-requires-clause-batch g c =
     }
 
 pub run_bounded-requires-clause-bounds : goal.run_bounded-requires-clause-bounds
-run_bounded-requires-clause-bounds g c k few =
+run_bounded-requires-clause-bounds g c =
     let w = c.args.query.window in
     let lanes = g.R.Row.LANES in
     let some : 0 < lanes = omega (arith, g.met.R.Row.some) in
@@ -128,7 +108,7 @@ run_bounded-requires-clause-bounds g c k few =
           let after = turn_after lanes c.LANES-lanes.result w.minutes c.loop-i.i c.LANES-lanes.ensures some c.loop-i-test.true in
           inr (omega (arith, e, after))
     ] in
-    c.loop-i.invariant.bounds c.base_of-base.result k (record {
+    c.loop-i.invariant.bounds c.base_of-base.result (record {
       fits = base.fits;
       live = elim base.before [
         | inl none ↦ inl none
@@ -138,7 +118,7 @@ run_bounded-requires-clause-bounds g c k few =
         ]
       ];
       near = elim later [ inl e ↦ inl e | inr e ↦ inr (omega (arith, e, same, base.near, base.within)) ];
-    }) few
+    })
 
 pub write_batch-requires-clause-since : goal.write_batch-requires-clause-since
 write_batch-requires-clause-since g c l p h within reached =
@@ -190,8 +170,8 @@ loop-i-preserved g c =
       few = c.are_told_of_reached.ensures.few;
       last = λ e. absurd (omega arith);
       next = λ b e pos. let f = of_batch b e in omega (arith, f, same);
-      bounds = λ sooner k at few.
-          bounds_rebased n c.known.ensures c.base_of-base.result never c.args.query.origin.0 (time 0) first k c.run_bounded.new.tables.bound_ride.items c.run_bounded.new.tables.bound_ready.items (omega (arith, axis, same)) base.within base.before base.short (omega (arith, head)) (c.run_bounded.ensures.kept k few) sooner at;
+      many = c.run_bounded.ensures.many;
+      bounds = kept_rebased n c.known.ensures c.base_of-base.result never c.args.query.origin.0 (time 0) first c.args.query.rides c.run_bounded.new.kept (omega (arith, axis, same)) base.within base.before base.short (omega (arith, head)) c.run_bounded.ensures.kept;
       each = λ b p m e there l le.
           let f = of_batch b e in
           elim (cases_lt m (lanes * batch + lanes)) [

@@ -6,9 +6,7 @@ use Rattle.timetable.specs.Journeys.{IsDuration}
 use Rattle.trip_lanes.specs.Cut.{cut}
 use Rattle.rounds.specs.Window.{departure}
 use Rattle.rounds.specs.Table.{batches_of, label_of}
-use Rattle.rounds.specs.Cut.{cut_net}
-use Rattle.rounds.specs.Labels.{LaneStateTo}
-use Rattle.rounds.specs.Batches.{start_at, bounds_in}
+use Rattle.rounds.specs.Batches.{AreKept, start_at}
 use Rattle.rounds.specs.Last.{AreLastFrom}
 use Rattle.rounds.specs.Query.{AreTablesFor}
 use Rattle.rounds.proofs.Batch.{IsBaseTo}
@@ -23,8 +21,8 @@ invariant-loop-i g v =
       few : (p : ℕ) → slice_index v.last p ≤ END_OF_AXIS + MOST_FOOT_SECONDS;
       last : v.i ≡ 0 → v.later ≡ NEVER;
       next : (batch : ℕ) → batch + v.i ≡ v.batches → 0 < v.i → v.later ≡ departure v.query.window (g.R.Row.LANES * batch);
-      bounds : (base k : ℕ) → IsBaseTo g.R.Row.NEVER v.later base → k ≤ v.query.rides →
-          LaneStateTo g.R.Row.NEVER (cut_net base g.R.Row.NEVER v.query.network.now) (start_at v.query (cut base g.R.Row.NEVER v.later)) k (bounds_in base g.R.Row.NEVER k v.tables.bound_ride.items) (bounds_in base g.R.Row.NEVER k v.tables.bound_ready.items);
+      many : length v.kept ≡ v.query.rides + 1;
+      bounds : (base : ℕ) → IsBaseTo g.R.Row.NEVER v.later base → AreKept g.R.Row.NEVER base v.query.network.now (start_at v.query (cut base g.R.Row.NEVER v.later)) v.query.rides v.kept;
       each : (batch p m : ℕ) → batch + v.i ≡ v.batches → p < v.query.network.now.stops → m < v.query.window.minutes → g.R.Row.LANES * batch ≤ m →
           IsLeastOrNever (IsDuration v.query.network.now v.query.origin.0 (departure v.query.window m) v.query.rides p) (label_of v.query.window.minutes v.labels p m);
       dead : (batch p m : ℕ) → batch + v.i ≡ v.batches → p < v.query.network.now.stops → v.query.window.minutes ≤ m → m < 16 * batches_of v.query.window.minutes → g.R.Row.LANES * batch ≤ m →

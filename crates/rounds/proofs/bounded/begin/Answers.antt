@@ -21,7 +21,7 @@ loop-stop-preserved g c =
     let within : s < length labels = omega arith in
     let noted : s < length before = omega arith in
     record {
-      lanes = λ l h. one_more_row g.R.Row.labels labels s l c.index-labels-stop.result low c.args.base g.R.Row.NEVER c.args.k c.args.bound.now (slice_index (g.R.Row.labels c.bound_of.result) l)
+      lanes = λ l h. one_more_row g.R.Row.labels labels s l c.index-labels-stop.result low c.args.base g.R.Row.NEVER c.args.bound.now (slice_index (g.R.Row.labels c.bound_of.result) l)
           c.index-labels-stop.is within (omega arith) (c.lower_of-low.ensures l h) (c.bound_of.ensures l h) (c.loop-stop.invariant.lanes l h);
       noted = λ p none below. elim (cases_lt p s) [
         | inl lt ↦ get_or-set_other before s p low none (λ e. omega arith) ∙ (c.loop-stop.invariant.noted p none lt ∙ sym (get_or-set_other labels s p low none (λ e. omega arith)))

@@ -1,14 +1,19 @@
-use Rattle.std.proofs.Common.{rules, ◌≡◌, ◌≢◌, ◌<◌, ◌≤◌, ◌+◌, inl, inr, ℕ, List, Bool, length, replicate, slice_index, slice_get, Some, true, ap, refl, sym, ◌∙◌, arith}
+use Rattle.std.proofs.Common.{rules, ◌≡◌, ◌≢◌, ◌<◌, ◌≤◌, ◌+◌, inl, inr, ℕ, List, Bool, length, replicate, slice_index, slice_get, get_or, Some, true, ap, refl, sym, ◌∙◌, arith}
 use Rattle.std.specs.Vec.{with_items}
 use Rattle.std.proofs.lemmas.Bool.{cases_lt}
 use Rattle.std.proofs.lemmas.List.{length-map, get_or_past, with_items_is}
+use Rattle.std.proofs.lemmas.Option.{same_Some, slice_get-get_or}
 use Rattle.timetable.specs.Footpaths.{FeetData}
 use Rattle.timetable.specs.Steps.{Lowers}
+use Rattle.timetable.specs.Networks.{Net}
+use Rattle.timetable.specs.Journeys.{Whereabouts}
 use Rattle.timetable.specs.declared.least.TheConstants.{NEVER}
+use Rattle.timetable.proofs.Adding.{set_same, set_other}
 use Rattle.trip_lanes.specs.Cut.{cut}
 use Rattle.trip_lanes.specs.Lane.{lane, labels_in, MarksFallenOf}
 use Rattle.trip_lanes.proofs.Carry.{lane_falls}
 use Rattle.trip_lanes.proofs.Marked.{unmarked_still}
+use Rattle.rounds.specs.declared.bounded.Kept.{Kept}
 use Rattle.rounds.specs.Batches.{start_at, bounds_in}
 use Rattle.rounds.specs.Cut.{cut_net}
 use Rattle.rounds.specs.Labels.{LaneStateTo}
@@ -31,6 +36,21 @@ unfallen_same lanes old new was is l p marks long low h none = elim (cases_lt p 
       get_or_past (lane l old) p 0 (omega arith) ∙ sym (get_or_past (lane l new) p 0 (omega (arith, low.same_length)))
 ]
 
+-- what is kept of labels has a place for each stop
+kept_long : (base never k : ℕ) (n : Net) (o : Whereabouts) (x : Kept) → LaneStateTo never (cut_net base never n) o k (bounds_in base never x.ride.items) (bounds_in base never x.ready.items) → (length x.ride.items ≡ n.stops) × (length x.ready.items ≡ n.stops)
+kept_long base never k n o x s = (sym (length-map x.ride.items (cut base never)) ∙ s.ride_len, sym (length-map x.ready.items (cut base never)) ∙ s.ready_len)
+
+pub begin-requires-clause-bound : goal.begin-requires-clause-bound
+begin-requires-clause-bound g c =
+    let never = g.R.Row.NEVER in
+    let base = c.args.batch.base in
+    let n = c.args.query.network.now in
+    let later = start_at c.args.query (cut base never c.args.batch.later) in
+    let was = c.args.kept.now in
+    let x = get_or was 0 c.index-kept-0.result in
+    let long = kept_long base never 0 n later x (c.requires.bounds 0 x (omega arith) (slice_get-get_or was 0 c.index-kept-0.result (omega (arith, c.requires.many)))) in
+    omega (arith, long.1, ap length c.as_slice.ensures.value, c.clear-2.auto.labels, ap length c.as_mut_slice-ready.ensures.value, c.requires.tables.ready)
+
 pub walk_marked-requires-clause-fits : goal.walk_marked-requires-clause-fits
 walk_marked-requires-clause-fits g c l p h =
     let never = g.R.Row.NEVER in
@@ -52,7 +72,29 @@ walk_marked-requires-clause-settled g c l x h within none =
     let low = rw (cleared never (length c.as_mut_slice-ride.result.now) n.stops l (rows c.clear.new.labels) (c.clear.ensures l h) (ap length c.as_mut_slice-ride.ensures.value ∙ c.requires.tables.ride)) at (c.set_out.ensures.lanes l h) in
     let there : x < n.stops = omega (arith, within, ap (λ (f : FeetData). length f.walks) c.feet.ensures, c.known.ensures.in_range.lists) in
     let other : x ≢ origin = λ e. none (ap (slice_get c.set_out.new.marked) e ∙ c.set_out.ensures.here) in
-    rw c.feet.ensures (start_walks never (cut_net base never n) ok later origin (slice_index (g.R.Row.labels c.args.batch.departs) l) (lane l (rows c.set_out.new.ride)) (lane l (rows c.begin.new.labels)) (bounds_in base never 0 c.as_mut_slice-bound_ready.result.now) low start x there other)
+    rw c.feet.ensures (start_walks never (cut_net base never n) ok later origin (slice_index (g.R.Row.labels c.args.batch.departs) l) (lane l (rows c.set_out.new.ride)) (lane l (rows c.begin.new.labels)) (bounds_in base never (get_or c.args.kept.now 0 c.index-kept-0.result).ready.items) low (rw c.as_slice.ensures.value at start) x there other)
+
+pub keep_both-requires-clause-ride : goal.keep_both-requires-clause-ride
+keep_both-requires-clause-ride g c =
+    let never = g.R.Row.NEVER in
+    let base = c.args.batch.base in
+    let n = c.args.query.network.now in
+    let later = start_at c.args.query (cut base never c.args.batch.later) in
+    let was = c.args.kept.now in
+    let x = get_or was 0 c.index-kept-0.result in
+    let long = kept_long base never 0 n later x (c.requires.bounds 0 x (omega arith) (slice_get-get_or was 0 c.index-kept-0.result (omega (arith, c.requires.many)))) in
+    omega (arith, long.0, ap (λ (y : Kept). length y.ride.items) c.index-kept-0.is, c.set_out.auto.ride, c.clear.auto.labels, ap length c.as_mut_slice-ride.ensures.value, c.requires.tables.ride)
+
+pub keep_both-requires-clause-ready : goal.keep_both-requires-clause-ready
+keep_both-requires-clause-ready g c =
+    let never = g.R.Row.NEVER in
+    let base = c.args.batch.base in
+    let n = c.args.query.network.now in
+    let later = start_at c.args.query (cut base never c.args.batch.later) in
+    let was = c.args.kept.now in
+    let x = get_or was 0 c.index-kept-0.result in
+    let long = kept_long base never 0 n later x (c.requires.bounds 0 x (omega arith) (slice_get-get_or was 0 c.index-kept-0.result (omega (arith, c.requires.many)))) in
+    omega (arith, long.1, ap (λ (y : Kept). length y.ready.items) c.index-kept-0.is, c.walk_marked.auto.ready, c.begin.auto.labels, c.clear-2.auto.labels, ap length c.as_mut_slice-ready.ensures.value, c.requires.tables.ready)
 
 pub keep_both-requires-clause-ready_fits : goal.keep_both-requires-clause-ready_fits
 keep_both-requires-clause-ready_fits g c p =
@@ -75,16 +117,16 @@ loop-k-init g c =
     let later = start_at c.args.query (cut base never c.args.batch.later) in
     let departs = g.R.Row.labels c.args.batch.departs in
     let some : 0 < g.R.Row.LANES = omega (arith, g.met.R.Row.some) in
-    let start : (l : ℕ) → l < g.R.Row.LANES → Lowers (λ p x. x ≡ slice_index (bounds_in base never 0 c.as_mut_slice-bound_ready.result.now) p) (replicate n.stops never) (lane l (rows c.begin.new.labels)) = λ l h.
-    rw (cleared never (length c.as_mut_slice-ready.result.now) n.stops l (rows c.clear-2.new.labels) (c.clear-2.ensures l h) (ap length c.as_mut_slice-ready.ensures.value ∙ c.requires.tables.ready)) at (c.begin.ensures.lanes l h) in
+    let start : (l : ℕ) → l < g.R.Row.LANES → Lowers (λ p x. x ≡ slice_index (bounds_in base never (get_or c.args.kept.now 0 c.index-kept-0.result).ready.items) p) (replicate n.stops never) (lane l (rows c.begin.new.labels)) = λ l h.
+    rw (cleared never (length c.as_mut_slice-ready.result.now) n.stops l (rows c.clear-2.new.labels) (c.clear-2.ensures l h) (ap length c.as_mut_slice-ready.ensures.value ∙ c.requires.tables.ready), c.as_slice.ensures.value) at (c.begin.ensures.lanes l h) in
     let low : (l : ℕ) → l < g.R.Row.LANES → Lowers (λ p x. (p ≡ c.args.query.origin.0) × (x ≡ slice_index departs l)) (replicate n.stops never) (lane l (rows c.set_out.new.ride)) = λ l h.
     rw (cleared never (length c.as_mut_slice-ride.result.now) n.stops l (rows c.clear.new.labels) (c.clear.ensures l h) (ap length c.as_mut_slice-ride.ensures.value ∙ c.requires.tables.ride)) at (c.set_out.ensures.lanes l h) in
-    let bounds0 : (j : ℕ) → j ≤ c.args.query.rides → LaneStateTo never cn later j (bounds_in base never j c.as_mut_slice-bound_ride.result.now) (bounds_in base never j c.as_mut_slice-bound_ready.result.now) = λ j few.
-    rw (c.as_mut_slice-bound_ride.ensures.value, c.as_mut_slice-bound_ready.ensures.value) (c.requires.bounds j few) in
+    let was = c.args.kept.now in
+    let first = c.requires.bounds 0 (get_or c.args.kept.now 0 c.index-kept-0.result) (omega arith) (slice_get-get_or was 0 c.index-kept-0.result (omega (arith, c.requires.many))) in
     let lanes : (l : ℕ) → l < g.R.Row.LANES → LaneStateTo never cn (start_at c.args.query (slice_index departs l)) 0 (lane l (rows c.set_out.new.ride)) (lane l (rows c.walk_marked.new.ready)) = λ l h.
     bounded_start never cn ok (start_at c.args.query (slice_index departs l)) later c.requires.asked.origin refl (c.requires.batch.none_later l h) limit (lane l (rows c.set_out.new.ride)) (lane l (rows c.begin.new.labels)) (lane l (rows c.walk_marked.new.ready))
-    (bounds_in base never 0 c.as_mut_slice-bound_ride.result.now) (bounds_in base never 0 c.as_mut_slice-bound_ready.result.now)
-    (bounds0 0 (omega arith)) (low l h) (start l h) (rw c.feet.ensures at (c.walk_marked.ensures.lanes l h)) in
+    (bounds_in base never (get_or c.args.kept.now 0 c.index-kept-0.result).ride.items) (bounds_in base never (get_or c.args.kept.now 0 c.index-kept-0.result).ready.items)
+    first (low l h) (start l h) (rw c.feet.ensures at (c.walk_marked.ensures.lanes l h)) in
     let begun : length c.begin.new.labels ≡ n.stops = c.begin.auto.labels ∙ (c.clear-2.auto.labels ∙ (ap length c.as_mut_slice-ready.ensures.value ∙ c.requires.tables.ready)) in
     record {
       rides = search rules;
@@ -94,24 +136,35 @@ loop-k-init g c =
       fallen = search rules;
       due = search rules;
       falls = search rules;
-      bound_rides = search rules;
-      bound_readies = search rules;
+      many = search rules;
       lanes = lanes;
-      kept = λ j below.
+      kept = λ j x below here.
           let e : j ≡ 0 = omega arith in
-          rw (e, c.keep_both.ensures.ride_here, c.keep_both.ensures.ready_here) (lanes 0 some);
-      bounds = λ j more few.
-          let apart : j ≢ 0 = λ e. omega arith in
-          rw (c.keep_both.ensures.ride_others j apart, c.keep_both.ensures.ready_others j apart) (bounds0 j few);
+          let here' = rw e at here in
+          let is : c.keep_both.new.kept ≡ x = same_Some _ _ (sym (set_same was 0 c.keep_both.new.kept (omega (arith, c.requires.many))) ∙ here') in
+          rw (e, ← is, c.keep_both.ensures.ride, c.keep_both.ensures.ready) (lanes 0 some);
+      bounds = λ j x more few here. c.requires.bounds j x few (sym (set_other was 0 j c.keep_both.new.kept (λ e. omega arith)) ∙ here);
       unfallen = λ l p h out.
           let long : length (rows c.begin.new.labels) ≡ length c.begin.new.fallen = length-map c.begin.new.labels g.R.Row.labels ∙ begun ∙ sym (c.begin.ensures.fallen ∙ ap length c.as_mut_slice-fallen.ensures.value ∙ c.requires.tables.fallen) in
           rw c.begin.ensures.before (unfallen_same g.R.Row.LANES (rows c.begin.new.labels) (rows c.walk_marked.new.ready) c.begin.new.fallen c.walk_marked.new.fallen l p c.walk_marked.ensures.fallen long (c.walk_marked.ensures.lanes l h) h out);
-      settled = λ trip l t lowered runs h room lower.
-          let lower' = rw (c.keep_both.ensures.ride_others 1 (λ e. omega arith)) at lower in
+      settled = λ trip l t x lowered runs h room here lower.
+          let next = c.requires.bounds 1 x (omega arith) (sym (set_other was 0 1 c.keep_both.new.kept (λ e. omega arith)) ∙ here) in
           rw c.begin.ensures.before (start_settled never cn ok later (slice_index departs l) c.args.query.origin.0 (lane l (rows c.set_out.new.ride)) (lane l (rows c.begin.new.labels)) lowered
-          (bounds_in base never 0 c.as_mut_slice-bound_ride.result.now) (bounds_in base never 0 c.as_mut_slice-bound_ready.result.now) (bounds_in base never 1 c.as_mut_slice-bound_ride.result.now) (bounds_in base never 1 c.as_mut_slice-bound_ready.result.now)
-          (bounds0 0 (omega arith)) (bounds0 1 (omega arith)) (low l h) (start l h) lower' trip t runs);
+          (bounds_in base never (get_or c.args.kept.now 0 c.index-kept-0.result).ride.items) (bounds_in base never (get_or c.args.kept.now 0 c.index-kept-0.result).ready.items) (bounds_in base never x.ride.items) (bounds_in base never x.ready.items)
+          first next (low l h) (start l h) lower trip t runs);
     }
+
+pub lower_to-requires : goal.lower_to-requires
+lower_to-requires g c =
+    let never = g.R.Row.NEVER in
+    let base = c.args.batch.base in
+    let n = c.args.query.network.now in
+    let later = start_at c.args.query (cut base never c.args.batch.later) in
+    let k = c.loop-k.k in
+    let was = c.loop-k.kept in
+    let x = get_or was (k + 1) c.index-kept-k.result in
+    let long = kept_long base never (k + 1) n later x (c.loop-k.invariant.bounds (k + 1) x (omega arith) (omega arith) (slice_get-get_or was (k + 1) c.index-kept-k.result (omega (arith, c.loop-k.invariant.many)))) in
+    omega (arith, long.0, ap length c.as_slice-in-loop-k.ensures.value, c.loop-k.invariant.rides)
 
 pub falls_of-requires-clause-same : goal.falls_of-requires-clause-same
 falls_of-requires-clause-same g c = c.loop-k.invariant.unfallen
@@ -123,7 +176,19 @@ scan_lines-requires-clause-fits g c l p h =
 
 pub scan_lines-requires-clause-settled : goal.scan_lines-requires-clause-settled
 scan_lines-requires-clause-settled g c l h p x within o =
-    c.loop-k.invariant.settled o.trip l o.t (lane l (labels_in g.R.Row.labels c.lower_to.new.labels)) (rw c.trips.ensures at o.runs) h (omega arith) (c.lower_to.ensures l h) p x within o.carries
+    c.loop-k.invariant.settled o.trip l o.t (get_or c.loop-k.kept (c.loop-k.k + 1) c.index-kept-k.result) (lane l (labels_in g.R.Row.labels c.lower_to.new.labels)) (rw c.trips.ensures at o.runs) h (omega arith) (slice_get-get_or c.loop-k.kept (c.loop-k.k + 1) c.index-kept-k.result (omega (arith, c.loop-k.invariant.many))) (rw c.as_slice-in-loop-k.ensures.value at (c.lower_to.ensures l h)) p x within o.carries
+
+pub begin-requires-in-loop-k-clause-bound : goal.begin-requires-in-loop-k-clause-bound
+begin-requires-in-loop-k-clause-bound g c =
+    let never = g.R.Row.NEVER in
+    let base = c.args.batch.base in
+    let n = c.args.query.network.now in
+    let later = start_at c.args.query (cut base never c.args.batch.later) in
+    let k = c.loop-k.k in
+    let was = c.loop-k.kept in
+    let x = get_or was (k + 1) c.index-kept-k.result in
+    let long = kept_long base never (k + 1) n later x (c.loop-k.invariant.bounds (k + 1) x (omega arith) (omega arith) (slice_get-get_or was (k + 1) c.index-kept-k.result (omega (arith, c.loop-k.invariant.many)))) in
+    omega (arith, long.1, ap length c.as_slice-in-loop-k-2.ensures.value, c.loop-k.invariant.readies)
 
 pub transfer_marked-requires-clause-fits : goal.transfer_marked-requires-clause-fits
 transfer_marked-requires-clause-fits g c l p h =
@@ -140,7 +205,7 @@ transfer_marked-requires-clause-settled g c l x h within none =
     let k = c.loop-k.k in
     let later = start_at c.args.query (cut base never c.args.batch.later) in
     let o = start_at c.args.query (slice_index (g.R.Row.labels c.args.batch.departs) l) in
-    let bound = c.loop-k.invariant.bounds (k + 1) (omega arith) (omega arith) in
+    let bound = c.loop-k.invariant.bounds (k + 1) (get_or c.loop-k.kept (c.loop-k.k + 1) c.index-kept-k.result) (omega arith) (omega arith) (slice_get-get_or c.loop-k.kept (c.loop-k.k + 1) c.index-kept-k.result (omega (arith, c.loop-k.invariant.many))) in
     let lowered = rows c.lower_to.new.labels in
     let ridden = rows c.scan_lines.new.ride in
     let there : x < n.stops = omega (arith, within, ap (λ (f : FeetData). length f.walks) c.feet-in-loop-k.ensures, c.known.ensures.in_range.lists) in
@@ -148,7 +213,31 @@ transfer_marked-requires-clause-settled g c l x h within none =
     let marks_long : length c.fill.new.self ≡ n.stops = c.fill.ensures.len ∙ c.loop-k.invariant.marked in
     let still = unmarked_still lowered ridden c.fill.new.self c.scan_lines.new.marked x l c.scan_lines.ensures.marks (omega (arith, there, marks_long)) none h falls in
     rw c.feet-in-loop-k.ensures (round_walks never (cut_net base never n) ok later o k (lane l (rows c.loop-k.ride)) (lane l (rows c.loop-k.ready)) (lane l lowered) (lane l ridden) (lane l (rows c.begin-in-loop-k.new.labels))
-    (bounds_in base never (k + 1) c.loop-k.bound_ride) (bounds_in base never (k + 1) c.loop-k.bound_ready) (c.loop-k.invariant.lanes l h) bound (c.lower_to.ensures l h) (c.begin-in-loop-k.ensures.lanes l h) x there still)
+    (bounds_in base never (get_or c.loop-k.kept (c.loop-k.k + 1) c.index-kept-k.result).ride.items) (bounds_in base never (get_or c.loop-k.kept (c.loop-k.k + 1) c.index-kept-k.result).ready.items) (c.loop-k.invariant.lanes l h) bound (rw c.as_slice-in-loop-k.ensures.value at (c.lower_to.ensures l h)) (rw c.as_slice-in-loop-k-2.ensures.value at (c.begin-in-loop-k.ensures.lanes l h)) x there still)
+
+pub keep_both-requires-in-loop-k-clause-ride : goal.keep_both-requires-in-loop-k-clause-ride
+keep_both-requires-in-loop-k-clause-ride g c =
+    let never = g.R.Row.NEVER in
+    let base = c.args.batch.base in
+    let n = c.args.query.network.now in
+    let later = start_at c.args.query (cut base never c.args.batch.later) in
+    let k = c.loop-k.k in
+    let was = c.loop-k.kept in
+    let x = get_or was (k + 1) c.index-kept-k.result in
+    let long = kept_long base never (k + 1) n later x (c.loop-k.invariant.bounds (k + 1) x (omega arith) (omega arith) (slice_get-get_or was (k + 1) c.index-kept-k.result (omega (arith, c.loop-k.invariant.many)))) in
+    omega (arith, long.0, ap (λ (y : Kept). length y.ride.items) c.index-kept-k.is, c.lower_to.auto.labels, c.scan_lines.auto.ride, c.loop-k.invariant.rides)
+
+pub keep_both-requires-in-loop-k-clause-ready : goal.keep_both-requires-in-loop-k-clause-ready
+keep_both-requires-in-loop-k-clause-ready g c =
+    let never = g.R.Row.NEVER in
+    let base = c.args.batch.base in
+    let n = c.args.query.network.now in
+    let later = start_at c.args.query (cut base never c.args.batch.later) in
+    let k = c.loop-k.k in
+    let was = c.loop-k.kept in
+    let x = get_or was (k + 1) c.index-kept-k.result in
+    let long = kept_long base never (k + 1) n later x (c.loop-k.invariant.bounds (k + 1) x (omega arith) (omega arith) (slice_get-get_or was (k + 1) c.index-kept-k.result (omega (arith, c.loop-k.invariant.many)))) in
+    omega (arith, long.1, ap (λ (y : Kept). length y.ready.items) c.index-kept-k.is, c.begin-in-loop-k.auto.labels, c.transfer_marked.auto.ready, c.loop-k.invariant.readies)
 
 pub keep_both-requires-in-loop-k-clause-ride_fits : goal.keep_both-requires-in-loop-k-clause-ride_fits
 keep_both-requires-in-loop-k-clause-ride_fits g c p =
@@ -181,10 +270,10 @@ loop-k-preserved g c =
     let departs = g.R.Row.labels c.args.batch.departs in
     let some : 0 < g.R.Row.LANES = omega (arith, g.met.R.Row.some) in
     let k = c.loop-k.k in
-    let bound = c.loop-k.invariant.bounds (k + 1) (omega arith) (omega arith) in
+    let bound = c.loop-k.invariant.bounds (k + 1) (get_or c.loop-k.kept (c.loop-k.k + 1) c.index-kept-k.result) (omega arith) (omega arith) (slice_get-get_or c.loop-k.kept (c.loop-k.k + 1) c.index-kept-k.result (omega (arith, c.loop-k.invariant.many))) in
     let lanes : (l : ℕ) → l < g.R.Row.LANES → LaneStateTo never cn (start_at c.args.query (slice_index departs l)) (k + 1) (lane l (rows c.scan_lines.new.ride)) (lane l (rows c.transfer_marked.new.ready)) = λ l h.
     bounded_next never cn ok (start_at c.args.query (slice_index departs l)) later c.requires.asked.origin refl (c.requires.batch.none_later l h) limit k (lane l (rows c.loop-k.ride)) (lane l (rows c.loop-k.ready)) (lane l (rows c.lower_to.new.labels)) (lane l (rows c.scan_lines.new.ride)) (lane l (rows c.begin-in-loop-k.new.labels)) (lane l (rows c.transfer_marked.new.ready))
-    (bounds_in base never (k + 1) c.loop-k.bound_ride) (bounds_in base never (k + 1) c.loop-k.bound_ready) (c.loop-k.invariant.lanes l h) bound (c.lower_to.ensures l h) (rw c.trips.ensures at (c.scan_lines.ensures.lanes l h)) (c.begin-in-loop-k.ensures.lanes l h) (rw c.feet-in-loop-k.ensures at (c.transfer_marked.ensures.lanes l h)) in
+    (bounds_in base never (get_or c.loop-k.kept (c.loop-k.k + 1) c.index-kept-k.result).ride.items) (bounds_in base never (get_or c.loop-k.kept (c.loop-k.k + 1) c.index-kept-k.result).ready.items) (c.loop-k.invariant.lanes l h) bound (rw c.as_slice-in-loop-k.ensures.value at (c.lower_to.ensures l h)) (rw c.trips.ensures at (c.scan_lines.ensures.lanes l h)) (rw c.as_slice-in-loop-k-2.ensures.value at (c.begin-in-loop-k.ensures.lanes l h)) (rw c.feet-in-loop-k.ensures at (c.transfer_marked.ensures.lanes l h)) in
     let begun : length c.begin-in-loop-k.new.labels ≡ n.stops = c.begin-in-loop-k.auto.labels ∙ c.loop-k.invariant.readies in
     record {
       rides = search rules;
@@ -194,30 +283,26 @@ loop-k-preserved g c =
       fallen = search rules;
       due = search rules;
       falls = search rules;
-      bound_rides = search rules;
-      bound_readies = search rules;
+      many = search rules;
       lanes = lanes;
-      kept = λ j below.
+      kept = λ j x below here.
           elim (cases_lt j (k + 1)) [
-            | inl lt ↦
-                let apart : j ≢ k + 1 = λ e. omega arith in
-                rw (c.keep_both-in-loop-k.ensures.ride_others j apart, c.keep_both-in-loop-k.ensures.ready_others j apart) (c.loop-k.invariant.kept j (omega arith))
+            | inl lt ↦ c.loop-k.invariant.kept j x (omega arith) (sym (set_other c.loop-k.kept (k + 1) j c.keep_both-in-loop-k.new.kept (λ e. omega arith)) ∙ here)
             | inr ge ↦
                 let e : j ≡ k + 1 = omega arith in
-                rw (e, c.keep_both-in-loop-k.ensures.ride_here, c.keep_both-in-loop-k.ensures.ready_here) (lanes 0 some)
+                let here' = rw e at here in
+                let is : c.keep_both-in-loop-k.new.kept ≡ x = same_Some _ _ (sym (set_same c.loop-k.kept (k + 1) c.keep_both-in-loop-k.new.kept (omega arith)) ∙ here') in
+                rw (e, ← is, c.keep_both-in-loop-k.ensures.ride, c.keep_both-in-loop-k.ensures.ready) (lanes 0 some)
           ];
-      bounds = λ j more few.
-          let apart : j ≢ k + 1 = λ e. omega arith in
-          rw (c.keep_both-in-loop-k.ensures.ride_others j apart, c.keep_both-in-loop-k.ensures.ready_others j apart) (c.loop-k.invariant.bounds j (omega arith) few);
+      bounds = λ j x more few here. c.loop-k.invariant.bounds j x (omega arith) few (sym (set_other c.loop-k.kept (k + 1) j c.keep_both-in-loop-k.new.kept (λ e. omega arith)) ∙ here);
       unfallen = λ l p h out.
           let long : length (rows c.begin-in-loop-k.new.labels) ≡ length c.begin-in-loop-k.new.fallen = length-map c.begin-in-loop-k.new.labels g.R.Row.labels ∙ begun ∙ sym (c.begin-in-loop-k.ensures.fallen ∙ c.loop-k.invariant.fallen) in
           rw c.begin-in-loop-k.ensures.before (unfallen_same g.R.Row.LANES (rows c.begin-in-loop-k.new.labels) (rows c.transfer_marked.new.ready) c.begin-in-loop-k.new.fallen c.transfer_marked.new.fallen l p c.transfer_marked.ensures.fallen long (c.transfer_marked.ensures.lanes l h) h out);
-      settled = λ trip l t lowered runs h room lower.
-          let next = c.loop-k.invariant.bounds (k + 1 + 1) (omega arith) (omega arith) in
-          let lower' = rw (c.keep_both-in-loop-k.ensures.ride_others (k + 1 + 1) (λ e. omega arith)) at lower in
+      settled = λ trip l t x lowered runs h room here lower.
+          let next = c.loop-k.invariant.bounds (k + 1 + 1) x (omega arith) (omega arith) (sym (set_other c.loop-k.kept (k + 1) (k + 1 + 1) c.keep_both-in-loop-k.new.kept (λ e. omega arith)) ∙ here) in
           rw c.begin-in-loop-k.ensures.before (round_settled never cn ok later (start_at c.args.query (slice_index departs l)) k (lane l (rows c.loop-k.ride)) (lane l (rows c.loop-k.ready)) (lane l (rows c.lower_to.new.labels)) (lane l (rows c.scan_lines.new.ride)) (lane l (rows c.begin-in-loop-k.new.labels)) lowered
-          (bounds_in base never (k + 1) c.loop-k.bound_ride) (bounds_in base never (k + 1) c.loop-k.bound_ready) (bounds_in base never (k + 1 + 1) c.loop-k.bound_ride) (bounds_in base never (k + 1 + 1) c.loop-k.bound_ready)
-          (c.loop-k.invariant.lanes l h) (lanes l h).ride_len bound next (rw c.trips.ensures at (c.scan_lines.ensures.lanes l h)) (c.begin-in-loop-k.ensures.lanes l h) lower' trip t runs);
+          (bounds_in base never (get_or c.loop-k.kept (c.loop-k.k + 1) c.index-kept-k.result).ride.items) (bounds_in base never (get_or c.loop-k.kept (c.loop-k.k + 1) c.index-kept-k.result).ready.items) (bounds_in base never x.ride.items) (bounds_in base never x.ready.items)
+          (c.loop-k.invariant.lanes l h) (lanes l h).ride_len bound next (rw c.trips.ensures at (c.scan_lines.ensures.lanes l h)) (rw c.as_slice-in-loop-k-2.ensures.value at (c.begin-in-loop-k.ensures.lanes l h)) lower trip t runs);
     }
 
 pub returns-clause-tables : goal.returns-clause-tables
@@ -230,8 +315,6 @@ returns-clause-tables g c =
       falls = search rules;
       marked = ap length (with_items_is t.marked c.loop-k.marked (c.loop-k.invariant.marked ∙ (sym c.requires.tables.marked ∙ (sym (ap length c.as_mut_slice-marked.ensures.value) ∙ c.as_mut_slice-marked.ensures.len)))) ∙ c.loop-k.invariant.marked;
       fallen = ap length (with_items_is t.fallen c.loop-k.fallen (c.loop-k.invariant.fallen ∙ (sym c.requires.tables.fallen ∙ (sym (ap length c.as_mut_slice-fallen.ensures.value) ∙ c.as_mut_slice-fallen.ensures.len)))) ∙ c.loop-k.invariant.fallen;
-      bound_ride = ap length (with_items_is t.bound_ride c.loop-k.bound_ride (c.loop-k.invariant.bound_rides ∙ (sym c.requires.tables.bound_ride ∙ (sym (ap length c.as_mut_slice-bound_ride.ensures.value) ∙ c.as_mut_slice-bound_ride.ensures.len)))) ∙ c.loop-k.invariant.bound_rides;
-      bound_ready = ap length (with_items_is t.bound_ready c.loop-k.bound_ready (c.loop-k.invariant.bound_readies ∙ (sym c.requires.tables.bound_ready ∙ (sym (ap length c.as_mut_slice-bound_ready.ensures.value) ∙ c.as_mut_slice-bound_ready.ensures.len)))) ∙ c.loop-k.invariant.bound_readies;
       due = ap length (with_items_is t.due c.loop-k.due (c.loop-k.invariant.due ∙ (sym c.requires.tables.due ∙ (sym (ap length c.as_mut_slice-due.ensures.value) ∙ c.as_mut_slice-due.ensures.len)))) ∙ c.loop-k.invariant.due;
     }
 
@@ -244,8 +327,4 @@ returns-clause-states g c l h =
     rw (is_ride, is_ready, e) (c.loop-k.invariant.lanes l h)
 
 pub returns-clause-kept : goal.returns-clause-kept
-returns-clause-kept g c k few =
-    let t = c.args.tables.now in
-    let is_ride : (with_items t.bound_ride c.loop-k.bound_ride).items ≡ c.loop-k.bound_ride = with_items_is t.bound_ride c.loop-k.bound_ride (c.loop-k.invariant.bound_rides ∙ (sym c.requires.tables.bound_ride ∙ (sym (ap length c.as_mut_slice-bound_ride.ensures.value) ∙ c.as_mut_slice-bound_ride.ensures.len))) in
-    let is_ready : (with_items t.bound_ready c.loop-k.bound_ready).items ≡ c.loop-k.bound_ready = with_items_is t.bound_ready c.loop-k.bound_ready (c.loop-k.invariant.bound_readies ∙ (sym c.requires.tables.bound_ready ∙ (sym (ap length c.as_mut_slice-bound_ready.ensures.value) ∙ c.as_mut_slice-bound_ready.ensures.len))) in
-    rw (is_ride, is_ready) (c.loop-k.invariant.kept k (omega arith))
+returns-clause-kept g c k x few = c.loop-k.invariant.kept k x (omega arith)

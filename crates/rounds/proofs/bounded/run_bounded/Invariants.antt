@@ -4,7 +4,8 @@ use Rattle.timetable.specs.Steps.{Lowers, Carries}
 use Rattle.trip_lanes.specs.Cut.{cut}
 use Rattle.trip_lanes.specs.Lane.{lane, labels_in}
 use Rattle.trip_lanes.specs.Scan.{NothingLower}
-use Rattle.rounds.specs.Batches.{start_at, bounds_in}
+use Rattle.rounds.specs.declared.bounded.Kept.{Kept}
+use Rattle.rounds.specs.Batches.{AreKept, start_at, bounds_in}
 use Rattle.rounds.specs.Cut.{cut_net}
 use Rattle.rounds.specs.Labels.{LaneStateTo}
 use Rattle.rounds.specs.State.{Bounds}
@@ -27,11 +28,10 @@ invariant-loop-k g v =
       fallen : length v.fallen ≡ stops;
       due : length v.due ≡ length v.query.lines.now.lines;
       falls : length v.falls ≡ stops;
-      bound_rides : length v.bound_ride ≡ stops;
-      bound_readies : length v.bound_ready ≡ stops;
+      many : length v.kept ≡ v.query.rides + 1;
       lanes : (l : ℕ) → l < g.R.Row.LANES → LaneStateTo never n (start_at v.query (slice_index (labels batch.departs) l)) v.k (lane l (rows v.ride)) (lane l (rows v.ready));
-      kept : (j : ℕ) → j ≤ v.k → LaneStateTo never n (start_at v.query (slice_index (labels batch.departs) 0)) j (bounds_in base never j v.bound_ride) (bounds_in base never j v.bound_ready);
-      bounds : (j : ℕ) → v.k < j → j ≤ v.query.rides → LaneStateTo never n (start_at v.query (cut base never batch.later)) j (bounds_in base never j v.bound_ride) (bounds_in base never j v.bound_ready);
+      kept : AreKept never base v.query.network.now (start_at v.query (slice_index (labels batch.departs) 0)) v.k v.kept;
+      bounds : (j : ℕ) (x : Kept) → v.k < j → j ≤ v.query.rides → slice_get v.kept j ≡ Some x → LaneStateTo never n (start_at v.query (cut base never batch.later)) j (bounds_in base never x.ride.items) (bounds_in base never x.ready.items);
       unfallen : (l p : ℕ) → l < g.R.Row.LANES → (slice_get v.fallen p ≡ Some true → ⊥) → slice_index (lane l (rows v.before)) p ≡ slice_index (lane l (rows v.ready)) p;
-      settled : (trip l : ℕ) (t : Trip) (lowered : List ℕ) → slice_get n.trips trip ≡ Some t → l < g.R.Row.LANES → v.k < v.query.rides → Lowers (Bounds (bounds_in base never (v.k + 1) v.bound_ride)) (lane l (rows v.ride)) lowered → NothingLower (Carries (lane l (rows v.before)) t) lowered;
+      settled : (trip l : ℕ) (t : Trip) (x : Kept) (lowered : List ℕ) → slice_get n.trips trip ≡ Some t → l < g.R.Row.LANES → v.k < v.query.rides → slice_get v.kept (v.k + 1) ≡ Some x → Lowers (Bounds (bounds_in base never x.ride.items)) (lane l (rows v.ride)) lowered → NothingLower (Carries (lane l (rows v.before)) t) lowered;
     }
