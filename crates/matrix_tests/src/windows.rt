@@ -172,7 +172,7 @@ fn as_each_minute_alone(rt: HostRuntime) -> Result<(), Fail> {
     let alloc = rt.alloc();
     let network = busy(alloc)?;
     for minutes in &[1, 15, 16, 17, 32, 33, 90] {
-        for rides in &[0, 1, 3, 8, 9] {
+        for rides in &[0, 1, 3, 8] {
             assert!(rt;
                 origins_agree(alloc, &network, *minutes, *rides)?,
                 "{minutes} minutes, {rides} rides"
