@@ -4,7 +4,7 @@
 `scenario`, `share` and `place` (of the matrix among all). `lookup` has the identifiers of origins and destinations
 (bytes of UTF-8), and their numbers from 1 on for programs whose zones are numbers. `access` has the sums beside: for
 each matrix a row for each origin and a column for each limit, which the attribute `limits` of the file names in
-seconds.
+seconds. All have one list of origins, as the format wants one shape.
 """
 
 from pathlib import Path

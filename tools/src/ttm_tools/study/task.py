@@ -1,5 +1,6 @@
 """A part of a study as a task of another machine that shares its folder: what the task needs to know stands in
-parts/run.json, and `parts/one_part.sh NUMBER` is `ttm-tools study --part NUMBER` in that folder.
+parts/run.json, and `parts/one_part.sh NUMBER` is `ttm-tools study --part NUMBER` in that folder: so one place
+decides what a whole part is.
 """
 
 import contextlib

@@ -2,7 +2,7 @@
 numpy is needed.
 
 Colours are those of scales that readers of all kinds of colour vision tell apart; 'not reached', 'cut off' and 'new'
-are classes of their own.
+are classes of their own. Lightness and shape tell classes apart, too, in print.
 """
 
 import math

@@ -1,4 +1,7 @@
-"""The document of a page: a template with the files of `assets`, Leaflet, and parts of numbers."""
+"""The document of a page: a template with the files of `assets`, Leaflet, and parts of numbers.
+
+All text is set as text: a stop's name is never code.
+"""
 
 import base64
 import hashlib
