@@ -5,12 +5,12 @@ use crate::task::Opt;
 use crate::window::window_of;
 use crate::words::text_of;
 use console::{Console, shown, tell_line};
+use rounds::MOST_RIDES;
 use std::alloc::{AllocError, Global};
 use studies::{MOST_DAYS, MOST_WORKERS};
 use table_records::{number, trim};
 use timetable::MOST_FOOT_SECONDS;
 use work_book::MOST_TRIES;
-use workers::MOST_RIDES;
 
 /// The bytes of a date that has the form of one.
 const DATE_LENGTH: usize = 8;
