@@ -7,8 +7,8 @@ proofs, too, on processors that these leave idle.
 
 `rt ci` gives a crate a second processor only where no other waits for one, and most crates wait for one chain of them.
 So, where there are processors and memory for it, a run of that chain alone begins a little before that of all crates,
-which takes over what it has proved; and so does a run of the program whose proof takes longest at the end, and which
-one script alone needs.
+which steps back for it and takes over what it has proved; and so does a run of the program whose proof takes longest at
+the end, and which one script alone needs.
 
 A crate's edits are tried where something that their refusal rests on changed since they were last refused: a file of
 the crate, a definition or contract of a crate below it, or the toolchain. Two more crates are tried each time, drawn by
@@ -49,6 +49,7 @@ MANY = 4  # checks at once, from which on there are runs before that of all crat
 ROOM_FOR_PROOFS = 12_000_000_000  # bytes of the disk, so that what these prove is kept until that run takes it over
 HEAD_START = 5.0  # seconds, in which a run begins its first proofs before the next one does
 NICENESS = "10"  # of what runs beside the proofs, which wait for one another and not for it
+BEHIND = ["nice", "-n", "5", "rt", "ci"]  # proofs that step back for those of the chain
 CLOSING = re.compile(r"(\d+) passed, (\d+) failed(?:, (\d+) skipped)?")
 CLOSING_OF_TESTS = re.compile(r"test result: \w+\. (\d+) passed; (\d+) failed()\b.*")
 
@@ -110,7 +111,7 @@ def prove(room: Path) -> Count:
     """
     lines = []
     with subprocess.Popen(
-        ["rt", "ci"],
+        BEHIND,
         cwd=room,
         stdout=subprocess.PIPE,
         stderr=subprocess.STDOUT,
@@ -219,7 +220,8 @@ def prove_alone(room: Path, name: str) -> Count:
     if name not in crates:
         return Count()
     repository.keep_alone(room, [name, *repository.below(crates, name)])
-    count = counted(*run_told(room, ["rt", "ci"], f"rt ci of {name} and what is below", dict(os.environ)))
+    words = ["rt", "ci"] if name == CHAIN else BEHIND
+    count = counted(*run_told(room, words, f"rt ci of {name} and what is below", dict(os.environ)))
     return Count(0 if count.failed else 1, count.failed)
 
 
