@@ -11,7 +11,7 @@ use Rattle.table_files.specs.FeedTrips as trips
 use Rattle.table_files.specs.Frequencies as frequencies
 use Rattle.table_files.specs.Locations as locations
 use Rattle.table_files.specs.Routes as routes
-use Rattle.table_files.specs.StopTimes as stop_times
+use Rattle.trip_events.specs.StopTimes as stop_times
 use Rattle.table_files.specs.Transfers as transfers
 use Rattle.table_records.specs.Checks.{Explains}
 use Rattle.table_records.specs.declared.checks.Check.{Check}
