@@ -66,17 +66,16 @@ def read_file(crate: str, lines: Iterator[str], found: Found) -> None:
         elif kind := STRUCT.match(line):
             found.types[kind[1]] = found.types.get(kind[1], "") + "\n".join(rest_of(line, lines, ""))
         elif start := FUNCTION.match(line):
-            kept = [it for it in rest_of(line, lines, start[1]) if not CLAUSE.match(it)]
             function = Function(crate, owner, of_trait, start[2])
-            found.functions[function] = found.functions.get(function, "") + "\n".join(kept)
+            text = "\n".join(rest_of(line, lines, start[1]))
+            found.functions[function] = found.functions.get(function, "") + text
 
 
 def rest_of(line: str, lines: Iterator[str], indent: str) -> list[str]:
-    """The lines of an item that begins so, to its end."""
-    kept = [line]
-    while not kept[-1].endswith((";", "{}")) and (not kept[-1].endswith("{") or CLAUSE.match(kept[-1])):
-        kept.append(next(lines, ";"))
-    if kept[-1].endswith("{"):
+    """The lines of an item that begins so, to its end, without its clauses."""
+    head = repository.head_of(line, lines, indent)
+    kept = list(itertools.takewhile(lambda it: not CLAUSE.match(it), head))
+    if head[-1].endswith("{"):
         kept += itertools.takewhile(lambda it: it != indent + "}", lines)
     return kept
 

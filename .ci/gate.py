@@ -5,10 +5,9 @@ A test promises nothing, so crates that have tests alone are built and run, with
 beside the proofs of all others; `--all` proves these crates too. What else needs no built program runs beside the
 proofs, too, on processors that these leave idle.
 
-`rt ci` gives a crate a second processor only where no other waits for one, and most crates wait for one chain of them.
-So, where there are processors and memory for it, a run of that chain alone begins a little before that of all crates,
-which steps back for it and takes over what it has proved; and so does a run of the program whose proof takes longest at
-the end, and which one script alone needs.
+`rt ci` gives a crate a second processor only where no other waits for one. So the program whose proof takes longest at
+the end, and which one script alone needs, has a run of its own, which begins as soon as all that it stands on is proved
+and takes that over.
 
 A crate's edits are tried where something that their refusal rests on changed since they were last refused: a file of
 the crate, a definition or contract of a crate below it, or the toolchain. Two more crates are tried each time, drawn by
@@ -30,9 +29,10 @@ import sys
 import tempfile
 import time
 from collections.abc import Callable
-from concurrent.futures import Future, ThreadPoolExecutor, wait
+from concurrent.futures import Future, ThreadPoolExecutor
 from dataclasses import dataclass
 from pathlib import Path
+from typing import Optional
 
 import edits
 import repository
@@ -43,13 +43,10 @@ MEMORY_OF_A_CHECK = 4_000_000  # kilobytes
 MINUTES = 100
 USED = 0.98  # of a budget, until edits are cut off: the rest is for clearing away
 SECONDS_OF_TESTS = 900  # that those of a crate may take together
-CHAIN = "scenarios"  # the last crate of the longest chain below the whole study
 APART = "growth_trials"  # a program that bench/hostile.py runs, and nothing waits for
-MANY = 4  # checks at once, from which on there are runs before that of all crates
-ROOM_FOR_PROOFS = 12_000_000_000  # bytes of the disk, so that what these prove is kept until that run takes it over
-HEAD_START = 5.0  # seconds, in which a run begins its first proofs before the next one does
-NICENESS = "10"  # of what runs beside the proofs, which wait for one another and not for it
-BEHIND = ["nice", "-n", "5", "rt", "ci"]  # proofs that step back for those of the chain
+ROOM_FOR_PROOFS = 12_000_000_000  # bytes of the disk, so that what is proved is kept until another run takes it over
+NICENESS = "19"  # of what runs beside the proofs, which wait for one another and not for it
+PROVED = re.compile(r"rt: (\w+) (?:proved|is kept: .*)")
 CLOSING = re.compile(r"(\d+) passed, (\d+) failed(?:, (\d+) skipped)?")
 CLOSING_OF_TESTS = re.compile(r"test result: \w+\. (\d+) passed; (\d+) failed()\b.*")
 
@@ -81,12 +78,12 @@ def jobs() -> int:
     return max(1, min(len(os.sched_getaffinity(0)), memory // MEMORY_OF_A_CHECK))
 
 
-def may_run_ahead(root: Path) -> bool:
-    """Whether some crates may be proved by runs before that of all: there are processors and memory, and `rt ci` keeps
-    what it proved, which it does beside the kit.
+def may_prove_apart(root: Path) -> bool:
+    """Whether a crate may have a run of its own: there is a second processor, with memory, and `rt ci` keeps what it
+    proved, which it does beside the kit.
     """
     kept_in = Path(output_of(root, "rt", "doc")).parent.parent
-    return jobs() >= MANY and os.access(kept_in, os.W_OK) and shutil.disk_usage(kept_in).free >= ROOM_FOR_PROOFS
+    return jobs() > 1 and os.access(kept_in, os.W_OK) and shutil.disk_usage(kept_in).free >= ROOM_FOR_PROOFS
 
 
 def counted(status: int, lines: list[str], closing: re.Pattern[str] = CLOSING) -> Count:
@@ -105,13 +102,13 @@ def ended(started: subprocess.Popen[str]) -> tuple[int, float]:
     return started.returncode, used.ru_utime + used.ru_stime
 
 
-def prove(room: Path) -> Count:
+def prove(room: Path, on_line: Callable[[str], None]) -> Count:
     """Proves every crate and its tests from nothing, and runs each test and program; what it says is printed as it
-    comes.
+    comes, and given to `on_line`.
     """
     lines = []
     with subprocess.Popen(
-        BEHIND,
+        ["rt", "ci"],
         cwd=room,
         stdout=subprocess.PIPE,
         stderr=subprocess.STDOUT,
@@ -122,6 +119,7 @@ def prove(room: Path) -> Count:
         for line in started.stdout:
             print(line, end="", flush=True)
             lines.append(line.rstrip("\n"))
+            on_line(lines[-1])
         status, seconds = ended(started)
     print(f"== rt ci: {seconds:.0f} s of processor time", flush=True)
     return counted(status, lines)
@@ -181,21 +179,20 @@ def run_beside(room: Path, names: list[str]) -> Count:
     return count
 
 
-def run_scripts(root: Path, rooms: dict[str, Path], apart: Future[Count]) -> Count:
-    """Runs the scripts on the programs of the copies, so many at once; what they make bears the commit's time, as a
-    copy is no clone.
+def run_scripts(root: Path, room: Path, trials: Path, apart: Optional[Future[Count]]) -> Count:
+    """Runs the scripts on the programs of a copy, so many at once; what they make bears the commit's time, as a copy is
+    no clone.
     """
     made_at = output_of(root, "git", "log", "-1", "--format=%ct") or "0"
     environment = {"SOURCE_DATE_EPOCH": made_at, **os.environ}
-    trials = rooms[APART] / f"crates/{APART}/out/{APART}"
 
     def run_script(words: list[str]) -> Count:
-        if str(trials) in words:
+        if apart and str(trials) in words:
             apart.result()
-        return counted(*run_told(rooms["proved"], [sys.executable, *words], words[0], environment))
+        return counted(*run_told(room, [sys.executable, *words], words[0], environment))
 
     with ThreadPoolExecutor(jobs()) as pool:
-        return sum(pool.map(run_script, scripts(rooms["proved"], trials)), Count())
+        return sum(pool.map(run_script, scripts(room, trials)), Count())
 
 
 def try_edits(room: Path, names: list[str], refusals: Refusals, clock: Clock) -> Count:
@@ -213,40 +210,56 @@ def try_edits(room: Path, names: list[str], refusals: Refusals, clock: Clock) ->
 
 
 def prove_alone(room: Path, name: str) -> Count:
-    """Proves a crate and those below it, which are all that this copy keeps, and prints what came of it. It counts as
-    one: what is below counts where all crates are proved.
+    """Proves a crate, all below which another run has proved, and prints what came of it. It counts as one: what is
+    below counts there.
     """
     crates = repository.crates_of(room)
-    if name not in crates:
-        return Count()
     repository.keep_alone(room, [name, *repository.below(crates, name)])
-    words = ["rt", "ci"] if name == CHAIN else BEHIND
-    count = counted(*run_told(room, words, f"rt ci of {name} and what is below", dict(os.environ)))
+    count = counted(*run_told(room, ["rt", "ci"], f"rt ci of {name}", dict(os.environ)))
     return Count(0 if count.failed else 1, count.failed)
+
+
+class Apart:
+    """The run of one crate alone, which begins once all that it stands on is proved."""
+
+    def __init__(self, pool: ThreadPoolExecutor, room: Path, name: str) -> None:
+        self.pool, self.room, self.name = pool, room, name
+        self.left = set(repository.below(repository.crates_of(room), name))
+        self.run: Optional[Future[Count]] = None
+
+    def on_line(self, line: str) -> None:
+        found = PROVED.fullmatch(line)
+        if found and found[1] in self.left:
+            self.left.remove(found[1])
+            if not self.left:
+                self.begin()
+
+    def begin(self) -> Future[Count]:
+        self.run = self.run or self.pool.submit(prove_alone, self.room, self.name)
+        return self.run
 
 
 def prove_and_test(root: Path, rooms: dict[str, Path], tests: list[str]) -> Count:
     """Proves and runs all but crates of tests, and then the scripts on the programs; meanwhile their tests, and what
     needs no program, run in another copy.
     """
-    with ThreadPoolExecutor(3) as pool:
-        alone = {}
-        for name in (CHAIN, APART) if may_run_ahead(root) else ():
-            alone[name] = pool.submit(prove_alone, rooms[name], name)
-            wait([alone[name]], HEAD_START)
+    proved, is_apart = rooms["proved"], APART in repository.crates_of(root) and may_prove_apart(root)
+    trials = rooms[APART if is_apart else "proved"] / f"crates/{APART}/out/{APART}"
+    with ThreadPoolExecutor(2) as pool:
         beside = pool.submit(run_beside, rooms["tried"], tests)
+        apart = Apart(pool, rooms[APART], APART) if is_apart else None
         # rt ci would try edits one by one; scripts look for those that ASSURANCE names, so they come back
-        others = [*tests, *(name for name in repository.crates_of(root) if name == APART)]
-        with repository.set_aside(rooms["proved"], rooms["aside"], others):
-            count = prove(rooms["proved"])
-        apart = alone.get(APART) or pool.submit(prove_alone, rooms[APART], APART)
-        return count + run_scripts(root, rooms, apart) + apart.result() + beside.result()
+        with repository.set_aside(proved, rooms["aside"], [*tests, *([APART] if is_apart else [])]):
+            count = prove(proved, apart.on_line if apart else lambda line: None)
+        alone = apart.begin() if apart else None
+        count += run_scripts(root, proved, trials, alone)
+        return count + (alone.result() if alone else Count()) + beside.result()
 
 
 def gate(root: Path, all_of_them: bool, chosen: list[str], refusals: Refusals, clock: Clock) -> Count:
     """Proves, runs and tries all, and returns how many passed, failed and were skipped."""
     with tempfile.TemporaryDirectory(prefix="ttm-gate-") as made:
-        copies = ("proved", "tried", CHAIN, APART)
+        copies = ("proved", "tried", APART)
         rooms = {name: Path(made) / name for name in (*copies, "aside")}
         for name in copies:
             rooms[name].mkdir()

@@ -26,6 +26,7 @@ sys.path.insert(0, str(OWN))
 import edits  # noqa: E402
 import gate  # noqa: E402
 import names  # noqa: E402
+import repository  # noqa: E402
 
 # what stands in for `rt`: it refuses each edit of LOWER that adds another number, and notes which crates it checks
 STAND_IN = """#!/bin/sh
@@ -136,10 +137,10 @@ class Hands:
     def __call__(self) -> float:
         return self.seconds
 
-    def set_by_proof(self, seconds: float) -> Callable[[Path], gate.Count]:
+    def set_by_proof(self, seconds: float) -> Callable[[Path, Callable[[str], None]], gate.Count]:
         """What stands in for the proof of all, which passes and takes until then."""
 
-        def prove(room: Path) -> gate.Count:
+        def prove(room: Path, on_line: Callable[[str], None]) -> gate.Count:
             self.seconds = seconds
             return gate.Count(1)
 
@@ -213,6 +214,14 @@ class Choice(WithStandIn):
         self.change("count < 1000", "count < 900")
         self.repository.write("crates/lower/must-fail/lib.bump.two_more.edit", EDIT)
         self.assertEqual(self.tried()[0], ["lower", "upper"])
+
+    def test_a_clause_of_several_lines_is_read_to_its_end(self) -> None:
+        clause = "pub fn f(x: u32) -> u32\n    ensures { IsIt (record {\n      a = x;\n    }) }\n{"
+        of_a_trait = (
+            "pub trait It {\n    fn g(&self)\n        ensures { IsIt\n            self };\n\n    fn h(&self);\n}"
+        )
+        self.assertEqual(repository.contracts(f"{clause}\n    x\n}}\n"), clause)
+        self.assertEqual(repository.contracts(of_a_trait), of_a_trait)
 
     def test_a_definition_below_makes_the_edits_above_be_tried(self) -> None:
         self.tried()
@@ -308,41 +317,44 @@ class CratesOfTests(WithStandIn):
 
 
 class Apart(WithStandIn):
-    """Runs of some crates before that of all."""
+    """The run of a crate of its own."""
 
     def setUp(self) -> None:
         super().setUp()
-        changed = mock.patch.multiple(gate, CHAIN="upper", HEAD_START=0.1, ROOM_FOR_PROOFS=0, jobs=lambda: 4)
+        changed = mock.patch.multiple(gate, APART="last", ROOM_FOR_PROOFS=0, jobs=lambda: 4)
         changed.start()
         self.addCleanup(changed.stop)
-
-    def test_the_longest_chain_is_proved_alone_and_again_with_all_and_counts_once(self) -> None:
-        status, said, _ = self.repository.gate()
-        self.assertEqual((status, said[-1]), (0, "5 passed, 0 failed"), said)
-        self.assertIn("rt ci sees lower upper and lists lower upper ", said)
-        self.assertIn("rt ci sees lower one two upper and lists lower upper one two ", said)
-        self.assertEqual(said.count("rt ci sees 0 edits"), 2)
-
-    def test_the_chain_has_no_run_where_few_checks_can_be_at_work_or_no_proof_is_kept(self) -> None:
-        for checks, room in ((3, 0), (4, 1 << 60)):
-            with mock.patch.multiple(gate, jobs=lambda: checks, ROOM_FOR_PROOFS=room):
-                said = self.repository.gate("--all")[1]
-            self.assertEqual((said[-1], said.count("rt ci sees 0 edits")), ("5 passed, 0 failed", 1), said)
-
-    def test_a_program_that_is_proved_apart_counts_as_one_and_is_not_proved_with_all(self) -> None:
         self.repository.write("crates.txt", "lower:\nupper: lower\none:\ntwo:\nlast: upper\n")
         self.repository.write("crates/last/src/main.rt", LOWER)
         self.repository.write("bench/hostile.py", "import sys\nprint(f'{len(sys.argv[2:])} passed, 0 failed')\n")
-        with mock.patch.object(gate, "APART", "last"):
-            for at_once in (4, 1):
-                with mock.patch.object(gate, "jobs", lambda: at_once):
-                    said = self.repository.gate("--all")[1]
-                self.assertEqual(said[-1], "7 passed, 0 failed", said)
-                self.assertIn("rt ci sees last lower upper and lists lower upper last ", said)
-                self.assertIn("rt ci sees lower one two upper and lists lower upper one two ", said)
-            self.stand_in(STAND_IN.replace("ci)\n", "ci)\n    [ -e crates/last ] && exit 2\n"))
-            status, said, _ = self.repository.gate()
-        self.assertEqual((status, said[-1]), (1, "4 passed, 1 failed"), said)
+
+    def test_it_counts_as_one_and_is_not_proved_with_all(self) -> None:
+        said = self.repository.gate("--all")[1]
+        self.assertEqual(said[-1], "7 passed, 0 failed", said)
+        self.assertIn("rt ci sees last lower upper and lists lower upper last ", said)
+        self.assertIn("rt ci sees lower one two upper and lists lower upper one two ", said)
+
+    def test_it_begins_when_all_below_it_is_proved_and_not_before(self) -> None:
+        """The stand-in's run of all ends only once that of `last` has begun, and that begins after `upper` is told."""
+        alone = '[ -e crates/last ] && echo last >> "$RT_LOG" && touch "$RT_LOG.begun"'
+        told = 'echo "rt: lower proved"; sleep 0.3; echo all >> "$RT_LOG"; echo "rt: upper is kept: as it was"'
+        waits = 'for _ in $(seq 200); do [ -e "$RT_LOG.begun" ] || sleep 0.05; done; [ -e "$RT_LOG.begun" ] || exit 1'
+        self.stand_in(STAND_IN.replace("ci)\n", f"ci)\n    {alone} || {{ {told}; {waits}; }}\n"))
+        status, said, _ = self.repository.gate()
+        self.assertEqual(status, 0, said)
+        self.assertEqual([it for it in self.calls() if it in ("all", "last")], ["all", "last"])
+
+    def test_it_is_proved_with_all_where_one_check_can_be_at_work_or_no_proof_is_kept(self) -> None:
+        for checks, room in ((1, 0), (4, 1 << 60)):
+            with mock.patch.multiple(gate, jobs=lambda: checks, ROOM_FOR_PROOFS=room):
+                said = self.repository.gate("--all")[1]
+            self.assertIn("rt ci sees last lower one two upper and lists lower upper one two last ", said)
+            self.assertEqual(said.count("rt ci sees 0 edits"), 1, said)
+
+    def test_it_fails_the_gate_where_it_fails(self) -> None:
+        self.stand_in(STAND_IN.replace("ci)\n", "ci)\n    [ -e crates/last ] && exit 2\n"))
+        status, said, _ = self.repository.gate("--all")
+        self.assertEqual((status, said[-1]), (1, "6 passed, 1 failed"), said)
 
 
 class Time(WithStandIn):
@@ -565,7 +577,7 @@ class Prover(unittest.TestCase):
             repository.write("crates/wrong/src/lib.rt", LOWER.replace("count + 1 }", "count + 3 }"))
             for name, text in self.EDITS.items():
                 repository.write(f"crates/counts/must-fail/{name}.edit", text)
-            with mock.patch.object(gate, "prove", lambda room: gate.Count(1)), self.joint() as checks:
+            with mock.patch.object(gate, "prove", lambda room, on_line: gate.Count(1)), self.joint() as checks:
                 status, said, _ = repository.gate()
             self.assertEqual((status, said[-1], repository.rows()), (1, "2 passed, 4 failed", []), said)
         self.assertIn("counts: 1 of 4 edits refused", said)

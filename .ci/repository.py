@@ -90,17 +90,28 @@ def contracts(text: str) -> str:
 
 
 def begins_a_body(line: str, indent: str) -> bool:
-    heads = (indent + ")", indent + "pub", indent + "fn", indent + "const")
+    heads = tuple(indent + it for it in (")", "pub", "fn", "const", "struct", "enum"))
     return line.endswith(("{}", ";")) or line == indent + "{" or line.startswith(heads) and line.endswith(" {")
+
+
+def head_of(line: str, lines: Iterator[str], indent: str) -> list[str]:
+    """An item's lines up to that with which its body begins: a function's signature and clauses. Those of a clause may
+    end as a body begins, so they are told by its braces.
+    """
+    head, depth = [line], 0
+    while depth or not begins_a_body(line, indent):
+        depth += line.count("{") - line.count("}")
+        if not depth and line.endswith(";"):
+            break
+        line = next(lines, indent + "{}")
+        head.append(line)
+    return head
 
 
 def header_of(line: str, lines: Iterator[str], indent: str) -> list[str]:
     """A function's signature and clauses; what follows them is read and left out."""
-    header = [line]
-    while not begins_a_body(line, indent):
-        line = next(lines, indent + "{}")
-        header.append(line)
-    if line.endswith("{"):
+    header = head_of(line, lines, indent)
+    if header[-1].endswith("{"):
         for line in lines:
             if line == indent + "}":
                 break

@@ -14,9 +14,11 @@ use Rattle.collector.specs.declared.run.CoreStep.TheVariants.{Book, Hand}
 use Rattle.collector.specs.declared.run.CoreAnswer.TheVariants as answer
 use Rattle.collector.proofs.Placed.{book_is}
 
-own_answers : (steps : List CoreStep) (c : Core) → book_answers (answers_of c steps) ≡ book.answers_of c.book (book_steps steps)
+own_answers : (steps : List CoreStep) (c : Core) →
+    book_answers (answers_of c steps) ≡ book.answers_of c.book (book_steps steps)
 own_answers [] c = refl
-own_answers (Book step ∷ steps) c = ap (λ (l : List Answer). book.answer_of c.book step ∷ l) (own_answers steps (after c (Book step)))
+own_answers (Book step ∷ steps) c = ap (λ (l : List Answer). book.answer_of c.book step ∷ l)
+    (own_answers steps (after c (Book step)))
 own_answers (Hand seat row ∷ steps) c = own_answers steps (after c (Hand seat row))
 
 pub run_of_book : (s : Setup) (steps : List CoreStep) → IsRunOfBook s steps
@@ -32,7 +34,9 @@ pub kept_once : (s : Setup) (steps : List CoreStep) → AreKeptOnce (reached s s
 kept_once s steps = rw (book_is s steps) ((fair_book s steps).kept)
 
 -- before a step that the book answers with `Nothing` all numbers are drawn, from any fair book on
-drawn_before : (steps : List CoreStep) (c : Core) → IsFair c.book → (k : ℕ) → slice_get (answers_of c steps) k ≡ Some (answer.Book Nothing) → (run_of c (take k steps)).book.next ≡ c.book.jobs * c.book.tries
+drawn_before : (steps : List CoreStep) (c : Core) → IsFair c.book → (k : ℕ) →
+    slice_get (answers_of c steps) k ≡ Some (answer.Book Nothing) →
+    (run_of c (take k steps)).book.next ≡ c.book.jobs * c.book.tries
 drawn_before [] c fair k h = cc
 drawn_before (Book step ∷ steps) c fair zero h = nothing_last (step ∷ []) c.book fair zero (inner _ _ h)
   where

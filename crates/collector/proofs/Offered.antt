@@ -1,5 +1,7 @@
 -- A place holds the first row that is offered for it.
-use Rattle.std.proofs.Common.{◌≡◌, ◌≢◌, ◌<◌, ◌+◌, ◌*◌, ◌==◌, ◌&&◌, ℕ, Bool, true, false, not, cond, List, [], ◌∷◌, Option, Some, None, is_some, length, get_or, refl, sym, ap, ◌∙◌, subst, rules, arith, nat_lt, if◌then◌else◌}
+use Rattle.std.proofs.Common.{◌≡◌, ◌≢◌, ◌<◌, ◌+◌, ◌*◌, ◌==◌, ◌&&◌, ℕ, Bool, true, false, not, cond, List, [], ◌∷◌}
+use Rattle.std.proofs.Common.{Option, Some, None, is_some, length, get_or, refl, sym, ap, ◌∙◌, subst, rules, arith}
+use Rattle.std.proofs.Common.{nat_lt, if◌then◌else◌}
 use Rattle.std.proofs.Math.ListN.{set}
 use Rattle.std.specs.List.{find}
 use Rattle.std.specs.Option.{option_or}
@@ -27,13 +29,18 @@ eq_false a b h = λ e. grind (arith, nat_tests)
 pub in_range : (a b n k : ℕ) → a < n → b < k → a * k + b < n * k
 in_range a b n k low right = search rules
 
-pub belongs_in : (p : PlacesData) (row : RowData) → belongs p row ≡ true → (row.scenario < p.scenarios) × (row.origin < p.origins)
-belongs_in p row h = let a = both _ _ h in let b = both _ _ a.1 in let c = both _ _ b.1 in (lt_true _ _ b.0, lt_true _ _ c.0)
+pub belongs_in : (p : PlacesData) (row : RowData) → belongs p row ≡ true →
+    (row.scenario < p.scenarios) × (row.origin < p.origins)
+belongs_in p row h = let a = both _ _ h in let b = both _ _ a.1 in let c = both _ _ b.1 in
+    (lt_true _ _ b.0, lt_true _ _ c.0)
 
 pub same_length : (p : PlacesData) (row : RowData) → length (after_offer p row).rows ≡ length p.rows
 same_length p row = go (belongs p row && is_open p row)
   where
-    go : (b : Bool) → length (if b then record p { rows = set p.rows (place_of p row.scenario row.origin) (Some row) } else p).rows ≡ length p.rows
+    go : (b : Bool) → length (if b then record p {
+      rows =
+          set p.rows (place_of p row.scenario row.origin) (Some row);
+    } else p).rows ≡ length p.rows
     go true = length-set p.rows (place_of p row.scenario row.origin) (Some row)
     go false = refl
 
@@ -41,14 +48,20 @@ same_length p row = go (belongs p row && is_open p row)
 pub same_test : (p : PlacesData) (row : RowData) (k : ℕ) → is_for (after_offer p row) k ≡ is_for p k
 same_test p row k = go (belongs p row && is_open p row)
   where
-    go : (b : Bool) → is_for (if b then record p { rows = set p.rows (place_of p row.scenario row.origin) (Some row) } else p) k ≡ is_for p k
+    go : (b : Bool) → is_for (if b then record p {
+      rows =
+          set p.rows (place_of p row.scenario row.origin) (Some row);
+    } else p) k ≡ is_for p k
     go true = refl
     go false = refl
 
 pub same_sizes : (p : PlacesData) (row : RowData) → IsSameSize p (after_offer p row)
 same_sizes p row = go (belongs p row && is_open p row)
   where
-    go : (b : Bool) → IsSameSize p (if b then record p { rows = set p.rows (place_of p row.scenario row.origin) (Some row) } else p)
+    go : (b : Bool) → IsSameSize p (if b then record p {
+      rows =
+          set p.rows (place_of p row.scenario row.origin) (Some row);
+    } else p)
     go true = record { scenarios = refl; origins = refl; width = refl; shares = refl; limits = refl }
     go false = record { scenarios = refl; origins = refl; width = refl; shares = refl; limits = refl }
 
@@ -70,7 +83,11 @@ offer_at p row k size = go (belongs p row) (is_open p row) (place_of p row.scena
     empty (Some x) q h = cc
 
     go : (a b e : Bool) → belongs p row ≡ a → is_open p row ≡ b → (place_of p row.scenario row.origin == k) ≡ e
-        → row_at (if a && b then record p { rows = set p.rows (place_of p row.scenario row.origin) (Some row) } else p) k ≡ option_or (row_at p k) (cond (a && e) (Some row) None)
+        → row_at (if a && b then record p {
+          rows =
+              set p.rows (place_of p row.scenario row.origin) (Some row);
+        } else p) k
+        ≡ option_or (row_at p k) (cond (a && e) (Some row) None)
     go false b e in_is open_is here = sym (none (row_at p k))
     go true false false in_is open_is here = sym (none (row_at p k))
     go true false true in_is open_is here =
@@ -79,14 +96,17 @@ offer_at p row k size = go (belongs p row) (is_open p row) (place_of p row.scena
     go true true true in_is open_is here =
         let same = eq_true _ _ here in
         let range = belongs_in p row in_is in
-        let there : place_of p row.scenario row.origin < length p.rows = subst (λ n. place_of p row.scenario row.origin < n) (sym size) (in_range _ _ _ _ range.0 range.1) in
+        let there : place_of p row.scenario row.origin < length p.rows =
+        subst (λ n. place_of p row.scenario row.origin < n) (sym size) (in_range _ _ _ _ range.0 range.1) in
         ap (λ j. get_or (set p.rows (place_of p row.scenario row.origin) (Some row)) j None) (sym same)
         ∙ get_or-set_same p.rows (place_of p row.scenario row.origin) (Some row) None there
         ∙ sym (empty (row_at p k) (Some row) (ap (λ j. not (is_some (row_at p j))) (sym same) ∙ open_is))
     go true true false in_is open_is here =
-        get_or-set_other p.rows (place_of p row.scenario row.origin) k (Some row) None (eq_false _ _ here) ∙ sym (none (row_at p k))
+        get_or-set_other p.rows (place_of p row.scenario row.origin) k (Some row) None (eq_false _ _ here)
+        ∙ sym (none (row_at p k))
 
-join : (o : Option RowData) (b : Bool) (row : RowData) (q : Option RowData) → option_or (option_or o (cond b (Some row) None)) q ≡ option_or o (cond b (Some row) q)
+join : (o : Option RowData) (b : Bool) (row : RowData) (q : Option RowData) →
+    option_or (option_or o (cond b (Some row) None)) q ≡ option_or o (cond b (Some row) q)
 join None true row q = refl
 join None false row q = refl
 join (Some x) true row q = refl
@@ -101,7 +121,8 @@ offered_at [] p k size = last (row_at p k)
     last (Some x) = refl
 offered_at (row ∷ rows) p k size =
     let sizes = same_sizes p row in
-    let more = offered_at rows (after_offer p row) k (same_length p row ∙ size ∙ sym (λ i. sizes.scenarios i * sizes.origins i)) in
+    let more = offered_at rows (after_offer p row) k (same_length p row ∙ size
+    ∙ sym (λ i. sizes.scenarios i * sizes.origins i)) in
     more
     ∙ (λ i. option_or (offer_at p row k size i) (find (same_test p row k i) rows))
     ∙ join (row_at p k) (is_for p k row) row (find (is_for p k) rows)

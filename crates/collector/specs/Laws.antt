@@ -1,5 +1,6 @@
 -- What holds of every run of a book and a collector: any list of steps, by any seats, from a new book and empty places.
-use Rattle.std.specs.Prelude.{◌≡◌, ◌==◌, ◌*◌, ◌+◌, ◌<◌, ◌&&◌, ℕ, Bool, true, false, List, Option, Some, None, length, slice_get, take, All}
+use Rattle.std.specs.Prelude.{◌≡◌, ◌==◌, ◌*◌, ◌+◌, ◌<◌, ◌&&◌, ℕ, Bool, true, false, List, Option, Some, None, length}
+use Rattle.std.specs.Prelude.{slice_get, take, All}
 use Rattle.std.specs.List.{find}
 use Rattle.work_book.specs.Book.{new_book}
 use Rattle.work_book.specs.Steps as book
@@ -26,7 +27,8 @@ pub record Setup : Type 0 where
 
 -- the new book and the empty places
 abbrev pub opening : Setup → Core
-opening s = core (new_book s.jobs s.tries s.seats) (empty_places s.study s.scenarios s.origins s.width s.shares s.limits)
+opening s = core (new_book s.jobs s.tries s.seats)
+    (empty_places s.study s.scenarios s.origins s.width s.shares s.limits)
 
 -- the book and the places after a run
 abbrev pub reached : Setup → List CoreStep → Core
@@ -46,7 +48,8 @@ ArePlacedFirst s steps = (k : ℕ) → k < s.scenarios * s.origins → row_at (r
 
 -- the rows handed over that are no strangers are the right ones of their places
 abbrev pub AreRight : (ℕ → ℕ → RowData) → Setup → List CoreStep → Type 0
-AreRight right s steps = All (λ (row : RowData). belongs (opening s).places row ≡ true → row ≡ right row.scenario row.origin) (handed steps)
+AreRight right s steps = All (λ (row : RowData). belongs (opening s).places row ≡ true →
+    row ≡ right row.scenario row.origin) (handed steps)
 
 -- the matrix has the right row for each scenario and origin, and no others
 pub record IsMatrixOf (right : ℕ → ℕ → RowData) (s : Setup) (matrix : MatrixData) : Type 0 where
@@ -56,15 +59,18 @@ pub record IsMatrixOf (right : ℕ → ℕ → RowData) (s : Setup) (matrix : Ma
   pub shares : matrix.shares ≡ s.shares
   pub limits : matrix.limits ≡ s.limits
   pub count : length matrix.rows ≡ s.scenarios * s.origins
-  pub rows : (scenario origin : ℕ) → scenario < s.scenarios → origin < s.origins → slice_get matrix.rows (scenario * s.origins + origin) ≡ Some (right scenario origin)
+  pub rows : (scenario origin : ℕ) → scenario < s.scenarios → origin < s.origins →
+      slice_get matrix.rows (scenario * s.origins + origin) ≡ Some (right scenario origin)
 
 -- where the rows are right, a run that is finished gives their matrix
 abbrev pub IsRightWhenFinished : Setup → List CoreStep → Type 0
-IsRightWhenFinished s steps = (right : ℕ → ℕ → RowData) (matrix : MatrixData) → AreRight right s steps → IsFinished (reached s steps).places matrix → IsMatrixOf right s matrix
+IsRightWhenFinished s steps = (right : ℕ → ℕ → RowData) (matrix : MatrixData) → AreRight right s steps →
+    IsFinished (reached s steps).places matrix → IsMatrixOf right s matrix
 
 -- for a missing place no row was handed over that is no stranger
 abbrev pub AreMissingUnhanded : Setup → List CoreStep → Type 0
-AreMissingUnhanded s steps = (k : ℕ) → k < s.scenarios * s.origins → row_at (reached s steps).places k ≡ None → All (λ (row : RowData). is_for (opening s).places k row ≡ false) (handed steps)
+AreMissingUnhanded s steps = (k : ℕ) → k < s.scenarios * s.origins → row_at (reached s steps).places k ≡ None →
+    All (λ (row : RowData). is_for (opening s).places k row ≡ false) (handed steps)
 
 -- where `Nothing` was answered, every job was drawn in every pass, once
 abbrev pub AreDrawnAtNothing : Setup → List CoreStep → Type 0
@@ -78,4 +84,5 @@ pub record IsRunOfBook (s : Setup) (steps : List CoreStep) : Type 0 where
 
 -- before a step that the book answers with `Nothing` all its numbers are drawn
 abbrev pub IsNothingLast : Setup → List CoreStep → Type 0
-IsNothingLast s steps = (k : ℕ) → slice_get (answers_of (opening s) steps) k ≡ Some (answer.Book Nothing) → (reached s (take k steps)).book.next ≡ s.jobs * s.tries
+IsNothingLast s steps = (k : ℕ) → slice_get (answers_of (opening s) steps) k ≡ Some (answer.Book Nothing) →
+    (reached s (take k steps)).book.next ≡ s.jobs * s.tries

@@ -1,5 +1,6 @@
 -- What an offer of a row does, and what finishing gives.
-use Rattle.std.specs.Prelude.{◌≡◌, ◌==◌, ◌<◌, ◌&&◌, ℕ, Bool, true, not, Some, None, nat_lt, length, map, is_some, slice_set, if◌then◌else◌}
+use Rattle.std.specs.Prelude.{◌≡◌, ◌==◌, ◌<◌, ◌&&◌, ℕ, Bool, true, not, Some, None, nat_lt, length, map, is_some}
+use Rattle.std.specs.Prelude.{slice_set, if◌then◌else◌}
 use Rattle.std.specs.List.{list_all}
 use Rattle.collector.specs.Row.{CellsData, RowData}
 use Rattle.collector.specs.Places.{PlacesData, MatrixData, place_of, row_at}
@@ -13,12 +14,15 @@ is_whole width limits cells = length cells.cells == width && length cells.access
 
 -- so many shares are there, and each of them is whole: a cell for each stop, and an access sum for each limit
 abbrev pub has_all_cells : PlacesData → RowData → Bool
-has_all_cells places row = length row.shares == places.shares && list_all (is_whole places.width places.limits) row.shares
+has_all_cells places row = length row.shares == places.shares && list_all (is_whole places.width places.limits)
+    row.shares
 
--- the row is no stranger: it is of this study, for a scenario and an origin in range, with all its cells and access sums
+-- the row is no stranger: it is of this study, for a scenario and an origin in range, with all its cells and access
+-- sums
 abbrev pub belongs : PlacesData → RowData → Bool
 belongs places row =
-    row.study == places.study && (nat_lt row.scenario places.scenarios && (nat_lt row.origin places.origins && has_all_cells places row))
+    row.study == places.study && (nat_lt row.scenario places.scenarios &&
+    (nat_lt row.origin places.origins && has_all_cells places row))
 
 -- the row's place is empty
 abbrev pub is_open : PlacesData → RowData → Bool

@@ -1,8 +1,10 @@
 -- The places of a study, one for each scenario and origin, and the matrix that their rows make.
-use Rattle.std.specs.Prelude.{◌≡◌, ◌+◌, ◌*◌, ◌<◌, ℕ, true, List, [], ◌∷◌, Option, Some, None, length, replicate, is_some, slice_index_or}
+use Rattle.std.specs.Prelude.{◌≡◌, ◌+◌, ◌*◌, ◌<◌, ℕ, true, List, [], ◌∷◌, Option, Some, None, length, replicate}
+use Rattle.std.specs.Prelude.{is_some, slice_index_or}
 use Rattle.collector.specs.Row.{RowData}
 
--- the study, how many scenarios and origins there are, how many cells a share of a row has, how many shares and limits, and the row at
+-- the study, how many scenarios and origins there are, how many cells a share of a row has, how many shares and limits,
+-- and the row at
 -- each place, scenarios in the outer order
 pub record PlacesData : Type 0 where
   pub study : ℕ

@@ -1,7 +1,8 @@
 -- A row of the matrix, as plain data.
 use Rattle.std.specs.Prelude.{ℕ, List, Option}
 
--- what one share of the minutes gives: a travel time or none for each stop, and the opportunities within reach, one sum per limit
+-- what one share of the minutes gives: a travel time or none for each stop, and the opportunities within reach, one sum
+-- per limit
 pub record CellsData : Type 0 where
   pub cells : List (Option ℕ)
   pub access : List ℕ

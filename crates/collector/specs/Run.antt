@@ -68,4 +68,5 @@ abbrev pub merged : PlacesData → List CoreStep → List Answer → List CoreAn
 merged places [] told = []
 merged places (Book step ∷ steps) [] = []
 merged places (Book step ∷ steps) (first ∷ told) = answer.Book first ∷ merged places steps told
-merged places (Hand seat row ∷ steps) told = answer.Hand (offer_of places row) ∷ merged (after_offer places row) steps told
+merged places (Hand seat row ∷ steps) told =
+    answer.Hand (offer_of places row) ∷ merged (after_offer places row) steps told

@@ -1,7 +1,8 @@
 //! What every run of steps keeps to.
 ghost use Rattle.std.specs.Prelude.{List};
 ghost use Rattle.work_book.specs.Laws.{AreDrawnOnce, AreKeptOnce};
-ghost use Rattle.collector.specs.Laws.{Setup, reached, ArePlacedFirst, IsRightWhenFinished, AreMissingUnhanded, AreDrawnAtNothing, IsRunOfBook, IsNothingLast};
+ghost use Rattle.collector.specs.Laws.{Setup, reached, ArePlacedFirst, IsRightWhenFinished, AreMissingUnhanded};
+ghost use Rattle.collector.specs.Laws.{AreDrawnAtNothing, IsRunOfBook, IsNothingLast};
 ghost use Rattle.collector.specs.declared.run.CoreStep.{CoreStep};
 
 /// For every book, every collector and every list of steps, whoever makes them and in whatever order: a place holds

@@ -1,8 +1,10 @@
 //! The places of a study's rows, and the matrix.
-ghost use Rattle.std.specs.Prelude.{◌≡◌, ◌+◌, ◌*◌, ◌<◌, ◌≤◌, Some, None, option_copied, length, slice_get, IfOk, IfErr, MatchOption};
+ghost use Rattle.std.specs.Prelude.{◌≡◌, ◌+◌, ◌*◌, ◌<◌, ◌≤◌, Some, None, option_copied, length, slice_get, IfOk, IfErr};
+ghost use Rattle.std.specs.Prelude.{MatchOption};
 ghost use Rattle.std.specs.List.{list_all};
 ghost use Rattle.collector.specs.Places.{empty_places, place_of, row_at, AreFull, IsFirstGap};
-ghost use Rattle.collector.specs.Offers.{is_whole, belongs, offer_of, after_offer, IsSameSize, IsFinished, IsHandedBack};
+ghost use Rattle.collector.specs.Offers.{is_whole, belongs, offer_of, after_offer, IsSameSize, IsFinished};
+ghost use Rattle.collector.specs.Offers.{IsHandedBack};
 
 use crate::row::{Cells, Row};
 use std::alloc::{AllocError, Global};
@@ -38,7 +40,8 @@ impl Model for Collector {
       rows = c.places.items;
     } };
 
-    ghost invariant = { λ c. (length c.places.items ≡ c.scenarios * c.origins) × (c.scenarios * c.origins ≤ MOST_JOBS) };
+    ghost invariant = { λ c. (length c.places.items ≡ c.scenarios * c.origins)
+        × (c.scenarios * c.origins ≤ MOST_JOBS) };
 }
 
 /// What became of a row that was offered.
@@ -92,7 +95,8 @@ impl Model for Matrix {
       rows = present m.places.items;
     } };
 
-    ghost invariant = { λ m. (length m.places.items ≡ m.scenarios * m.origins) × (m.scenarios * m.origins ≤ MOST_JOBS) × AreFull m.places.items };
+    ghost invariant = { λ m. (length m.places.items ≡ m.scenarios * m.origins) × (m.scenarios * m.origins ≤ MOST_JOBS)
+        × AreFull m.places.items };
 }
 
 impl Collector {

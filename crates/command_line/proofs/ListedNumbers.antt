@@ -1,5 +1,7 @@
 -- The numbers that a text lists: they are read from its parts one by one, and the text lists no others.
-use Rattle.std.proofs.Common.{zero, suc, ◌≡◌, ◌∙◌, ◌<◌, ◌≤◌, ◌+◌, ◌++◌, ◌&&◌, ℕ, Bool, true, false, Bor, List, [], ◌∷◌, map, drop, length, Option, Some, None, option_map, option_and_then, nat_eq, nat_le, nat_lt, slice_index, refl, sym, ap, subst, arith}
+use Rattle.std.proofs.Common.{zero, suc, ◌≡◌, ◌∙◌, ◌<◌, ◌≤◌, ◌+◌, ◌++◌, ◌&&◌, ℕ, Bool, true, false, Bor, List, [], ◌∷◌}
+use Rattle.std.proofs.Common.{map, drop, length, Option, Some, None, option_map, option_and_then, nat_eq, nat_le}
+use Rattle.std.proofs.Common.{nat_lt, slice_index, refl, sym, ap, subst, arith}
 use Rattle.std.proofs.lemmas.Bool.{ltb-true, lt-ltb, leb-true, le-leb}
 use Rattle.std.proofs.lemmas.List.{length-map}
 use Rattle.std.proofs.lemmas.List.Splits.{length-slice_split}
@@ -35,7 +37,8 @@ rises [] e k lt = absurd (omega (arith, lt))
 rises (n ∷ []) e k lt = absurd (omega (arith, lt))
 rises (n ∷ m ∷ ns) e zero lt = ltb-true n m (both (nat_lt n m) (ascend (m ∷ ns)) e).0
 rises (n ∷ m ∷ ns) e (suc k) lt =
-    subst (λ i. slice_index (m ∷ ns) k < i) (sym (one_on n (m ∷ ns) k)) (rises (m ∷ ns) (both (nat_lt n m) (ascend (m ∷ ns)) e).1 k (omega (arith, lt)))
+    subst (λ i. slice_index (m ∷ ns) k < i) (sym (one_on n (m ∷ ns) k))
+    (rises (m ∷ ns) (both (nat_lt n m) (ascend (m ∷ ns)) e).1 k (omega (arith, lt)))
 
 pub is_ascending : (ns : List ℕ) → IsStrictlyIncreasing ns → ascend ns ≡ true
 is_ascending [] up = refl
@@ -43,7 +46,8 @@ is_ascending (n ∷ []) up = refl
 is_ascending (n ∷ m ∷ ns) up =
     let first : nat_lt n m ≡ true = lt-ltb n m (up zero (omega arith)) in
     let rest : ascend (m ∷ ns) ≡ true =
-    is_ascending (m ∷ ns) (λ k lt. subst (λ i. slice_index (m ∷ ns) k < i) (one_on n (m ∷ ns) k) (up (suc k) (omega (arith, lt)))) in
+    is_ascending (m ∷ ns) (λ k lt. subst (λ i. slice_index (m ∷ ns) k
+    < i) (one_on n (m ∷ ns) k) (up (suc k) (omega (arith, lt)))) in
     rw (first, rest) refl
 
 -- ---- what is written
@@ -54,8 +58,10 @@ each_writes [] [] e = refl
 each_writes [] (n ∷ ns) e = absurd (let bad : Some [] ≡ Some (n ∷ ns) = e in cc)
 each_writes (t ∷ ts) ns e = go (λ more r. each_writes ts more r) (number_of t) (written_by ts) refl refl e
   where
-    go : ((more : List ℕ) → written_by ts ≡ Some more → map number_of ts ≡ map Some more) → (first : Option ℕ) (rest : Option (List ℕ)) → number_of t ≡ first → written_by ts ≡ rest
-        → option_and_then (λ n. option_map (λ more. n ∷ more) rest) first ≡ Some ns → map number_of (t ∷ ts) ≡ map Some ns
+    go : ((more : List ℕ) → written_by ts ≡ Some more → map number_of ts ≡ map Some more) →
+        (first : Option ℕ) (rest : Option (List ℕ)) → number_of t ≡ first → written_by ts ≡ rest
+        → option_and_then (λ n. option_map (λ more. n ∷ more) rest) first ≡ Some ns →
+        map number_of (t ∷ ts) ≡ map Some ns
     go again None rest f r e = absurd (none-some ns e)
     go again (Some n) None f r e = absurd (none-some ns e)
     go again (Some n) (Some more) f r e =
@@ -91,7 +97,8 @@ some_numbers text ns e =
 
 -- ---- what a text lists
 
-pub listed : (text ns : List ℕ) → written_by (parts_of text) ≡ Some ns → (length ns ≤ MOST_NUMBERS) × IsStrictlyIncreasing ns → Lists text ns
+pub listed : (text ns : List ℕ) → written_by (parts_of text) ≡ Some ns →
+    (length ns ≤ MOST_NUMBERS) × IsStrictlyIncreasing ns → Lists text ns
 listed text ns is fit =
     let written = each_writes (parts_of text) ns is in
     record { written = written; some = some_numbers text ns written; few = fit.0; ascending = fit.1 }
@@ -99,19 +106,25 @@ listed text ns is fit =
 pub no_number : (text : List ℕ) → written_by (parts_of text) ≡ None → (numbers : List ℕ) → Lists text numbers → ⊥
 no_number text none numbers lists = none-some numbers (sym none ∙ all_written (parts_of text) numbers lists.written)
 
-pub no_list : (text ns : List ℕ) → written_by (parts_of text) ≡ Some ns → ((length ns ≤ MOST_NUMBERS) × IsStrictlyIncreasing ns → ⊥)
+pub no_list : (text ns : List ℕ) → written_by (parts_of text) ≡ Some ns →
+    ((length ns ≤ MOST_NUMBERS) × IsStrictlyIncreasing ns → ⊥)
     → (numbers : List ℕ) → Lists text numbers → ⊥
 no_list text ns is unfit numbers lists =
     let same : numbers ≡ ns = same_Some numbers ns (sym (all_written (parts_of text) numbers lists.written) ∙ is) in
-    unfit (subst (λ (them : List ℕ). (length them ≤ MOST_NUMBERS) × IsStrictlyIncreasing them) same (lists.few, lists.ascending))
+    unfit (subst (λ (them : List ℕ). (length them ≤ MOST_NUMBERS) × IsStrictlyIncreasing them) same (
+      lists.few,
+      lists.ascending,
+    ))
 
-pub taken : (text ns : List ℕ) → written_by (parts_of text) ≡ Some ns → (length ns ≤ MOST_NUMBERS) × IsStrictlyIncreasing ns → Some ns ≡ numbers_of text
+pub taken : (text ns : List ℕ) → written_by (parts_of text) ≡ Some ns →
+    (length ns ≤ MOST_NUMBERS) × IsStrictlyIncreasing ns → Some ns ≡ numbers_of text
 taken text ns is fit =
     let few : nat_le (length ns) MOST_NUMBERS ≡ true = le-leb (length ns) MOST_NUMBERS fit.0 in
     let up : ascend ns ≡ true = is_ascending ns fit.1 in
     rw (is, few, up) refl
 
-pub not_taken : (text ns : List ℕ) → written_by (parts_of text) ≡ Some ns → ((length ns ≤ MOST_NUMBERS) × IsStrictlyIncreasing ns → ⊥) → None ≡ numbers_of text
+pub not_taken : (text ns : List ℕ) → written_by (parts_of text) ≡ Some ns →
+    ((length ns ≤ MOST_NUMBERS) × IsStrictlyIncreasing ns → ⊥) → None ≡ numbers_of text
 not_taken text ns is unfit = go (nat_le (length ns) MOST_NUMBERS) (ascend ns) refl refl
   where
     go : (few up : Bool) → nat_le (length ns) MOST_NUMBERS ≡ few → ascend ns ≡ up → None ≡ numbers_of text

@@ -1,5 +1,6 @@
 -- An option that must be given has a text where `clap` takes the words.
-use Rattle.std.proofs.Common.{zero, suc, ◌≡◌, ◌∙◌, ◌<◌, ◌≤◌, ◌&&◌, ◌||◌, ℕ, Bool, true, false, not, List, [], ◌∷◌, map, length, is_some, Option, Some, None, refl, sym, ap, subst, inl, inr, arith, codes}
+use Rattle.std.proofs.Common.{zero, suc, ◌≡◌, ◌∙◌, ◌<◌, ◌≤◌, ◌&&◌, ◌||◌, ℕ, Bool, true, false, not, List, [], ◌∷◌, map}
+use Rattle.std.proofs.Common.{length, is_some, Option, Some, None, refl, sym, ap, subst, inl, inr, arith, codes}
 use Rattle.std.specs.List.{All, slice_index_or, list_any, list_all}
 use Rattle.std.specs.Str.{bytes_eq}
 use Rattle.std.specs.Prelude.{slice_get, unwrap_or}
@@ -34,7 +35,8 @@ is_own id = not (bytes_eq id []) && (not (bytes_eq id (codes "help")) && not (by
 -- what is asked of the rules and of the id at a place
 abbrev pub is_fit : App → Text → ℕ → Bool
 is_fit a id k =
-    a.top.is_plain && (not a.top.subcommand_negates_reqs && (list_all is_alone a.top.rules && (is_only id a.top.rules k && is_own id)))
+    a.top.is_plain && (not a.top.subcommand_negates_reqs &&
+    (list_all is_alone a.top.rules && (is_only id a.top.rules k && is_own id)))
 
 differs : (a b : Text) → not (bytes_eq a b) ≡ true → a ≡ b → ⊥
 differs a b differ same =
@@ -49,7 +51,8 @@ none_later id [] none j e lt same = absurd (omega arith)
 none_later id (x ∷ xs) none zero e lt same =
     let bad : true ≡ false = rw same at none in
     cc
-none_later id (x ∷ xs) none (suc j) e lt same = none_later id xs (rest (bytes_eq x.id.now id) _ none) j e (omega arith) same
+none_later id (x ∷ xs) none (suc j) e lt same =
+    none_later id xs (rest (bytes_eq x.id.now id) _ none) j e (omega arith) same
   where
     rest : (a b : Bool) → (a || b) ≡ false → b ≡ false
     rest true b e = absurd (let bad : true ≡ false = e in cc)
@@ -124,7 +127,8 @@ required_text c m a id k parsed app_is there fit =
     let least : 1 ≤ (unwrap_or_range arg.num_vals).start_inclusive =
     subst (λ range. 1 ≤ (unwrap_or_range range).start_inclusive) (sym (ap (λ (r : Rule). r.range) is)) one_value in
     subst (λ t. is_some (first_value (found_of m) t) ≡ true) same
-    (required_has_value c m parsed plain fields.globals negates k d found.1 (ap (λ (r : Rule). r.required) is) (ap (λ (r : Rule). r.action) is)
+    (required_has_value c m parsed plain fields.globals negates k d found.1 (ap (λ (r : Rule). r.required) is)
+    (ap (λ (r : Rule). r.action) is)
     whole least
     (λ j e lt meets. only id xs k one j e lt (rw same at meets))
     (λ empty. differs id [] n.0 (sym same ∙ empty))

@@ -1,10 +1,12 @@
 -- What `clap` says of the command of a study.
-use Rattle.std.proofs.Common.{◌≡◌, ◌∙◌, ◌<◌, ◌+◌, ℕ, zero, suc, List, [], ◌∷◌, map, take, length, true, false, Some, refl, sym, ap, ap₂, subst, arith, codes}
+use Rattle.std.proofs.Common.{◌≡◌, ◌∙◌, ◌<◌, ◌+◌, ℕ, zero, suc, List, [], ◌∷◌, map, take, length, true, false, Some}
+use Rattle.std.proofs.Common.{refl, sym, ap, ap₂, subst, arith, codes}
 use Rattle.std.specs.List.{slice_index_or}
 use Rattle.std.specs.Prelude.{slice_get}
 use Rattle.std.proofs.lemmas.Bool.{false_from_ne_true}
 use Rattle.clap.proofs.OnLiterals.{clap_on_literals}
-use Rattle.clap.specs.Words.{App, Row, Rule, Text, AddsArg, app_of, rule_of, with_rule, is_simple, is_simple_and_free, matches_of, takes, fault_of, HasKind}
+use Rattle.clap.specs.Words.{App, Row, Rule, Text, AddsArg, app_of, rule_of, with_rule, is_simple, is_simple_and_free}
+use Rattle.clap.specs.Words.{matches_of, takes, fault_of, HasKind}
 use Rattle.clap.specs.declared.builder.arg.Arg.{Arg}
 use Rattle.clap.specs.declared.builder.command.Command.{Command}
 use Rattle.clap.specs.declared.error.Error.{Error}
@@ -14,7 +16,8 @@ use Rattle.command_line.specs.declared.option_text.OptionText.{OptionText}
 use Rattle.command_line.specs.declared.task.Opt.{Opt}
 use Rattle.command_line.specs.declared.task.Task.{Task}
 use Rattle.command_line.proofs.Required.{is_fit}
-use Rattle.command_line.specs.Words.{study_app, needed, rule_in, with_rules, is_reported, IsAsked, NamesFiles, bad_options}
+use Rattle.command_line.specs.Words.{study_app, needed, rule_in, with_rules, is_reported, IsAsked, NamesFiles}
+use Rattle.command_line.specs.Words.{bad_options}
 
 pub study_simple : is_simple study_app ≡ true
 unfolding clap_on_literals
@@ -31,34 +34,40 @@ pub feed_fit : is_fit study_app (codes "feed") 0 ≡ true
 feed_fit = refl
 
 -- a command with one more argument
-pub added : (old next : Command) (arg : Arg) (rule : Rule) (app : App) → AddsArg old arg next → arg.global ≡ false → rule_of arg ≡ rule → app_of old ≡ app
+pub added : (old next : Command) (arg : Arg) (rule : Rule) (app : App) → AddsArg old arg next → arg.global ≡ false →
+    rule_of arg ≡ rule → app_of old ≡ app
     → app_of next ≡ with_rule app rule
 added old next arg rule app adds local is was = adds.shape local ∙ ap₂ with_rule was is
 
 -- the options up to one, and that one
 next : (a : App) (xs : List OptionText) (i : ℕ) (d : OptionText) → i < length xs
-    → with_rules a (map rule_in (take (suc i) xs)) ≡ with_rule (with_rules a (map rule_in (take i xs))) (rule_in (slice_index_or xs i d))
+    → with_rules a (map rule_in (take (suc i) xs))
+    ≡ with_rule (with_rules a (map rule_in (take i xs))) (rule_in (slice_index_or xs i d))
 next a [] i d few = absurd (omega arith)
 next a (x ∷ xs) zero d few = refl
 next a (x ∷ xs) (suc i) d few = next (with_rule a (rule_in x)) xs i d (omega arith)
 
 pub next_rule : (a : App) (xs : List OptionText) (i : ℕ) (d : OptionText) → i < length xs
-    → with_rules a (map rule_in (take (i + 1) xs)) ≡ with_rule (with_rules a (map rule_in (take i xs))) (rule_in (slice_index_or xs i d))
+    → with_rules a (map rule_in (take (i + 1) xs))
+    ≡ with_rule (with_rules a (map rule_in (take i xs))) (rule_in (slice_index_or xs i d))
 next_rule a xs i d few =
-    subst (λ n. with_rules a (map rule_in (take n xs)) ≡ with_rule (with_rules a (map rule_in (take i xs))) (rule_in (slice_index_or xs i d))) (suc_is i)
+    subst (λ n. with_rules a (map rule_in (take n xs))
+    ≡ with_rule (with_rules a (map rule_in (take i xs))) (rule_in (slice_index_or xs i d))) (suc_is i)
     (next a xs i d few)
   where
     suc_is : (n : ℕ) → suc n ≡ n + 1
     suc_is n = omega arith
 
 -- the facts of a command are those of the study's
-pub same_rows : (a b : App) (words : List Text) (rows : List Row) → a ≡ b → rows ≡ matches_of a words → rows ≡ matches_of b words
+pub same_rows : (a b : App) (words : List Text) (rows : List Row) → a ≡ b → rows ≡ matches_of a words →
+    rows ≡ matches_of b words
 same_rows a b words rows is e = e ∙ ap (λ (x : App). matches_of x words) is
 
 pub same_faults : (a b : App) (words : List Text) → a ≡ b → fault_of a words ≡ [] → fault_of b words ≡ []
 same_faults a b words is e = ap (λ (x : App). fault_of x words) (sym is) ∙ e
 
-pub same_kind : (a b : App) (words : List Text) (e : Error) → a ≡ b → HasKind (fault_of a words) e → HasKind (fault_of b words) e
+pub same_kind : (a b : App) (words : List Text) (e : Error) → a ≡ b → HasKind (fault_of a words) e →
+    HasKind (fault_of b words) e
 same_kind a b words e is h = subst (λ (x : App). HasKind (fault_of x words) e) is h
 
 -- what isn't taken

@@ -128,7 +128,8 @@ net_text name net.Memory = no_memory
 net_text name _ = codes "scenario " ++ name ++ codes ": " ++ net_words net.TooLarge
 
 abbrev pub run_text : RunFault → List ℕ
-run_text (run.Unfinished s o) = run_words (run.Unfinished s o) ++ codes ": scenario " ++ decimal s ++ codes ", origin " ++ decimal o
+run_text (run.Unfinished s o) = run_words (run.Unfinished s o) ++ codes ": scenario " ++ decimal s ++ codes
+    ", origin " ++ decimal o
 run_text f = run_words f
 
 -- why there is no study

@@ -1,7 +1,9 @@
 -- The lists of numbers of the command line.
--- "A list is 1 to 8 numbers parted by single commas, without spaces, each greater than the one before it." (The program's own rule.)
+-- "A list is 1 to 8 numbers parted by single commas, without spaces, each greater than the one before it." (The
+-- program's own rule.)
 -- Bytes are ASCII: 44 is a comma.
-use Rattle.std.specs.Prelude.{◌≡◌, ◌≤◌, ◌==◌, ◌&&◌, nat_le, nat_lt, ℕ, Bool, true, List, [], ◌∷◌, map, length, Option, Some, None, option_map, option_and_then, if◌then◌else◌}
+use Rattle.std.specs.Prelude.{◌≡◌, ◌≤◌, ◌==◌, ◌&&◌, nat_le, nat_lt, ℕ, Bool, true, List, [], ◌∷◌, map, length, Option}
+use Rattle.std.specs.Prelude.{Some, None, option_map, option_and_then, if◌then◌else◌}
 use Rattle.std.specs.List.{slice_split}
 use Rattle.std.specs.List.Sorted.{IsStrictlyIncreasing}
 use Rattle.table_records.specs.Fields.{number_of}
@@ -33,4 +35,5 @@ ascend (n ∷ m ∷ ns) = nat_lt n m && ascend (m ∷ ns)
 
 -- the numbers that a text lists, if it lists any
 abbrev pub numbers_of : List ℕ → Option (List ℕ)
-numbers_of text = option_and_then (λ ns. if nat_le (length ns) MOST_NUMBERS && ascend ns then Some ns else None) (written_by (parts_of text))
+numbers_of text = option_and_then (λ ns. if nat_le (length ns) MOST_NUMBERS && ascend ns then Some ns else None)
+    (written_by (parts_of text))

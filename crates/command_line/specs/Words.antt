@@ -1,12 +1,16 @@
 -- The command line of a study: its options, and what their texts ask for.
--- "Options have one text each; the flag of a report has none. A date is YYYYMMDD, a window two times of the day, the shares and the limits of access are lists
--- of numbers, all else is a number within its limits; spaces around a number or a date don't count. The first option that is bad is told." (The program's own rules; how
+-- "Options have one text each; the flag of a report has none. A date is YYYYMMDD, a window two times of the day, the
+-- shares and the limits of access are lists
+-- of numbers, all else is a number within its limits; spaces around a number or a date don't count. The first option
+-- that is bad is told." (The program's own rules; how
 -- words are split into options is the rule of the `clap` crate.)
-use Rattle.std.specs.Prelude.{◌≡◌, ◌&&◌, ◌++◌, ℕ, ℤ, Bool, true, false, nat_le, List, [], ◌∷◌, map, Option, Some, None, option_map, option_and_then, unwrap_or, codes, ⊤, string_bytes, if◌then◌else◌}
+use Rattle.std.specs.Prelude.{◌≡◌, ◌&&◌, ◌++◌, ℕ, ℤ, Bool, true, false, nat_le, List, [], ◌∷◌, map, Option, Some, None}
+use Rattle.std.specs.Prelude.{option_map, option_and_then, unwrap_or, codes, ⊤, string_bytes, if◌then◌else◌}
 use Rattle.std.specs.List.{list_all}
 use Rattle.std.specs.Option.{option_map_or}
 use Rattle.std.specs.Str.{bytes_eq}
-use Rattle.clap.specs.Words.{App, Rule, Row, Text, new_app, new_rule, with_rule, matches_of, first_of, all_of, kind_of, HasKind, fault_of, takes}
+use Rattle.clap.specs.Words.{App, Rule, Row, Text, new_app, new_rule, with_rule, matches_of, first_of, all_of, kind_of}
+use Rattle.clap.specs.Words.{HasKind, fault_of, takes}
 use Rattle.clap.specs.Lexer.{usize_max}
 use Rattle.clap.specs.declared.builder.action.ArgAction.TheVariants.{Set, SetTrue, Append}
 use Rattle.clap.specs.declared.error.kind.ErrorKind.{ErrorKind}
@@ -34,7 +38,12 @@ use Rattle.command_line.specs.declared.task.WordFault.TheVariants as fault
 
 -- an option with one text as value
 abbrev pub option_rule : Bool → Text → Rule
-option_rule required name = record (new_rule name) { long = Some name; action = Some Set; value_names = 1; required = required }
+option_rule required name = record (new_rule name) {
+  long = Some name;
+  action = Some Set;
+  value_names = 1;
+  required = required;
+}
 
 -- an option that must be given, and one that may be
 abbrev pub needed : Text → Rule
@@ -53,7 +62,11 @@ report_rule = record (new_rule (codes "report")) { long = Some (codes "report");
 
 -- the scenario files: the words that belong to no option
 abbrev pub scenario_rule : Rule
-scenario_rule = record (new_rule (codes "scenario")) { action = Some Append; range = Some (record { start_inclusive = 0; end_inclusive = usize_max }); value_names = 1 }
+scenario_rule = record (new_rule (codes "scenario")) {
+  action = Some Append;
+  range = Some (record { start_inclusive = 0; end_inclusive = usize_max });
+  value_names = 1;
+}
 
 -- a command that has a version to tell
 abbrev pub with_version : App → App
@@ -68,12 +81,16 @@ with_rules a (r ∷ rs) = with_rules (with_rule a r) rs
 -- that of the date; the analyst's own files
 abbrev pub option_rules : List Rule
 option_rules =
-    needed (codes "feed") ∷ needed (codes "date") ∷ needed (codes "from") ∷ needed (codes "to") ∷ needed (codes "trips") ∷ needed (codes "walk")
-    ∷ needed (codes "share") ∷ needed (codes "within") ∷ needed (codes "workers") ∷ needed (codes "tries") ∷ optional (codes "back")
-    ∷ optional (codes "ahead") ∷ optional (codes "origins") ∷ optional (codes "opportunities") ∷ optional (codes "destinations") ∷ optional (codes "footpaths") ∷ []
+    needed (codes "feed") ∷ needed (codes "date") ∷ needed (codes "from") ∷ needed (codes "to") ∷ needed
+    (codes "trips") ∷ needed (codes "walk")
+    ∷ needed (codes "share") ∷ needed (codes "within") ∷ needed (codes "workers") ∷ needed (codes "tries") ∷ optional
+    (codes "back")
+    ∷ optional (codes "ahead") ∷ optional (codes "origins") ∷ optional (codes "opportunities") ∷ optional
+    (codes "destinations") ∷ optional (codes "footpaths") ∷ []
 
 abbrev pub study_app : App
-study_app = with_rule (with_rule (with_rules (with_version (new_app (codes "ttm"))) option_rules) report_rule) scenario_rule
+study_app = with_rule (with_rule (with_rules (with_version (new_app (codes "ttm"))) option_rules) report_rule)
+    scenario_rule
 
 -- what the words give each option, by `clap`
 abbrev pub rows_of_words : List Text → List Row
@@ -104,7 +121,8 @@ window_in from to = option_and_then (λ f. option_and_then (λ t. window_between
 -- the number of a text, if it is within its limits
 abbrev pub number_in : ℕ → ℕ → Option Text → Option ℕ
 number_in low high text =
-    option_and_then (λ t. option_and_then (λ n. if nat_le low n && nat_le n high then Some n else None) (number_of (trimmed t))) text
+    option_and_then (λ t. option_and_then (λ n. if nat_le low n && nat_le n high then Some n else None)
+    (number_of (trimmed t))) text
 
 -- the numbers that a text lists
 abbrev pub list_in : Option Text → Option (List ℕ)
@@ -182,11 +200,14 @@ unless o (Some x) = []
 -- the options that are bad, in the order in which they are looked at
 abbrev pub bad_options : List Row → List Opt
 bad_options rows =
-    unless opt.Date (date_of rows) ++ unless opt.Window (window_of rows) ++ unless opt.Trips (trips_of rows) ++ unless opt.Walk (walk_of rows)
-    ++ unless opt.Share (shares_of rows) ++ unless opt.Within (withins_of rows) ++ unless opt.Workers (workers_of rows) ++ unless opt.Tries (tries_of rows)
+    unless opt.Date (date_of rows) ++ unless opt.Window (window_of rows) ++ unless opt.Trips (trips_of rows) ++ unless
+    opt.Walk (walk_of rows)
+    ++ unless opt.Share (shares_of rows) ++ unless opt.Within (withins_of rows) ++ unless opt.Workers
+    (workers_of rows) ++ unless opt.Tries (tries_of rows)
     ++ unless opt.Back (back_of rows) ++ unless opt.Ahead (ahead_of rows)
 
--- what a fault says of the words: they aren't the command's or ask for its help or version, or they are and this option is the first bad one
+-- what a fault says of the words: they aren't the command's or ask for its help or version, or they are and this option
+-- is the first bad one
 abbrev pub Tells : WordFault → List Text → Type 0
 Tells (fault.Words e) words = (takes study_app words ≡ false) × HasKind (fault_of study_app words) e
 Tells (fault.Bad o) words = (fault_of study_app words ≡ []) × IsFirst o (bad_options (rows_of_words words))

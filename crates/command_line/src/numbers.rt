@@ -40,7 +40,8 @@ pub fn numbers_of(alloc: Global, text: &[u8]) -> Result<Option<Vec<u32>>, AllocE
 
 /// The numbers that the parts of a text write, if each part writes one.
 fn written(alloc: Global, text: &[u8]) -> Result<Option<Vec<u32>>, AllocError>
-    ensures { IfOk result (λ list. option_map (λ numbers. numbers.items) list ≡ spec.written_by (spec.parts_of text.now)) }
+    ensures { IfOk result (λ list. option_map (λ numbers. numbers.items) list
+        ≡ spec.written_by (spec.parts_of text.now)) }
 {
     let parts = parts(alloc, text)?;
     written_by(alloc, &parts)
@@ -55,7 +56,8 @@ fn parts(alloc: Global, text: &[u8]) -> Result<Vec<&[u8]>, AllocError>
 
 /// The numbers that texts write, if each writes one.
 fn written_by(alloc: Global, texts: &[&[u8]]) -> Result<Option<Vec<u32>>, AllocError>
-    ensures { IfOk result (λ list. option_map (λ numbers. numbers.items) list ≡ spec.written_by (map (λ text. text.now) texts.now)) }
+    ensures { IfOk result (λ list. option_map (λ numbers. numbers.items) list
+        ≡ spec.written_by (map (λ text. text.now) texts.now)) }
 {
     let mut numbers = Vec::new(alloc);
     for text in texts {

@@ -4,7 +4,8 @@
 //! flag of a report, which has none; and the arguments that belong to no option are scenario files. What the texts say
 //! is read here.
 
-ghost use Rattle.std.specs.Prelude.{◌≡◌, ◌≤◌, ◌+◌, ℕ, [], ◌∷◌, All, map, Some, None, is_some, IfOk, IfErr, IfSome, IsTrue, option_map, string_bytes, codes, true, false};
+ghost use Rattle.std.specs.Prelude.{◌≡◌, ◌≤◌, ◌+◌, ℕ, [], ◌∷◌, All, map, Some, None, is_some, IfOk, IfErr, IfSome};
+ghost use Rattle.std.specs.Prelude.{IsTrue, option_map, string_bytes, codes, true, false};
 ghost use Rattle.clap.specs.Words.{found_of, rows_of, fault_of};
 ghost use Rattle.jiff.specs.Words.{epoch_day};
 ghost use Rattle.table_records.specs.Faults.{IsFirst};
@@ -39,7 +40,8 @@ pub fn task_of(alloc: Global, words: &[String]) -> Result<Task, WordFault>
     ensures asked { IfOk result (λ task. spec.IsAsked (spec.rows_of_words (map string_bytes words.now)) task.settings) }
     ensures fits { IfOk result (λ task. SettingsFit task.settings) }
     ensures paths { IfOk result (λ task. spec.NamesFiles (spec.rows_of_words (map string_bytes words.now)) task) }
-    ensures reported { IfOk result (λ task. task.report ≡ spec.is_reported (spec.rows_of_words (map string_bytes words.now))) }
+    ensures reported { IfOk result (λ task. task.report
+        ≡ spec.is_reported (spec.rows_of_words (map string_bytes words.now))) }
     ensures fault { IfErr result (λ fault. spec.Tells fault (map string_bytes words.now)) }
 {
     let matches = matched(alloc, words)?;
@@ -59,7 +61,8 @@ pub fn task_of(alloc: Global, words: &[String]) -> Result<Task, WordFault>
 ///
 /// The arguments are taken by the same command as those of a study, and are refused where it refuses them.
 pub fn text_of(alloc: Global, words: &[String], id: &str) -> Result<Option<String>, WordFault>
-    ensures text { IfOk result (λ text. spec.text_at (spec.rows_of_words (map string_bytes words.now)) id.now ≡ option_map string_bytes text) }
+    ensures text { IfOk result (λ text. spec.text_at (spec.rows_of_words (map string_bytes words.now)) id.now
+        ≡ option_map string_bytes text) }
     ensures fault { IfErr result (λ fault. spec.Tells fault (map string_bytes words.now)) }
 {
     let matches = matched(alloc, words)?;
@@ -151,9 +154,11 @@ fn within(low: u32, high: u32, text: &str) -> Option<u32>
 
 /// The number of an option, from `low` to `high`.
 fn number_at(matches: &ArgMatches<'_>, opt: Opt, id: &str, low: u32, high: u32) -> Result<u32, Opt>
-    ensures ok { IfOk result (λ n. spec.number_in low high (spec.text_at (rows_of (found_of matches.now)) id.now) ≡ Some n) }
+    ensures ok { IfOk result (λ n. spec.number_in low high (spec.text_at (rows_of (found_of matches.now)) id.now)
+        ≡ Some n) }
     ensures limits { IfOk result (λ n. (low ≤ n) × (n ≤ high)) }
-    ensures bad { IfErr result (λ o. (o ≡ opt) × (spec.number_in low high (spec.text_at (rows_of (found_of matches.now)) id.now) ≡ None)) }
+    ensures bad { IfErr result (λ o. (o ≡ opt)
+        × (spec.number_in low high (spec.text_at (rows_of (found_of matches.now)) id.now) ≡ None)) }
 {
     let Some(text) = text_at(matches, id) else {
         return Err(opt);
@@ -166,9 +171,12 @@ fn number_at(matches: &ArgMatches<'_>, opt: Opt, id: &str, low: u32, high: u32) 
 
 /// The number of service days of an option; it is one where the option isn't given.
 fn days_at(matches: &ArgMatches<'_>, opt: Opt, id: &str) -> Result<u32, Opt>
-    ensures ok { IfOk result (λ n. spec.number_in 0 MOST_DAYS (spec.or_one (spec.text_at (rows_of (found_of matches.now)) id.now)) ≡ Some n) }
+    ensures ok { IfOk result (λ n. spec.number_in 0 MOST_DAYS
+        (spec.or_one (spec.text_at (rows_of (found_of matches.now)) id.now)) ≡ Some n) }
     ensures limits { IfOk result (λ n. n ≤ MOST_DAYS) }
-    ensures bad { IfErr result (λ o. (o ≡ opt) × (spec.number_in 0 MOST_DAYS (spec.or_one (spec.text_at (rows_of (found_of matches.now)) id.now)) ≡ None)) }
+    ensures bad { IfErr result (λ o. (o ≡ opt)
+        × (spec.number_in 0 MOST_DAYS (spec.or_one (spec.text_at (rows_of (found_of matches.now)) id.now))
+        ≡ None)) }
 {
     let text = match text_at(matches, id) {
         Some(text) => text,
@@ -182,7 +190,8 @@ fn days_at(matches: &ArgMatches<'_>, opt: Opt, id: &str) -> Result<u32, Opt>
 
 /// The shares that their option lists, if its text lists some.
 fn shares_at(alloc: Global, matches: &ArgMatches<'_>) -> Result<Option<Vec<u32>>, AllocError>
-    ensures value { IfOk result (λ list. option_map (λ shares. shares.items) list ≡ spec.shares_of (rows_of (found_of matches.now))) }
+    ensures value { IfOk result (λ list. option_map (λ shares. shares.items) list
+        ≡ spec.shares_of (rows_of (found_of matches.now))) }
     ensures fits { IfOk result (λ list. IfSome list (λ shares. SharesFit shares.items)) }
 {
     let Some(text) = text_at(matches, "share") else {
@@ -200,7 +209,8 @@ fn shares_at(alloc: Global, matches: &ArgMatches<'_>) -> Result<Option<Vec<u32>>
 
 /// The limits of access that their option lists, if its text lists some.
 fn withins_at(alloc: Global, matches: &ArgMatches<'_>) -> Result<Option<Vec<u32>>, AllocError>
-    ensures value { IfOk result (λ list. option_map (λ withins. withins.items) list ≡ spec.withins_of (rows_of (found_of matches.now))) }
+    ensures value { IfOk result (λ list. option_map (λ withins. withins.items) list
+        ≡ spec.withins_of (rows_of (found_of matches.now))) }
     ensures fits { IfOk result (λ list. IfSome list (λ withins. LimitsFit withins.items)) }
 {
     match text_at(matches, "within") {
@@ -211,9 +221,11 @@ fn withins_at(alloc: Global, matches: &ArgMatches<'_>) -> Result<Option<Vec<u32>
 
 /// The settings that the texts ask for, or the first option whose text is bad.
 fn settings_at(alloc: Global, matches: &ArgMatches<'_>) -> Result<Result<Settings, Opt>, AllocError>
-    ensures asked { IfOk result (λ made. IfOk made (λ settings. spec.IsAsked (rows_of (found_of matches.now)) settings)) }
+    ensures asked { IfOk result (λ made. IfOk made
+        (λ settings. spec.IsAsked (rows_of (found_of matches.now)) settings)) }
     ensures fits { IfOk result (λ made. IfOk made (λ settings. SettingsFit settings)) }
-    ensures bad { IfOk result (λ made. IfErr made (λ o. IsFirst o (spec.bad_options (rows_of (found_of matches.now))))) }
+    ensures bad { IfOk result (λ made. IfErr made
+        (λ o. IsFirst o (spec.bad_options (rows_of (found_of matches.now))))) }
 {
     let shares = shares_at(alloc, matches)?;
     let withins = withins_at(alloc, matches)?;
@@ -265,7 +277,8 @@ fn settings_with(
 
 /// A copy of the text of an option, if it is given.
 fn copy_at(alloc: Global, matches: &ArgMatches<'_>, id: &str) -> Result<Option<String>, AllocError>
-    ensures { IfOk result (λ text. spec.text_at (rows_of (found_of matches.now)) id.now ≡ option_map string_bytes text) }
+    ensures { IfOk result (λ text. spec.text_at (rows_of (found_of matches.now)) id.now
+        ≡ option_map string_bytes text) }
 {
     match text_at(matches, id) {
         Some(text) => Ok(Some(String::from_str(alloc, text)?)),

@@ -159,6 +159,11 @@ fn tells_each_file_of_an_analyst(rt: HostRuntime) {
         FileName::Opportunities,
         b"opportunities: record 9: bad date\n",
     );
+}
+
+#[test]
+fn tells_the_file_of_destinations(rt: HostRuntime) {
+    let alloc = rt.alloc();
     let fault = FeedFault {
         file: FileName::Origins,
         at: 9,

@@ -110,25 +110,8 @@ ttm: bytes taken at most: 500
     );
 }
 
-#[test]
-fn a_date_without_trips_or_walks_is_warned_of(rt: HostRuntime) {
-    let inputs = Inputs {
-        footpaths: None,
-        ..small_inputs()
-    };
-    let asked = Asked {
-        date: b"20260505",
-        back: 0,
-        ahead: 0,
-        free: 41,
-        ..MONDAY
-    };
-    expect(
-        &rt,
-        rt.alloc(),
-        &inputs,
-        asked,
-        b"ttm: stops: 3
+/// What is told of the small feed on a Tuesday, without walks.
+const WITHOUT_TRIPS_OR_WALKS: &[u8] = b"ttm: stops: 3
 ttm: routes: 2
 ttm: trips: 2
 ttm: trips set aside: 0
@@ -153,8 +136,22 @@ ttm: rows done: 1 of 1, 100 percent, about 0:00:00 left
 ttm: rows done: 1 of 1
 ttm: time: 0:03:03
 ttm: bytes taken at most: 500
-",
-    );
+";
+
+#[test]
+fn a_date_without_trips_or_walks_is_warned_of(rt: HostRuntime) {
+    let inputs = Inputs {
+        footpaths: None,
+        ..small_inputs()
+    };
+    let asked = Asked {
+        date: b"20260505",
+        back: 0,
+        ahead: 0,
+        free: 41,
+        ..MONDAY
+    };
+    expect(&rt, rt.alloc(), &inputs, asked, WITHOUT_TRIPS_OR_WALKS);
 }
 
 /// Two scenarios: one without the second route, and one that changes nothing.
@@ -167,30 +164,8 @@ fn two_scenarios(alloc: Global) -> Option<Vec<NamedFile>> {
     Some(files)
 }
 
-#[test]
-fn rows_of_scenarios_move_along_on_a_terminal(rt: HostRuntime) {
-    let alloc = rt.alloc();
-    let Some(files) = two_scenarios(alloc) else {
-        assert!(rt; false);
-        return;
-    };
-    let inputs = Inputs {
-        scenarios: files.as_slice(),
-        ..small_inputs()
-    };
-    let asked = Asked {
-        back: 0,
-        ahead: 0,
-        step: 100,
-        terminal: true,
-        ..MONDAY
-    };
-    expect(
-        &rt,
-        alloc,
-        &inputs,
-        asked,
-        b"ttm: stops: 3
+/// What is told of three scenarios on a terminal.
+const THREE_SCENARIOS: &[u8] = b"ttm: stops: 3
 ttm: routes: 2
 ttm: trips: 2
 ttm: trips set aside: 0
@@ -212,8 +187,27 @@ ttm: rows done: 2 of 3, 66 percent, about 0:00:00 left\r
 ttm: rows done: 3 of 3
 ttm: time: 0:00:00
 ttm: bytes taken at most: 500
-",
-    );
+";
+
+#[test]
+fn rows_of_scenarios_move_along_on_a_terminal(rt: HostRuntime) {
+    let alloc = rt.alloc();
+    let Some(files) = two_scenarios(alloc) else {
+        assert!(rt; false);
+        return;
+    };
+    let inputs = Inputs {
+        scenarios: files.as_slice(),
+        ..small_inputs()
+    };
+    let asked = Asked {
+        back: 0,
+        ahead: 0,
+        step: 100,
+        terminal: true,
+        ..MONDAY
+    };
+    expect(&rt, alloc, &inputs, asked, THREE_SCENARIOS);
 }
 
 /// The small feed with a trip set aside and two transfers that aren't used.

@@ -1,5 +1,6 @@
 -- Rows whose targets ascend.
-use Rattle.std.proofs.Common.{◌≡◌, ◌<◌, ◌≤◌, ◌+◌, ◌⊎◌, inl, inr, ℕ, zero, suc, List, [], ◌∷◌, length, arith, refl, sym, ◌∙◌, ap, Some, slice_get, get_or, sum_by, subst}
+use Rattle.std.proofs.Common.{◌≡◌, ◌<◌, ◌≤◌, ◌+◌, ◌⊎◌, inl, inr, ℕ, zero, suc, List, [], ◌∷◌, length, arith, refl, sym}
+use Rattle.std.proofs.Common.{◌∙◌, ap, Some, slice_get, get_or, sum_by, subst}
 use Rattle.std.proofs.lemmas.Bool.{cases_order}
 use Rattle.std.proofs.lemmas.Option.{same_Some, slice_get_within}
 use Rattle.std.proofs.lemmas.List.Sums.{sum_by-cons}
@@ -68,14 +69,17 @@ first_of_two x y ys h c k = elim (At-split y x ys c) [
 -- of the tails, where the firsts have one target
 tails : (x y : StopNo × ℕ) (xs ys : List (StopNo × ℕ)) → Ascends (x ∷ xs) → x.0.0 ≡ y.0.0
     → ((z : StopNo × ℕ) → At (x ∷ xs) z → At (y ∷ ys) z) → (z : StopNo × ℕ) → At xs z → At ys z
-tails x y xs ys h k into z c = let m = first_below x z xs h c in later_of z y ys (into z (At-later x z xs c)) (omega (arith, k, m))
+tails x y xs ys h k into z c = let m = first_below x z xs h c in
+    later_of z y ys (into z (At-later x z xs c)) (omega (arith, k, m))
 
 -- a row within another is no longer
-pub no_longer : (xs ys : List (StopNo × ℕ)) → Ascends xs → Ascends ys → ((z : StopNo × ℕ) → At xs z → At ys z) → length xs ≤ length ys
+pub no_longer : (xs ys : List (StopNo × ℕ)) → Ascends xs → Ascends ys → ((z : StopNo × ℕ) → At xs z → At ys z) →
+    length xs ≤ length ys
 no_longer [] ys h g into = omega arith
 no_longer (x ∷ xs) [] h g into = absurd (At-none x (into x (At-front x xs)))
 no_longer (x ∷ xs) (y ∷ ys) h g into = elim (cases_order x.0.0 y.0.0) [
-  | inl e ↦ let r = no_longer xs ys (tail_ascends x xs h) (tail_ascends y ys g) (tails x y xs ys h e into) in omega (arith, r)
+  | inl e ↦ let r = no_longer xs ys (tail_ascends x xs h) (tail_ascends y ys g) (tails x y xs ys h e into) in
+      omega (arith, r)
   | inr d ↦ elim d [
     | inl l ↦ absurd (not_below x y ys g (into x (At-front x xs)) l)
     | inr l ↦
@@ -91,14 +95,16 @@ no_longer (x ∷ xs) (y ∷ ys) h g into = elim (cases_order x.0.0 y.0.0) [
     ]
 
 -- rows with the same feet are one
-pub one_row : (xs ys : List (StopNo × ℕ)) → Ascends xs → Ascends ys → ((z : StopNo × ℕ) → At xs z → At ys z) → ((z : StopNo × ℕ) → At ys z → At xs z) → xs ≡ ys
+pub one_row : (xs ys : List (StopNo × ℕ)) → Ascends xs → Ascends ys → ((z : StopNo × ℕ) → At xs z → At ys z) →
+    ((z : StopNo × ℕ) → At ys z → At xs z) → xs ≡ ys
 one_row [] [] h g into back = refl
 one_row [] (y ∷ ys) h g into back = absurd (At-none y (back y (At-front y ys)))
 one_row (x ∷ xs) [] h g into back = absurd (At-none x (into x (At-front x xs)))
 one_row (x ∷ xs) (y ∷ ys) h g into back = elim (cases_order x.0.0 y.0.0) [
   | inl e ↦
       let first : x ≡ y = first_of_two x y ys g (into x (At-front x xs)) e in
-      let rest : xs ≡ ys = one_row xs ys (tail_ascends x xs h) (tail_ascends y ys g) (tails x y xs ys h e into) (tails y x ys xs g (sym e) back) in
+      let rest : xs ≡ ys = one_row xs ys (tail_ascends x xs h) (tail_ascends y ys g) (tails x y xs ys h e into)
+      (tails y x ys xs g (sym e) back) in
       cc (first, rest)
   | inr d ↦ elim d [
     | inl l ↦ absurd (not_below x y ys g (into x (At-front x xs)) l)
@@ -107,7 +113,9 @@ one_row (x ∷ xs) (y ∷ ys) h g into back = elim (cases_order x.0.0 y.0.0) [
 ]
 
 -- rows that are no longer have no greater sum
-pub no_more : (fs hs : List (List (StopNo × ℕ))) → ((a : ℕ) (row : List (StopNo × ℕ)) → slice_get fs a ≡ Some row → length row ≤ length (get_or hs a [])) → sum_by length fs ≤ sum_by length hs
+pub no_more : (fs hs : List (List (StopNo × ℕ))) →
+    ((a : ℕ) (row : List (StopNo × ℕ)) → slice_get fs a ≡ Some row → length row ≤ length (get_or hs a [])) →
+    sum_by length fs ≤ sum_by length hs
 no_more [] hs h = omega arith
 no_more (f ∷ fs) [] h =
     let first : length f ≤ 0 = h 0 f refl in

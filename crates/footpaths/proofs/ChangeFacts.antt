@@ -1,10 +1,13 @@
 -- Change times with one row more, and with one stop more.
-use Rattle.std.proofs.Common.{◌≡◌, ◌≢◌, ◌∙◌, ◌||◌, ◌++◌, ◌==◌, ◌+◌, ◌<◌, ◌≤◌, ℕ, Bool, true, false, List, [], ◌∷◌, inl, inr, length, map, filter, take, set, get_or, max, min, replicate, refl, sym, ap, arith, if◌then◌else◌}
+use Rattle.std.proofs.Common.{◌≡◌, ◌≢◌, ◌∙◌, ◌||◌, ◌++◌, ◌==◌, ◌+◌, ◌<◌, ◌≤◌, ℕ, Bool, true, false, List, [], ◌∷◌, inl}
+use Rattle.std.proofs.Common.{inr, length, map, filter, take, set, get_or, max, min, replicate, refl, sym, ap, arith}
+use Rattle.std.proofs.Common.{if◌then◌else◌}
 use Rattle.std.specs.Prelude.{All}
 use Rattle.std.specs.List.{list_any, range_with_len}
 use Rattle.std.proofs.lemmas.Bool.{cases_eq}
 use Rattle.std.proofs.lemmas.Bool.Decides.{nat_tests}
-use Rattle.std.proofs.lemmas.List.{append-nil, ext_get_or, get_or-map, get_or-replicate, length-replicate, get_or-set_other, get_or-set_same, length-set, map-append, take_all, take_more}
+use Rattle.std.proofs.lemmas.List.{append-nil, ext_get_or, get_or-map, get_or-replicate, length-replicate}
+use Rattle.std.proofs.lemmas.List.{get_or-set_other, get_or-set_same, length-set, map-append, take_all, take_more}
 use Rattle.std.proofs.lemmas.List.Elements.{All-map, filter-append}
 use Rattle.std.proofs.lemmas.List.Folds.{list_any-append}
 use Rattle.std.proofs.lemmas.List.FromFn.{get_or-range_with_len, length-map-range_with_len, length-range_with_len}
@@ -23,27 +26,35 @@ greatest_push (first ∷ times) time = let rest = greatest_push times time in om
 
 -- the change time, with one row more
 change_push : (children : List (List StopNo)) (links : List Link) (link : Link) (p : ℕ)
-    → change_of children (links ++ link ∷ []) p ≡ longer (is_stated_for children p link) (change_of children links p) (min link.seconds MOST_CHANGE_SECONDS)
+    → change_of children (links ++ link ∷ []) p
+    ≡ longer (is_stated_for children p link) (change_of children links p) (min link.seconds MOST_CHANGE_SECONDS)
 change_push children links link p =
     ap (λ (times : List ℕ). min (greatest times) MOST_CHANGE_SECONDS) parts ∙ by (is_stated_for children p link)
   where
     seconds : Link → ℕ
     seconds = λ x. x.seconds
 
-    parts : stated_for children (links ++ link ∷ []) p ≡ stated_for children links p ++ map (λ (x : Link). x.seconds) (filter (is_stated_for children p) (link ∷ []))
+    parts : stated_for children (links ++ link ∷ []) p
+        ≡ stated_for children links p ++ map (λ (x : Link). x.seconds) (filter (is_stated_for children p) (link ∷ []))
     parts =
         ap (map (λ (x : Link). x.seconds)) (filter-append (is_stated_for children p) links (link ∷ []))
-        ∙ map-append (λ (x : Link). x.seconds) (filter (is_stated_for children p) links) (filter (is_stated_for children p) (link ∷ []))
+        ∙ map-append (λ (x : Link). x.seconds) (filter (is_stated_for children p) links)
+        (filter (is_stated_for children p) (link ∷ []))
 
-    by : (b : Bool) → min (greatest (stated_for children links p ++ map (λ (x : Link). x.seconds) (if b then link ∷ [] else []))) MOST_CHANGE_SECONDS
+    by : (b : Bool) → min (greatest (stated_for children links p ++ map (λ (x : Link). x.seconds)
+        (if b then link ∷ [] else []))) MOST_CHANGE_SECONDS
         ≡ longer b (change_of children links p) (min link.seconds MOST_CHANGE_SECONDS)
     by true = let e = greatest_push (stated_for children links p) link.seconds in omega (arith, e)
-    by false = ap (λ (times : List ℕ). min (greatest times) MOST_CHANGE_SECONDS) (append-nil (stated_for children links p))
+    by false = ap (λ (times : List ℕ). min (greatest times) MOST_CHANGE_SECONDS)
+        (append-nil (stated_for children links p))
 
 pub change_more : (children : List (List StopNo)) (links : List Link) (i : ℕ) (d : Link) (p : ℕ) → i < length links
-    → change_of children (take (i + 1) links) p ≡ longer (is_stated_for children p (get_or links i d)) (change_of children (take i links) p) (min (get_or links i d).seconds MOST_CHANGE_SECONDS)
+    → change_of children (take (i + 1) links) p
+    ≡ longer (is_stated_for children p (get_or links i d)) (change_of children (take i links) p)
+    (min (get_or links i d).seconds MOST_CHANGE_SECONDS)
 change_more children links i d p within =
-    ap (λ (l : List Link). change_of children l p) (take_more links i d within) ∙ change_push children (take i links) (get_or links i d) p
+    ap (λ (l : List Link). change_of children l p) (take_more links i d within)
+    ∙ change_push children (take i links) (get_or links i d) p
 
 -- no stop, and then one of two lists
 merged : (b t : Bool) (time other : ℕ) → longer (b || (t || false)) time other ≡ longer t (longer b time other) other
@@ -53,7 +64,8 @@ merged false true time other = refl
 merged false false time other = refl
 
 -- one stop is raised
-raised_at : (now : List ℕ) (q seconds p : ℕ) → p < length now → get_or (set now q (max (get_or now q 0) seconds)) p 0 ≡ longer (q == p) (get_or now p 0) seconds
+raised_at : (now : List ℕ) (q seconds p : ℕ) → p < length now →
+    get_or (set now q (max (get_or now q 0) seconds)) p 0 ≡ longer (q == p) (get_or now p 0) seconds
 raised_at now q seconds p within = elim (cases_eq p q) [
   | inl e ↦
       let yes : (q == p) ≡ true = grind (arith, nat_tests, e) in
@@ -67,7 +79,8 @@ raised_at now q seconds p within = elim (cases_eq p q) [
 -- the change times of the first stops of a list are raised, and then that of the next one
 pub raised_more : (old now : List ℕ) (stops : List StopNo) (i : ℕ) (d : StopNo) (seconds : ℕ) → i < length stops
     → ((p : ℕ) → p < length now → get_or now p 0 ≡ longer (has_stop p (take i stops)) (get_or old p 0) seconds)
-    → (p : ℕ) → p < length now → get_or (set now (get_or stops i d).0 (max (get_or now (get_or stops i d).0 0) seconds)) p 0 ≡ longer (has_stop p (take (i + 1) stops)) (get_or old p 0) seconds
+    → (p : ℕ) → p < length now → get_or (set now (get_or stops i d).0 (max (get_or now (get_or stops i d).0 0) seconds))
+    p 0 ≡ longer (has_stop p (take (i + 1) stops)) (get_or old p 0) seconds
 raised_more old now stops i d seconds here before p within =
     let x = get_or stops i d in
     let one : has_stop p (take (i + 1) stops) ≡ (has_stop p (take i stops) || ((x.0 == p) || false)) =
@@ -79,20 +92,25 @@ raised_more old now stops i d seconds here before p within =
 
 -- no change takes too long
 pub changes_short : (feed : FeedData) → All (λ seconds. seconds ≤ MOST_CHANGE_SECONDS) (change_times feed)
-changes_short feed = All-map (λ seconds. seconds ≤ MOST_CHANGE_SECONDS) (change_of feed.children feed.links) (range_with_len 0 (length feed.stops)) (λ k d lt. omega arith)
+changes_short feed = All-map (λ seconds. seconds
+    ≤ MOST_CHANGE_SECONDS) (change_of feed.children feed.links) (range_with_len 0 (length feed.stops))
+    (λ k d lt. omega arith)
 
 pub changes_each : (feed : FeedData) → length (change_times feed) ≡ length feed.stops
 changes_each feed = length-map-range_with_len (change_of feed.children feed.links) 0 (length feed.stops)
 
 -- the change times of all rows
-pub changes_all : (feed : FeedData) (i : ℕ) (changes : List ℕ) → length feed.links ≤ i → length changes ≡ length feed.stops
-    → ((p : ℕ) → p < length changes → get_or changes p 0 ≡ change_of feed.children (take i feed.links) p) → changes ≡ change_times feed
+pub changes_all : (feed : FeedData) (i : ℕ) (changes : List ℕ) → length feed.links ≤ i →
+    length changes ≡ length feed.stops
+    → ((p : ℕ) → p < length changes → get_or changes p 0 ≡ change_of feed.children (take i feed.links) p) →
+    changes ≡ change_times feed
 changes_all feed i changes past each are =
     let f = change_of feed.children feed.links in
     ext_get_or 0 changes (change_times feed) (each ∙ sym (changes_each feed)) (λ p within.
     let below : p < length feed.stops = omega (arith, each, within) in
     let long = length-range_with_len 0 (length feed.stops) in
-    let number : get_or (range_with_len 0 (length feed.stops)) p 0 ≡ p = let e = get_or-range_with_len 0 (length feed.stops) p 0 below in omega (arith, e) in
+    let number : get_or (range_with_len 0 (length feed.stops)) p 0 ≡ p = let e =
+    get_or-range_with_len 0 (length feed.stops) p 0 below in omega (arith, e) in
     are p within
     ∙ ap (λ (l : List Link). change_of feed.children l p) (take_all i feed.links past)
     ∙ sym (get_or-map f (range_with_len 0 (length feed.stops)) p 0 0 (omega (arith, long, below)) ∙ ap f number))
@@ -102,14 +120,17 @@ pub set_within : (now : List ℕ) (q time p : ℕ) → p < length (set now q tim
 set_within now q time p within = let same = length-set now q time in omega (arith, same, within)
 
 -- the stops that a link states a change time for
-pub change_stops : (children : List (List StopNo)) (link : Link) → link.changes ≡ true → changes_at children link ≡ stops_at link.origin children
+pub change_stops : (children : List (List StopNo)) (link : Link) → link.changes ≡ true →
+    changes_at children link ≡ stops_at link.origin children
 change_stops children link states = rw states refl
 
-pub no_change_stops : (children : List (List StopNo)) (link : Link) → link.changes ≡ false → changes_at children link ≡ []
+pub no_change_stops : (children : List (List StopNo)) (link : Link) → link.changes ≡ false →
+    changes_at children link ≡ []
 no_change_stops children link none = rw none refl
 
 -- no times yet
-pub none_yet : (n : ℕ) (changes : List ℕ) → changes ≡ replicate n 0 → (p : ℕ) → p < length changes → get_or changes p 0 ≡ 0
+pub none_yet : (n : ℕ) (changes : List ℕ) → changes ≡ replicate n 0 → (p : ℕ) → p < length changes →
+    get_or changes p 0 ≡ 0
 none_yet n changes is p within =
     let long = length-replicate {A = ℕ} n 0 in
     let below : p < n = let same = ap length is in omega (arith, same, long, within) in

@@ -1,10 +1,12 @@
 -- One step of settling: a label is offered to a stop, and to one footpath more.
-use Rattle.std.proofs.Common.{◌≡◌, ◌<◌, ◌≤◌, ◌+◌, ◌-◌, ◌++◌, ◌⊎◌, inl, inr, ℕ, zero, suc, List, [], ◌∷◌, length, take, get_or, arith, refl, sym, ◌∙◌, ap, subst}
+use Rattle.std.proofs.Common.{◌≡◌, ◌<◌, ◌≤◌, ◌+◌, ◌-◌, ◌++◌, ◌⊎◌, inl, inr, ℕ, zero, suc, List, [], ◌∷◌, length, take}
+use Rattle.std.proofs.Common.{get_or, arith, refl, sym, ◌∙◌, ap, subst}
 use Rattle.std.proofs.Math.ListN.{set}
 use Rattle.std.specs.List.{Contains}
 use Rattle.std.specs.List.Sorted.{IsPermutation}
 use Rattle.std.proofs.lemmas.Bool.{cases_eq}
-use Rattle.std.proofs.lemmas.List.{length-set, get_or-set_same, get_or-set_other, get_or-take, length-take-le, get_or_default}
+use Rattle.std.proofs.lemmas.List.{length-set, get_or-set_same, get_or-set_other, get_or-take, length-take-le}
+use Rattle.std.proofs.lemmas.List.{get_or_default}
 use Rattle.std.proofs.lemmas.List.Elements.{Contains-get_or}
 use Rattle.std.proofs.lemmas.List.Sums.{sum_by-set}
 use Rattle.std.proofs.lemmas.List.Sorted.{Contains-permutation, IsPermutation-sym, length_permutation}
@@ -26,9 +28,11 @@ Contains-split {X} y x xs c = go c.0 c.1 c.2
     go (suc k) h e = inl (k, omega arith, e)
 
 -- a label falls, and the stop is noted
-lowered : (limit stop label : ℕ) (old : Marks) (ts : List ℕ) (ks : List (ℕ × ℕ)) → stop < length old.labels → label < get_or old.labels stop 0
+lowered : (limit stop label : ℕ) (old : Marks) (ts : List ℕ) (ks : List (ℕ × ℕ)) → stop < length old.labels →
+    label < get_or old.labels stop 0
     → IsPermutation ((limit - label, stop) ∷ old.noted) ks
-    → ((source : ℕ) → get_or old.labels source 0 ≡ 0 → AreTouched source limit old → AreTouched source limit (record { labels = set old.labels stop label; touched = ts; noted = ks }))
+    → ((source : ℕ) → get_or old.labels source 0 ≡ 0 → AreTouched source limit old →
+    AreTouched source limit (record { labels = set old.labels stop label; touched = ts; noted = ks }))
     → Relaxed limit stop label old (record { labels = set old.labels stop label; touched = ts; noted = ks })
 lowered limit stop label old ts ks here less moved touched =
     let ls = old.labels in
@@ -54,23 +58,30 @@ lowered limit stop label old ts ks here less moved touched =
     }
 
 -- a stop's first label
-pub relaxed_first : (limit stop label : ℕ) (old : Marks) (ks : List (ℕ × ℕ)) → stop < length old.labels → label ≤ limit → limit ≤ 7200
+pub relaxed_first : (limit stop label : ℕ) (old : Marks) (ks : List (ℕ × ℕ)) → stop < length old.labels →
+    label ≤ limit → limit ≤ 7200
     → get_or old.labels stop 0 ≡ 4294967295 → IsPermutation ((limit - label, stop) ∷ old.noted) ks
-    → Relaxed limit stop label old (record { labels = set old.labels stop label; touched = old.touched ++ stop ∷ []; noted = ks })
+    → Relaxed limit stop label old (record {
+      labels = set old.labels stop label;
+      touched = old.touched ++ stop ∷ [];
+      noted = ks;
+    })
 relaxed_first limit stop label old ks here low high never moved =
     lowered limit stop label old (old.touched ++ stop ∷ []) ks here (omega arith) moved
     (λ source start t. touched_more limit stop label source old ks here low (omega arith) never start t)
 
 -- a lower label
 pub relaxed_again : (limit stop label : ℕ) (old : Marks) (ks : List (ℕ × ℕ)) → stop < length old.labels → label ≤ limit
-    → (get_or old.labels stop 0 ≡ 4294967295 → ⊥) → label < get_or old.labels stop 0 → IsPermutation ((limit - label, stop) ∷ old.noted) ks
+    → (get_or old.labels stop 0 ≡ 4294967295 → ⊥) → label < get_or old.labels stop 0 →
+    IsPermutation ((limit - label, stop) ∷ old.noted) ks
     → Relaxed limit stop label old (record { labels = set old.labels stop label; touched = old.touched; noted = ks })
 relaxed_again limit stop label old ks here low there less moved =
     lowered limit stop label old old.touched ks here less moved
     (λ source start t. touched_lowered limit stop label source old ks here low there t)
 
 -- no lower label
-pub unrelaxed : (limit stop label : ℕ) (old : Marks) → get_or old.labels stop 0 ≤ label → Relaxed limit stop label old old
+pub unrelaxed : (limit stop label : ℕ) (old : Marks) → get_or old.labels stop 0 ≤ label →
+    Relaxed limit stop label old old
 unrelaxed limit stop label old h = record {
   count = refl;
   lower = λ p. omega arith;
@@ -83,22 +94,34 @@ unrelaxed limit stop label old h = record {
 }
 
 -- a footpath of one more is a footpath of those before, or that footpath
-pub Contains-more : {X : Type 0} (xs : List X) (i : ℕ) (x d : X) → i < length xs → Contains (take (i + 1) xs) x → (Contains (take i xs) x) ⊎ (x ≡ get_or xs i d)
+pub Contains-more : {X : Type 0} (xs : List X) (i : ℕ) (x d : X) → i < length xs → Contains (take (i + 1) xs) x →
+    (Contains (take i xs) x) ⊎ (x ≡ get_or xs i d)
 Contains-more xs i x d here c =
     let below : c.0 < i + 1 = rw (← length-take-le (i + 1) xs (omega arith)) c.1 in
     elim (cases_eq c.0 i) [
-      | inl e ↦ inr (sym c.2 ∙ get_or-take (i + 1) xs c.0 x below ∙ ap (λ k. get_or xs k x) e ∙ get_or_default xs i x d here)
-      | inr n ↦ inl (c.0, rw (length-take-le i xs (omega arith)) (omega arith), get_or-take i xs c.0 x (omega arith) ∙ sym (get_or-take (i + 1) xs c.0 x below) ∙ c.2)
+      | inl e ↦ inr (sym c.2 ∙ get_or-take (i + 1) xs c.0 x below ∙ ap (λ k. get_or xs k x) e
+          ∙ get_or_default xs i x d here)
+      | inr n ↦ inl (
+        c.0,
+        rw (length-take-le i xs (omega arith)) (omega arith),
+        get_or-take i xs c.0 x (omega arith) ∙ sym (get_or-take (i + 1) xs c.0 x below) ∙ c.2,
+      )
     ]
 
-pub Contains-kept : {X : Type 0} (xs : List X) (i : ℕ) (x : X) → i < length xs → Contains (take i xs) x → Contains (take (i + 1) xs) x
+pub Contains-kept : {X : Type 0} (xs : List X) (i : ℕ) (x : X) → i < length xs → Contains (take i xs) x →
+    Contains (take (i + 1) xs) x
 Contains-kept xs i x here c =
-    let below : c.0 < i = rw (← length-take-le i xs (omega arith)) c.1 in
-    (c.0, rw (length-take-le (i + 1) xs (omega arith)) (omega arith), get_or-take (i + 1) xs c.0 x (omega arith) ∙ sym (get_or-take i xs c.0 x below) ∙ c.2)
+    let below : c.0 < i = rw (← length-take-le i xs (omega arith)) c.1 in (
+      c.0,
+      rw (length-take-le (i + 1) xs (omega arith)) (omega arith),
+      get_or-take (i + 1) xs c.0 x (omega arith) ∙ sym (get_or-take i xs c.0 x below) ∙ c.2,
+    )
 
 -- the footpath at i is a footpath of one more
-pub Contains-last : {X : Type 0} (xs : List X) (i : ℕ) (d : X) → i < length xs → Contains (take (i + 1) xs) (get_or xs i d)
-Contains-last xs i d here = subst (Contains (take (i + 1) xs)) (get_or-take (i + 1) xs i d (omega arith)) (Contains-get_or (take (i + 1) xs) i d (rw (length-take-le (i + 1) xs (omega arith)) (omega arith)))
+pub Contains-last : {X : Type 0} (xs : List X) (i : ℕ) (d : X) → i < length xs →
+    Contains (take (i + 1) xs) (get_or xs i d)
+Contains-last xs i d here = subst (Contains (take (i + 1) xs)) (get_or-take (i + 1) xs i d (omega arith))
+    (Contains-get_or (take (i + 1) xs) i d (rw (length-take-le (i + 1) xs (omega arith)) (omega arith)))
 
 -- no footpath yet
 pub passed_none : (limit label : ℕ) (m : Marks) → PassedOn limit label [] m m
@@ -114,8 +137,10 @@ passed_none limit label m = record {
 }
 
 -- one footpath more, whose label is past the limit
-pub leg_skipped : (limit label i : ℕ) (leaving : List (StopNo × ℕ)) (old new : Marks) (d : StopNo × ℕ) → i < length leaving
-    → limit < label + (get_or leaving i d).1 → PassedOn limit label (take i leaving) old new → PassedOn limit label (take (i + 1) leaving) old new
+pub leg_skipped : (limit label i : ℕ) (leaving : List (StopNo × ℕ)) (old new : Marks) (d : StopNo × ℕ) →
+    i < length leaving
+    → limit < label + (get_or leaving i d).1 → PassedOn limit label (take i leaving) old new →
+    PassedOn limit label (take (i + 1) leaving) old new
 leg_skipped limit label i leaving old new d here high p = record {
   count = p.count;
   lower = p.lower;
@@ -134,9 +159,12 @@ leg_skipped limit label i leaving old new d here high p = record {
 }
 
 -- one footpath more, along which the label was passed
-pub leg_passed : (limit label i : ℕ) (leaving : List (StopNo × ℕ)) (old now new : Marks) (d : StopNo × ℕ) → i < length leaving
-    → (get_or leaving i d).0.0 < length old.labels → label + (get_or leaving i d).1 ≤ limit → PassedOn limit label (take i leaving) old now
-    → Relaxed limit (get_or leaving i d).0.0 (label + (get_or leaving i d).1) now new → PassedOn limit label (take (i + 1) leaving) old new
+pub leg_passed : (limit label i : ℕ) (leaving : List (StopNo × ℕ)) (old now new : Marks) (d : StopNo × ℕ) →
+    i < length leaving
+    → (get_or leaving i d).0.0 < length old.labels → label + (get_or leaving i d).1 ≤ limit →
+    PassedOn limit label (take i leaving) old now
+    → Relaxed limit (get_or leaving i d).0.0 (label + (get_or leaving i d).1) now new →
+    PassedOn limit label (take (i + 1) leaving) old new
 leg_passed limit label i leaving old now new d here to low p r = record {
   count = r.count ∙ p.count;
   lower = λ q. let a = r.lower q in let b = p.lower q in omega arith;
@@ -147,14 +175,29 @@ leg_passed limit label i leaving old now new d here to low p r = record {
   cause = λ q. elim (r.cause q) [
     | inl same ↦ elim (p.cause q) [
       | inl e ↦ inl (same ∙ e)
-      | inr f ↦ inr (f.0, Contains-kept leaving i _ here f.1, f.2, same ∙ f.3, r.kept _ (subst (λ (l : ℕ). Contains now.noted (limit - l, q)) (sym same) f.4))
+      | inr f ↦ inr (
+        f.0,
+        Contains-kept leaving i _ here f.1,
+        f.2,
+        same ∙ f.3,
+        r.kept _ (subst (λ (l : ℕ). Contains now.noted (limit - l, q)) (sym same) f.4),
+      )
     ]
     | inr f ↦ inr (
       (get_or leaving i d).1,
-      subst (λ (x : ℕ). Contains (take (i + 1) leaving) (record { 0 = x }, (get_or leaving i d).1)) (sym f.0) (Contains-last leaving i d here),
+      subst (λ (x : ℕ). Contains (take (i + 1) leaving) (
+        record { 0 = x },
+        (get_or leaving i d).1,
+      )) (sym f.0) (Contains-last leaving i d here),
       low,
       f.1,
-      subst (λ (l : ℕ). Contains new.noted (limit - l, q)) (sym f.1) (subst (λ (x : ℕ). Contains new.noted (limit - (label + (get_or leaving i d).1), x)) (sym f.0) f.2),
+      subst (λ (l : ℕ). Contains new.noted (
+        limit - l,
+        q,
+      )) (sym f.1) (subst (λ (x : ℕ). Contains new.noted (
+        limit - (label + (get_or leaving i d).1),
+        x,
+      )) (sym f.0) f.2),
     )
   ];
   kept = λ x c. r.kept x (p.kept x c);
@@ -163,5 +206,6 @@ leg_passed limit label i leaving old now new d here to low p r = record {
     | inr e ↦ inr (subst (λ (y : ℕ × ℕ). (y.0 ≤ limit) × (y.1 < length old.labels)) (sym e) (omega arith, to))
   ];
   measure = let a = r.measure in let b = p.measure in omega arith;
-  touched = λ source start t. r.touched source (let b = p.lower source in omega (arith, b, start)) (p.touched source start t);
+  touched = λ source start t. r.touched source (let b = p.lower source in
+      omega (arith, b, start)) (p.touched source start t);
 }

@@ -1,5 +1,6 @@
 -- Closed footpaths are determined, and are too many or not.
-use Rattle.std.proofs.Common.{◌≡◌, ◌<◌, ◌≤◌, inl, inr, ℕ, List, [], ◌∷◌, length, arith, refl, sym, ◌∙◌, Some, slice_get, get_or, sum_by, subst}
+use Rattle.std.proofs.Common.{◌≡◌, ◌<◌, ◌≤◌, inl, inr, ℕ, List, [], ◌∷◌, length, arith, refl, sym, ◌∙◌, Some, slice_get}
+use Rattle.std.proofs.Common.{get_or, sum_by, subst}
 use Rattle.std.proofs.lemmas.List.{same_lists}
 use Rattle.std.proofs.lemmas.Option.{slice_get_cases, slice_get-get_or, slice_get_within, get_or_from_slice_get}
 use Rattle.timetable.specs.declared.trips.StopNo.{StopNo}
@@ -10,13 +11,15 @@ use Rattle.footpaths.specs.Closure.{AllAscend, AreClosed, ClosuresAreUnique, Too
 use Rattle.footpaths.proofs.Ascending.{At, no_longer, one_row, no_more}
 
 -- a foot of a list is in the row at that place
-at_row : (f : FootLists) (a : ℕ) (z : StopNo × ℕ) (row : List (StopNo × ℕ)) → slice_get f a ≡ Some row → IsFoot f a z.0.0 z.1 → At row z
+at_row : (f : FootLists) (a : ℕ) (z : StopNo × ℕ) (row : List (StopNo × ℕ)) → slice_get f a ≡ Some row →
+    IsFoot f a z.0.0 z.1 → At row z
 at_row f a z row e h =
     let r : h.0 ≡ row = sym (get_or_from_slice_get f a h.0 [] h.2) ∙ get_or_from_slice_get f a row [] e in
     subst (λ (w : List (StopNo × ℕ)). At w z) r (h.1, h.3)
 
 -- a walking time is stated in a closure
-stated : (direct : DirectLists) (limit : ℕ) (h : FeetData) (a b s : ℕ) → AreClosed direct limit h → Foot direct.pairs limit a b s → IsFoot h.walks a b s
+stated : (direct : DirectLists) (limit : ℕ) (h : FeetData) (a b s : ℕ) → AreClosed direct limit h →
+    Foot direct.pairs limit a b s → IsFoot h.walks a b s
 stated direct limit h a b s closed foot =
     let found = closed.complete a b s foot.other foot.least.holds foot.within in
     let other = closed.least a b found.0 found.1 in
@@ -25,11 +28,14 @@ stated direct limit h a b s closed foot =
     let same : found.0 ≡ s = omega (arith, up, down) in
     subst (IsFoot h.walks a b) same found.1
 
-into : (direct : DirectLists) (limit : ℕ) (f : FootLists) (h : FeetData) (a : ℕ) (xs ys : List (StopNo × ℕ)) → ((a b s : ℕ) → IsFoot f a b s → Foot direct.pairs limit a b s) → AreClosed direct limit h
+into : (direct : DirectLists) (limit : ℕ) (f : FootLists) (h : FeetData) (a : ℕ) (xs ys : List (StopNo × ℕ)) →
+    ((a b s : ℕ) → IsFoot f a b s → Foot direct.pairs limit a b s) → AreClosed direct limit h
     → slice_get f a ≡ Some xs → slice_get h.walks a ≡ Some ys → (z : StopNo × ℕ) → At xs z → At ys z
-into direct limit f h a xs ys feet closed p q z c = at_row h.walks a z ys q (stated direct limit h a z.0.0 z.1 closed (feet a z.0.0 z.1 (xs, c.0, p, c.1)))
+into direct limit f h a xs ys feet closed p q z c =
+    at_row h.walks a z ys q (stated direct limit h a z.0.0 z.1 closed (feet a z.0.0 z.1 (xs, c.0, p, c.1)))
 
-same_walks : (direct : DirectLists) (limit : ℕ) (f h : FeetData) → AreClosed direct limit f → AreClosed direct limit h → f.walks ≡ h.walks
+same_walks : (direct : DirectLists) (limit : ℕ) (f h : FeetData) → AreClosed direct limit f → AreClosed direct limit h →
+    f.walks ≡ h.walks
 same_walks direct limit f h p q = same_lists f.walks h.walks (p.lists ∙ sym q.lists) (λ a d lt.
     let below : a < length h.walks = let m = p.lists in let n = q.lists in omega (arith, m, n, lt) in
     let x = slice_get-get_or f.walks a d lt in
@@ -44,7 +50,9 @@ closures_are_unique direct limit f h p q =
     λ i. record { walks = walks i; changes = changes i }
 
 -- some feet are no more than all
-pub some_of_all : (direct : DirectLists) (limit : ℕ) (f : FootLists) (h : FeetData) → AllAscend f → ((a b s : ℕ) → IsFoot f a b s → Foot direct.pairs limit a b s) → AreClosed direct limit h → sum_by length f ≤ sum_by length h.walks
+pub some_of_all : (direct : DirectLists) (limit : ℕ) (f : FootLists) (h : FeetData) → AllAscend f →
+    ((a b s : ℕ) → IsFoot f a b s → Foot direct.pairs limit a b s) → AreClosed direct limit h →
+    sum_by length f ≤ sum_by length h.walks
 some_of_all direct limit f h up feet q = no_more f h.walks (λ a row e. elim (slice_get_cases h.walks a).1 [
   | inl w ↦
       let same : get_or h.walks a [] ≡ w.0 = get_or_from_slice_get h.walks a w.0 [] w.2 in
@@ -52,7 +60,8 @@ some_of_all direct limit f h up feet q = no_more f h.walks (λ a row e. elim (sl
   | inr w ↦ none a row e w.0
 ])
   where
-    none : (a : ℕ) (row : List (StopNo × ℕ)) → slice_get f a ≡ Some row → length h.walks ≤ a → length row ≤ length (get_or h.walks a [])
+    none : (a : ℕ) (row : List (StopNo × ℕ)) → slice_get f a ≡ Some row → length h.walks ≤ a →
+        length row ≤ length (get_or h.walks a [])
     none a [] e past = omega arith
     none a (x ∷ xs) e past =
         let there = stated direct limit h a x.0.0 x.1 q (feet a x.0.0 x.1 (x ∷ xs, 0, e, refl)) in

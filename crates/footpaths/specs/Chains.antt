@@ -5,7 +5,8 @@ use Rattle.std.specs.Prelude.{◌≡◌, ◌≢◌, ℕ, ◌<◌, ◌≤◌, Lis
 use Rattle.timetable.specs.Least.{IsLeast}
 use Rattle.footpaths.specs.Direct.{Footpath}
 
--- the first of these footpaths begins at stop a, each next one where the one before it ended, and the last ends at stop b
+-- the first of these footpaths begins at stop a, each next one where the one before it ended, and the last ends at stop
+-- b
 abbrev pub Leads : List Footpath → ℕ → ℕ → Type 0
 Leads [] a b = a ≡ b
 Leads (first ∷ rest) a b = (first.0.0 ≡ a) × Leads rest first.1.0 b

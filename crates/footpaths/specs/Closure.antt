@@ -1,5 +1,6 @@
 -- Closed footpaths: for each stop the other stops that chains of direct footpaths reach within a limit, each with its
--- walking time; the change times stay. Two walks never follow one another in a journey, since one closed footpath stands for all of them.
+-- walking time; the change times stay. Two walks never follow one another in a journey, since one closed footpath
+-- stands for all of them.
 use Rattle.std.specs.Prelude.{◌≡◌, ◌≢◌, ℕ, ◌<◌, ◌≤◌, ◌+◌, List, length, slice_get, sum_by, Some}
 use Rattle.timetable.specs.declared.trips.StopNo.{StopNo}
 use Rattle.timetable.specs.declared.limits.TheConstants.{MOST_FOOTPATHS}
@@ -22,7 +23,8 @@ pub record AreClosed (direct : DirectLists) (limit : ℕ) (feet : FeetData) : Ty
   pub lists : length feet.walks ≡ direct.stops
   pub ascending : AllAscend feet.walks
   pub least : (a b seconds : ℕ) → IsFoot feet.walks a b seconds → Foot direct.pairs limit a b seconds
-  pub complete : (a b seconds : ℕ) → a ≢ b → HasChain direct.pairs a b seconds → seconds ≤ limit → (time : ℕ) × IsFoot feet.walks a b time
+  pub complete : (a b seconds : ℕ) → a ≢ b → HasChain direct.pairs a b seconds → seconds ≤ limit →
+      (time : ℕ) × IsFoot feet.walks a b time
   pub changes : feet.changes ≡ direct.changes
 
 -- ... and they are few enough
@@ -44,8 +46,10 @@ IsFootFault Memory direct limit = Unit {0}
 
 -- two closures of the same footpaths within the same limit are one
 abbrev pub ClosuresAreUnique : Type 0
-ClosuresAreUnique = (direct : DirectLists) (limit : ℕ) (f g : FeetData) → AreClosed direct limit f → AreClosed direct limit g → f ≡ g
+ClosuresAreUnique = (direct : DirectLists) (limit : ℕ) (f g : FeetData) → AreClosed direct limit f →
+    AreClosed direct limit g → f ≡ g
 
 -- footpaths that are too many have no closure that is few enough
 abbrev pub TooManyHaveNoClosure : Type 0
-TooManyHaveNoClosure = (direct : DirectLists) (limit : ℕ) (feet : FeetData) → HasTooMany direct.pairs limit → IsClosure direct limit feet → ⊥
+TooManyHaveNoClosure = (direct : DirectLists) (limit : ℕ) (feet : FeetData) → HasTooMany direct.pairs limit →
+    IsClosure direct limit feet → ⊥

@@ -1,5 +1,6 @@
 -- Direct footpaths, as rows of transfers.txt and of a file of footpaths give them: from one stop to another, one way.
--- A pair of stops may be given more than once, with other times. Each stop has a change time, nought where none is stated.
+-- A pair of stops may be given more than once, with other times. Each stop has a change time, nought where none is
+-- stated.
 -- (After the GTFS Schedule reference, transfers.txt.)
 use Rattle.std.specs.Prelude.{◌≡◌, ◌≢◌, ℕ, ◌<◌, ◌≤◌, List, length, All}
 use Rattle.timetable.specs.declared.trips.StopNo.{StopNo}

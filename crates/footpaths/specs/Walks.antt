@@ -1,7 +1,9 @@
--- The direct footpaths of a feed: those of the walks in transfers.txt, and then those of a file of footpaths, row by row.
+-- The direct footpaths of a feed: those of the walks in transfers.txt, and then those of a file of footpaths, row by
+-- row.
 -- Each end of a walk is a stop, or a station that stands for all its stops, or another place that stands for none.
 -- (After the GTFS Schedule reference, transfers.txt: from_stop_id and to_stop_id may name stations.)
-use Rattle.std.specs.Prelude.{◌++◌, ℕ, Bool, List, [], ◌∷◌, Option, codes, is_none, length, nat_lt, position, unwrap_or, if◌then◌else◌}
+use Rattle.std.specs.Prelude.{◌++◌, ℕ, Bool, List, [], ◌∷◌, Option, codes, is_none, length, nat_lt, position, unwrap_or}
+use Rattle.std.specs.Prelude.{if◌then◌else◌}
 use Rattle.std.specs.List.{flat_map}
 use Rattle.std.specs.Str.{bytes_eq}
 use Rattle.table_records.specs.Columns.{column, field}
@@ -38,7 +40,11 @@ pairs_of_links children links = flat_map (pairs_of children) links
 abbrev pub link_faults : List (List StopNo) → List Link → List Link → List FeedFault
 link_faults children before [] = []
 link_faults children before (link ∷ links) =
-    (if are_too_many (pairs_of_links children (before ++ link ∷ [])) then record { file = file.Transfers; at = link.at; what = what.TooMany } ∷ [] else [])
+    (if are_too_many (pairs_of_links children (before ++ link ∷ [])) then record {
+      file = file.Transfers;
+      at = link.at;
+      what = what.TooMany;
+    } ∷ [] else [])
     ++ link_faults children (before ++ link ∷ []) links
 
 -- the fields of a record of the file of footpaths that are read
@@ -58,7 +64,11 @@ columns_of header = record {
 }
 
 abbrev pub row_at : WalkColumns → List (List ℕ) → WalkRow
-row_at c fields = record { from = field fields c.from; to = field fields c.to; seconds = trimmed (field fields c.seconds) }
+row_at c fields = record {
+  from = field fields c.from;
+  to = field fields c.to;
+  seconds = trimmed (field fields c.seconds);
+}
 
 abbrev pub row_of : List (List ℕ) → List (List ℕ) → WalkRow
 row_of header = row_at (columns_of header)
@@ -81,13 +91,15 @@ pairs_of_walk children walk = pairs_between (stops_at walk.origin children) (sto
 
 -- the footpaths of the walks in transfers.txt, and behind them those of records
 abbrev pub pairs_with : FeedData → List WalkRow → List Footpath
-pairs_with feed rows = pairs_of_links feed.children feed.links ++ flat_map (λ r. pairs_of_walk feed.children (walk_of feed r)) rows
+pairs_with feed rows = pairs_of_links feed.children feed.links ++ flat_map
+    (λ r. pairs_of_walk feed.children (walk_of feed r)) rows
 
 -- ... between the stops of the feed, with their change times
 abbrev pub lists_with : FeedData → List WalkRow → DirectLists
 lists_with feed rows = record { stops = length feed.stops; pairs = pairs_with feed rows; changes = change_times feed }
 
--- what is wrong with a record by itself, in the order of the checks: ends without an identifier, or with that of no record
+-- what is wrong with a record by itself, in the order of the checks: ends without an identifier, or with that of no
+-- record
 -- of stops.txt, and seconds that are no number
 abbrev pub row_checks : List (List ℕ) → WalkRow → List What
 row_checks names r =

@@ -44,7 +44,10 @@ fn closed_lists(
     limit: u32,
 ) -> Result<Vec<Vec<(StopNo, u32)>>, FootFault>
     requires { limit ≤ MOST_FOOT_SECONDS }
-    ensures ok { IfOk result (λ lists. IsClosure direct.now limit (record { walks = rows_of lists.items; changes = direct.now.changes })) }
+    ensures ok { IfOk result (λ lists. IsClosure direct.now limit (record {
+      walks = rows_of lists.items;
+      changes = direct.now.changes;
+    })) }
     ensures fault { IfErr result (λ fault. IsFootFault fault direct.now limit) }
 {
     direct.known();

@@ -50,7 +50,11 @@ impl Direct {
         requires to { to.0 < self.old.stops }
         requires other { from.0 ≢ to.0 }
         requires few { length self.old.pairs < MOST_FOOTPATHS }
-        ensures ok { OnOk result (self.new ≡ record { stops = self.old.stops; pairs = self.old.pairs ++ (from, to, seconds) ∷ []; changes = self.old.changes }) }
+        ensures ok { OnOk result (self.new ≡ record {
+          stops = self.old.stops;
+          pairs = self.old.pairs ++ (from, to, seconds) ∷ [];
+          changes = self.old.changes;
+        }) }
         ensures err { OnErr result (self.new ≡ self.old) }
     {
         self.pairs.push((from, to, seconds))?;

@@ -41,8 +41,10 @@ fn add_pairs_from(
 ) -> Result<(), What>
     requires from { from.0 < direct.old.stops }
     requires to { All (λ stop. stop.0 < direct.old.stops) to.now }
-    ensures good { OnOk result (direct.new ≡ with_more direct.old (map (λ stop. (from, stop, seconds)) (filter (differ from) to.now))) }
-    ensures fault { IfErr result (IsRefusal direct.old (map (λ stop. (from, stop, seconds)) (filter (differ from) to.now))) }
+    ensures good { OnOk result (direct.new ≡ with_more direct.old
+        (map (λ stop. (from, stop, seconds)) (filter (differ from) to.now))) }
+    ensures fault { IfErr result (IsRefusal direct.old
+        (map (λ stop. (from, stop, seconds)) (filter (differ from) to.now))) }
 {
     for stop in to {
         if stop.0 != from.0 {

@@ -1,7 +1,8 @@
 //! Walking times from one stop, by Dijkstra's algorithm as far as a limit.
 //! One table of labels serves all sources in turn: only the labels of stops that were reached are taken back.
 ghost use Rattle.timetable.specs.declared.least.TheConstants.{NEVER};
-ghost use Rattle.std.specs.Prelude.{◌≡◌, ◌<◌, ◌≤◌, ◌+◌, ◌-◌, ◌⊎◌, ℕ, List, [], length, map, slice_index, All, IfOk, OnOk};
+ghost use Rattle.std.specs.Prelude.{◌≡◌, ◌<◌, ◌≤◌, ◌+◌, ◌-◌, ◌⊎◌, ℕ, List, [], length, map, slice_index, All, IfOk};
+ghost use Rattle.std.specs.Prelude.{OnOk};
 
 use crate::adjacency::Adjacency;
 use std::alloc::{AllocError, Global};
@@ -46,7 +47,8 @@ impl Settling {
         requires source { source.0 < length self.old.labels.items }
         requires limit { limit ≤ MOST_FOOT_SECONDS }
         requires fresh { AreFresh (length self.old.labels.items) (marks self.old) }
-        ensures { OnOk result (IsSettled (part footpaths.now) (length self.old.labels.items) source.0 limit (marks self.new)) }
+        ensures { OnOk result (IsSettled (part footpaths.now) (length self.old.labels.items) source.0 limit
+            (marks self.new)) }
     {
         self.labels[source.0 as usize] = 0;
         self.noted.push((limit, source.0))?;
@@ -134,7 +136,8 @@ impl Settling {
 fn forget(labels: &mut [u32], stops: &[u32])
     requires { All (λ stop. stop < length labels.old) stops.now }
     ensures forgotten { All (λ stop. slice_index labels.new stop ≡ NEVER) stops.now }
-    ensures others { (p : ℕ) → (slice_index labels.new p ≡ slice_index labels.old p) ⊎ (slice_index labels.new p ≡ NEVER) }
+    ensures others { (p : ℕ) → (slice_index labels.new p ≡ slice_index labels.old p)
+        ⊎ (slice_index labels.new p ≡ NEVER) }
 {
     for stop in stops {
         labels[*stop as usize] = NEVER;

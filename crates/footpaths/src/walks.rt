@@ -182,11 +182,15 @@ impl<'a> WalkReader<'a> {
 
     /// The walk that a record states.
     fn walk(&self, row: &ByteRecord) -> Result<Walk, What>
-        ensures good { IfOk result (λ walk. (row_checks self.now.feed.now.names (row_at self.now.columns (fields_of row.now)) ≡ [])
+        ensures good { IfOk result (λ walk. (row_checks self.now.feed.now.names
+            (row_at self.now.columns (fields_of row.now)) ≡ [])
             × (walk ≡ walk_of self.now.feed.now (row_at self.now.columns (fields_of row.now)))) }
-        ensures origin { IfOk result (λ walk. IsPlace (length self.now.feed.now.stops) (length self.now.feed.now.children) walk.origin) }
-        ensures target { IfOk result (λ walk. IsPlace (length self.now.feed.now.stops) (length self.now.feed.now.children) walk.target) }
-        ensures fault { IfErr result (λ w. IsFirst w (row_checks self.now.feed.now.names (row_at self.now.columns (fields_of row.now)))) }
+        ensures origin { IfOk result (λ walk. IsPlace (length self.now.feed.now.stops)
+            (length self.now.feed.now.children) walk.origin) }
+        ensures target { IfOk result (λ walk. IsPlace (length self.now.feed.now.stops)
+            (length self.now.feed.now.children) walk.target) }
+        ensures fault { IfErr result (λ w. IsFirst w
+            (row_checks self.now.feed.now.names (row_at self.now.columns (fields_of row.now)))) }
     {
         let from = field(row, self.columns.from);
         let to = field(row, self.columns.to);

@@ -1,7 +1,10 @@
 -- Marks of the stops that were named, with one more.
-use Rattle.std.proofs.Common.{◌≡◌, ◌≢◌, ◌<◌, ◌∙◌, ◌==◌, ◌||◌, ℕ, Bool, true, false, List, [], ◌∷◌, ◌++◌, Option, Some, None, get_or, length, map, position, replicate, set, slice_get, refl, sym, ap, subst, arith, inr}
+use Rattle.std.proofs.Common.{◌≡◌, ◌≢◌, ◌<◌, ◌∙◌, ◌==◌, ◌||◌, ℕ, Bool, true, false, List, [], ◌∷◌, ◌++◌, Option, Some}
+use Rattle.std.proofs.Common.{None, get_or, length, map, position, replicate, set, slice_get, refl, sym, ap, subst}
+use Rattle.std.proofs.Common.{arith, inr}
 use Rattle.std.proofs.lemmas.Bool.Decides.{nat_tests}
-use Rattle.std.proofs.lemmas.List.{get_or_default, get_or-replicate, get_or-set_other, get_or-set_same, length-replicate, length-set}
+use Rattle.std.proofs.lemmas.List.{get_or_default, get_or-replicate, get_or-set_other, get_or-set_same}
+use Rattle.std.proofs.lemmas.List.{length-replicate, length-set}
 use Rattle.std.proofs.lemmas.List.Elements.{All-head, All-nil, All-push, All-tail}
 use Rattle.std.proofs.lemmas.List.Folds.{list_any-append}
 use Rattle.std.proofs.lemmas.Slice.Eq.{bytes_eq-Decides}
@@ -23,13 +26,15 @@ equal : (m : ℕ) → (m == m) ≡ true
 equal m = grind (arith, nat_tests)
 
 -- two stops have one number where they have one identifier
-same_number : (stops : List (List ℕ)) (n : ℕ) (id b : List ℕ) → Some n ≡ position (bytes_eq id) stops → is_none (position (bytes_eq b) stops) ≡ false → (number_in stops b == n) ≡ bytes_eq id b
+same_number : (stops : List (List ℕ)) (n : ℕ) (id b : List ℕ) → Some n ≡ position (bytes_eq id) stops →
+    is_none (position (bytes_eq b) stops) ≡ false → (number_in stops b == n) ≡ bytes_eq id b
 same_number stops n id b here there = by (bytes_eq id b) refl
   where
     same : Some n ≡ position (bytes_eq id) stops → (number_in stops id == n) ≡ true
     same e = rw (← e) (equal n)
 
-    apart : (o : Option ℕ) → o ≡ position (bytes_eq b) stops → is_none o ≡ false → bytes_eq id b ≡ false → (unwrap_or o 0 == n) ≡ false
+    apart : (o : Option ℕ) → o ≡ position (bytes_eq b) stops → is_none o ≡ false → bytes_eq id b ≡ false →
+        (unwrap_or o 0 == n) ≡ false
     apart None e h not_same = cc h
     apart (Some m) e h not_same = other (m == n) refl
       where
@@ -44,30 +49,37 @@ same_number stops n id b here there = by (bytes_eq id b) refl
             absurd (cc (test, not_same))
 
     by : (t : Bool) → bytes_eq id b ≡ t → (number_in stops b == n) ≡ t
-    by true e = let is : id ≡ b = grind (arith, bytes_eq-Decides) in subst (λ (x : List ℕ). (number_in stops x == n) ≡ true) is (same here)
+    by true e = let is : id ≡ b = grind (arith, bytes_eq-Decides) in
+        subst (λ (x : List ℕ). (number_in stops x == n) ≡ true) is (same here)
     by false e = apart (position (bytes_eq b) stops) refl there e
 
 -- a stop's mark says whether it was named
-named_before : (stops : List (List ℕ)) (n : ℕ) (id : List ℕ) (ids : List (List ℕ)) → Some n ≡ position (bytes_eq id) stops → All (λ b. is_none (position (bytes_eq b) stops) ≡ false) ids
+named_before : (stops : List (List ℕ)) (n : ℕ) (id : List ℕ) (ids : List (List ℕ)) →
+    Some n ≡ position (bytes_eq id) stops → All (λ b. is_none (position (bytes_eq b) stops) ≡ false) ids
     → list_any (λ b. number_in stops b == n) ids ≡ list_any (bytes_eq id) ids
 named_before stops n id [] here all = refl
 named_before stops n id (b ∷ ids) here all =
-    let first = same_number stops n id b here (All-head (λ (x : List ℕ). is_none (position (bytes_eq x) stops) ≡ false) b ids all) in
-    let rest = named_before stops n id ids here (All-tail (λ (x : List ℕ). is_none (position (bytes_eq x) stops) ≡ false) b ids all) in
+    let first = same_number stops n id b here
+    (All-head (λ (x : List ℕ). is_none (position (bytes_eq x) stops) ≡ false) b ids all) in
+    let rest = named_before stops n id ids here
+    (All-tail (λ (x : List ℕ). is_none (position (bytes_eq x) stops) ≡ false) b ids all) in
     λ k. first k || rest k
 
 below : (stops : List (List ℕ)) (n : ℕ) (id : List ℕ) → Some n ≡ position (bytes_eq id) stops → n < length stops
 below stops n id here = found_below (bytes_eq id) stops n here
 
-module _ (stops : List (List ℕ)) (marks : List Bool) (ids : List (List ℕ)) (n : ℕ) (id : List ℕ) (are : AreMarked stops marks ids) (here : Some n ≡ position (bytes_eq id) stops) where
+module _ (stops : List (List ℕ)) (marks : List Bool) (ids : List (List ℕ)) (n : ℕ) (id : List ℕ)
+    (are : AreMarked stops marks ids) (here : Some n ≡ position (bytes_eq id) stops) where
   pub mark_is : (d : Bool) → get_or marks n d ≡ list_any (bytes_eq id) ids
-  mark_is d = get_or_default marks n d false (omega (arith, below stops n id here, are.size)) ∙ are.each n (below stops n id here) ∙ named_before stops n id ids here are.known
+  mark_is d = get_or_default marks n d false (omega (arith, below stops n id here, are.size))
+      ∙ are.each n (below stops n id here) ∙ named_before stops n id ids here are.known
 
   -- one more stop
   pub marked_more : AreMarked stops (set marks n true) (ids ++ id ∷ [])
   marked_more = record {
     size = length-set marks n true ∙ are.size;
-    known = All-push (λ (x : List ℕ). is_none (position (bytes_eq x) stops) ≡ false) ids id are.known (rw (← here) refl);
+    known = All-push (λ (x : List ℕ). is_none (position (bytes_eq x) stops)
+        ≡ false) ids id are.known (rw (← here) refl);
     each = λ m lt. by m lt (n == m) refl;
   }
     where
@@ -82,18 +94,32 @@ module _ (stops : List (List ℕ)) (marks : List Bool) (ids : List (List ℕ)) (
       or_false true = refl
       or_false false = refl
 
-      by : (m : ℕ) → m < length stops → (t : Bool) → (n == m) ≡ t → get_or (set marks n true) m false ≡ list_any (λ b. number_in stops b == m) (ids ++ id ∷ [])
+      by : (m : ℕ) → m < length stops → (t : Bool) → (n == m) ≡ t →
+          get_or (set marks n true) m false ≡ list_any (λ b. number_in stops b == m) (ids ++ id ∷ [])
       by m lt true e =
           let one : m ≡ n = grind (arith, nat_tests) in
           let within : n < length marks = omega (arith, lt, are.size) in
-          rw (one, list_any-append (λ (b : List ℕ). number_in stops b == n) ids (id ∷ []), number, equal n, get_or-set_same marks n true false within) (sym (or_true (list_any (λ (b : List ℕ). number_in stops b == n) ids)))
+          rw (
+            one,
+            list_any-append (λ (b : List ℕ). number_in stops b == n) ids (id ∷ []),
+            number,
+            equal n,
+            get_or-set_same marks n true false within,
+          )
+          (sym (or_true (list_any (λ (b : List ℕ). number_in stops b == n) ids)))
       by m lt false e =
           let apart : m ≢ n = grind (arith, nat_tests) in
-          rw (list_any-append (λ (b : List ℕ). number_in stops b == m) ids (id ∷ []), number, e, get_or-set_other marks n m true false apart)
+          rw (
+            list_any-append (λ (b : List ℕ). number_in stops b == m) ids (id ∷ []),
+            number,
+            e,
+            get_or-set_other marks n m true false apart,
+          )
           (are.each m lt ∙ sym (or_false (list_any (λ (b : List ℕ). number_in stops b == m) ids)))
 
 -- no stop was named yet
-pub none_marked : (stops : List (List ℕ)) (n : ℕ) (marks : List Bool) → n ≡ length stops → marks ≡ replicate n false → AreMarked stops marks []
+pub none_marked : (stops : List (List ℕ)) (n : ℕ) (marks : List Bool) → n ≡ length stops → marks ≡ replicate n false →
+    AreMarked stops marks []
 none_marked stops n marks count are = rw are (record {
   size = length-replicate n false ∙ count;
   known = All-nil (λ (x : List ℕ). is_none (position (bytes_eq x) stops) ≡ false);
@@ -101,28 +127,34 @@ none_marked stops n marks count are = rw are (record {
 })
 
 -- what is told of a record's stop
-pub unknown : (stops before : List (List ℕ)) (id : List ℕ) → is_empty id ≡ false → None ≡ position (bytes_eq id) stops → IsFirst what.UnknownStop (stop_checks stops before id)
+pub unknown : (stops before : List (List ℕ)) (id : List ℕ) → is_empty id ≡ false → None ≡ position (bytes_eq id) stops →
+    IsFirst what.UnknownStop (stop_checks stops before id)
 unknown stops before id some absent = rw (some, ← absent) refl
 
-pub repeated : (stops before : List (List ℕ)) (id : List ℕ) (n : ℕ) → is_empty id ≡ false → Some n ≡ position (bytes_eq id) stops → list_any (bytes_eq id) before ≡ true
+pub repeated : (stops before : List (List ℕ)) (id : List ℕ) (n : ℕ) → is_empty id ≡ false →
+    Some n ≡ position (bytes_eq id) stops → list_any (bytes_eq id) before ≡ true
     → IsFirst what.DuplicateId (stop_checks stops before id)
 repeated stops before id n some here again = rw (some, ← here, again) refl
 
-pub fresh : (stops before : List (List ℕ)) (id : List ℕ) (n : ℕ) → is_empty id ≡ false → Some n ≡ position (bytes_eq id) stops → list_any (bytes_eq id) before ≡ false
+pub fresh : (stops before : List (List ℕ)) (id : List ℕ) (n : ℕ) → is_empty id ≡ false →
+    Some n ≡ position (bytes_eq id) stops → list_any (bytes_eq id) before ≡ false
     → (stop_checks stops before id ≡ []) × (n ≡ number_in stops id)
 fresh stops before id n some here new = (rw (some, ← here, new) refl, rw (← here) refl)
 
 -- the first of a record's faults, with its file and number
-pub first_told : (file : FileName) (at : ℕ) (n : ℕ) (w : What) (ws : List What) → at ≡ n → IsFirst w ws → Tells (record { file = file; at = at; what = w }) (map (λ x. record { file = file; at = n; what = x }) ws)
+pub first_told : (file : FileName) (at : ℕ) (n : ℕ) (w : What) (ws : List What) → at ≡ n → IsFirst w ws →
+    Tells (record { file = file; at = at; what = w }) (map (λ x. record { file = file; at = n; what = x }) ws)
 first_told file at n w [] is first = cc first
-first_told file at n w (x ∷ ws) is first = let same : x ≡ w = cc first in inr (λ k. Some (record { file = file; at = sym is k; what = same k }))
+first_told file at n w (x ∷ ws) is first = let same : x ≡ w = cc first in
+    inr (λ k. Some (record { file = file; at = sym is k; what = same k }))
 
 pub first_more : (w : What) (xs ys : List What) → IsFirst w xs → IsFirst w (xs ++ ys)
 first_more w [] ys h = cc h
 first_more w (x ∷ xs) ys h = h
 
 -- a stop without fault is found, and was not named before
-pub found_stop : (stops before : List (List ℕ)) (id : List ℕ) (n : ℕ) → stop_checks stops before id ≡ [] → n ≡ number_in stops id
+pub found_stop : (stops before : List (List ℕ)) (id : List ℕ) (n : ℕ) → stop_checks stops before id ≡ [] →
+    n ≡ number_in stops id
     → (slice_get stops n ≡ Some id) × (list_any (bytes_eq id) before ≡ false)
 found_stop stops before id n none number =
     let empty : List What = when (is_empty id) what.EmptyId in
@@ -130,9 +162,11 @@ found_stop stops before id n none number =
     let again : List What = when (list_any (bytes_eq id) before) what.DuplicateId in
     let (a, new) = none_both (empty ++ unknown_stop) again none in
     let (_, there) = none_both empty unknown_stop a in
-    let known : is_none (position (bytes_eq id) stops) ≡ false = passes (is_none (position (bytes_eq id) stops)) what.UnknownStop there in
+    let known : is_none (position (bytes_eq id) stops) ≡ false =
+    passes (is_none (position (bytes_eq id) stops)) what.UnknownStop there in
     (by (position (bytes_eq id) stops) refl known number, passes (list_any (bytes_eq id) before) what.DuplicateId new)
   where
-    by : (o : Option ℕ) → o ≡ position (bytes_eq id) stops → is_none o ≡ false → n ≡ unwrap_or o 0 → slice_get stops n ≡ Some id
+    by : (o : Option ℕ) → o ≡ position (bytes_eq id) stops → is_none o ≡ false → n ≡ unwrap_or o 0 →
+        slice_get stops n ≡ Some id
     by None e h is = cc h
     by (Some m) e h is = ap (slice_get stops) is ∙ at_position stops m id e

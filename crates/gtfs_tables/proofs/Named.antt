@@ -1,5 +1,6 @@
 -- Services that are named one after another: each stands once, keeps its number, and is found.
-use Rattle.std.proofs.Common.{◌≡◌, ◌<◌, ◌≤◌, ◌+◌, ◌∙◌, ◌&&◌, ℕ, Bool, true, false, List, [], ◌∷◌, ◌++◌, Option, Some, None, length, map, position, refl, sym, ap, arith, append_assoc, if◌then◌else◌}
+use Rattle.std.proofs.Common.{◌≡◌, ◌<◌, ◌≤◌, ◌+◌, ◌∙◌, ◌&&◌, ℕ, Bool, true, false, List, [], ◌∷◌, ◌++◌, Option, Some}
+use Rattle.std.proofs.Common.{None, length, map, position, refl, sym, ap, arith, append_assoc, if◌then◌else◌}
 use Rattle.std.proofs.lemmas.List.{append-nil, length-append}
 use Rattle.std.proofs.lemmas.List.Elements.{All-cons, All-head, All-nil, All-tail, All-weaker}
 use Rattle.std.proofs.lemmas.List.Folds.{list_any-append}
@@ -14,7 +15,8 @@ use Rattle.table_files.proofs.NewIds.{distinct_push}
 -- no two services share an identifier
 pub named_distinct : (known ids : List (List ℕ)) → IsDistinct bytes_eq known → IsDistinct bytes_eq (named known ids)
 named_distinct known [] apart = apart
-named_distinct known (id ∷ ids) apart = named_distinct (if list_any (bytes_eq id) known then known else known ++ id ∷ []) ids (by (list_any (bytes_eq id) known) refl)
+named_distinct known (id ∷ ids) apart = named_distinct
+    (if list_any (bytes_eq id) known then known else known ++ id ∷ []) ids (by (list_any (bytes_eq id) known) refl)
   where
     by : (b : Bool) → list_any (bytes_eq id) known ≡ b → IsDistinct bytes_eq (if b then known else known ++ id ∷ [])
     by true e = apart
@@ -23,7 +25,11 @@ named_distinct known (id ∷ ids) apart = named_distinct (if list_any (bytes_eq 
 -- at most one is named by each row
 pub length-named : (known ids : List (List ℕ)) → length (named known ids) ≤ length known + length ids
 length-named known [] = omega arith
-length-named known (id ∷ ids) = omega (arith, length-named (if list_any (bytes_eq id) known then known else known ++ id ∷ []) ids, by (list_any (bytes_eq id) known))
+length-named known (id ∷ ids) = omega (
+  arith,
+  length-named (if list_any (bytes_eq id) known then known else known ++ id ∷ []) ids,
+  by (list_any (bytes_eq id) known),
+)
   where
     by : (b : Bool) → length (if b then known else known ++ id ∷ []) ≤ length known + 1
     by true = omega arith
@@ -34,7 +40,8 @@ pub named_grows : (known ids : List (List ℕ)) → (more : List (List ℕ)) × 
 named_grows known [] = ([], sym (append-nil known))
 named_grows known (id ∷ ids) = by (list_any (bytes_eq id) known) (λ k. named_grows k ids)
   where
-    by : (b : Bool) → ((k : List (List ℕ)) → (more : List (List ℕ)) × (named k ids ≡ k ++ more)) → (more : List (List ℕ)) × (named (if b then known else known ++ id ∷ []) ids ≡ known ++ more)
+    by : (b : Bool) → ((k : List (List ℕ)) → (more : List (List ℕ)) × (named k ids ≡ k ++ more)) →
+        (more : List (List ℕ)) × (named (if b then known else known ++ id ∷ []) ids ≡ known ++ more)
     by true grows = grows known
     by false grows = let (more, is) = grows (known ++ id ∷ []) in (id ∷ more, is ∙ append_assoc known (id ∷ []) more)
 
@@ -48,7 +55,8 @@ known_append id ids more h = rw (list_any-append (bytes_eq id) ids more, h) refl
 pub known_stays : (id : List ℕ) (known ids : List (List ℕ)) → IsKnown known id → IsKnown (named known ids) id
 known_stays id known ids h = let (more, is) = named_grows known ids in rw is (known_append id known more h)
 
-known_now : (id : List ℕ) (known : List (List ℕ)) → IsKnown (if list_any (bytes_eq id) known then known else known ++ id ∷ []) id
+known_now : (id : List ℕ) (known : List (List ℕ)) →
+    IsKnown (if list_any (bytes_eq id) known then known else known ++ id ∷ []) id
 known_now id known = by (list_any (bytes_eq id) known) refl
   where
     by : (b : Bool) → list_any (bytes_eq id) known ≡ b → IsKnown (if b then known else known ++ id ∷ []) id
@@ -68,7 +76,8 @@ all_pass : {R : Type 0} (test : R → Bool) (xs : List R) → list_all test xs �
 all_pass test [] h = All-nil (λ x. test x ≡ true)
 all_pass test (x ∷ xs) h = by (test x) refl h (λ e. all_pass test xs e)
   where
-    by : (b : Bool) → test x ≡ b → (b && list_all test xs) ≡ true → (list_all test xs ≡ true → All (λ y. test y ≡ true) xs) → All (λ y. test y ≡ true) (x ∷ xs)
+    by : (b : Bool) → test x ≡ b → (b && list_all test xs) ≡ true →
+        (list_all test xs ≡ true → All (λ y. test y ≡ true) xs) → All (λ y. test y ≡ true) (x ∷ xs)
     by true e rest more = All-cons (λ y. test y ≡ true) x xs e (more rest)
     by false e rest more = cc rest
 
@@ -82,16 +91,21 @@ module _ {R : Type 0} (key : R → List ℕ) where
   all_named known [] = All-nil (λ (r : R). IsKnown (named known []) (key r))
   all_named known (r ∷ rows) =
       let next : List (List ℕ) = if list_any (bytes_eq (key r)) known then known else known ++ key r ∷ [] in
-      All-cons (λ (x : R). IsKnown (named next (map key rows)) (key x)) r rows (known_stays (key r) next (map key rows) (known_now (key r) known)) (all_named next rows)
+      All-cons (λ (x : R). IsKnown (named next (map key rows)) (key x)) r rows
+      (known_stays (key r) next (map key rows) (known_now (key r) known)) (all_named next rows)
 
   pub all_own : (before rows : List R) → AreKnown (map key (before ++ rows)) rows
-  all_own before rows = all_pass (λ (r : R). list_any (bytes_eq (key r)) (map key (before ++ rows))) rows (all_listed key before rows)
+  all_own before rows = all_pass (λ (r : R). list_any (bytes_eq (key r)) (map key (before ++ rows))) rows
+      (all_listed key before rows)
 
   pub all_stay : (known ids : List (List ℕ)) (rows : List R) → AreKnown known rows → AreKnown (named known ids) rows
-  all_stay known ids rows are = All-weaker (λ (r : R). IsKnown known (key r)) (λ (r : R). IsKnown (named known ids) (key r)) (λ r h. known_stays (key r) known ids h) rows are
+  all_stay known ids rows are = All-weaker (λ (r : R). IsKnown known (key r))
+      (λ (r : R). IsKnown (named known ids) (key r)) (λ r h. known_stays (key r) known ids h) rows are
 
-  pub all_below : (ids : List (List ℕ)) (rows : List R) → AreKnown ids rows → All (λ r. number_in ids (key r) < length ids) rows
-  all_below ids rows are = All-weaker (λ (r : R). IsKnown ids (key r)) (λ (r : R). number_in ids (key r) < length ids) (λ r h. known_below ids (key r) h) rows are
+  pub all_below : (ids : List (List ℕ)) (rows : List R) → AreKnown ids rows →
+      All (λ r. number_in ids (key r) < length ids) rows
+  all_below ids rows are = All-weaker (λ (r : R). IsKnown ids (key r)) (λ (r : R). number_in ids (key r)
+      < length ids) (λ r h. known_below ids (key r) h) rows are
 
   -- rows keep their values when more services are named
   pub values_stay : {D : Type 0} (make : ℕ → R → D) (known ids : List (List ℕ)) (rows : List R) → AreKnown known rows
@@ -100,6 +114,7 @@ module _ {R : Type 0} (key : R → List ℕ) where
   values_stay make known ids (r ∷ rows) are =
       let (more, is) = named_grows known ids in
       let same : number_in (named known ids) (key r) ≡ number_in known (key r) =
-      ap (λ (l : List (List ℕ)). number_in l (key r)) is ∙ number_old known more (key r) (All-head (λ (x : R). IsKnown known (key x)) r rows are) in
+      ap (λ (l : List (List ℕ)). number_in l (key r)) is
+      ∙ number_old known more (key r) (All-head (λ (x : R). IsKnown known (key x)) r rows are) in
       let others = values_stay make known ids rows (All-tail (λ (x : R). IsKnown known (key x)) r rows are) in
       λ k. make (same k) r ∷ others k

@@ -1,5 +1,6 @@
 -- What the rows of a file have where the file has no fault.
-use Rattle.std.proofs.Common.{◌≡◌, ◌<◌, ◌≤◌, ℕ, Bool, true, false, List, [], ◌∷◌, ◌++◌, Option, Some, None, length, map, position, refl, sym, subst, arith, append_assoc, if◌then◌else◌}
+use Rattle.std.proofs.Common.{◌≡◌, ◌<◌, ◌≤◌, ℕ, Bool, true, false, List, [], ◌∷◌, ◌++◌, Option, Some, None, length, map}
+use Rattle.std.proofs.Common.{position, refl, sym, subst, arith, append_assoc, if◌then◌else◌}
 use Rattle.std.proofs.lemmas.Bool.Decides.{nat_tests}
 use Rattle.std.proofs.lemmas.List.{append-nil, length-append, map-append}
 use Rattle.std.proofs.lemmas.List.Elements.{All-nil, All-push}
@@ -34,19 +35,24 @@ none_mapped f [] e = refl
 none_mapped f (x ∷ xs) e = cc e
 
 -- what each record keeps, all records have
-module _ {R : Type 0} (name : FileName) (checks : List R → R → List What) (P : List R → Type 0) (step : (before : List R) (r : R) → P before → checks before r ≡ [] → P (before ++ r ∷ [])) where
+module _ {R : Type 0} (name : FileName) (checks : List R → R → List What) (P : List R →
+    Type 0) (step : (before : List R) (r : R) → P before → checks before r ≡ [] → P (before ++ r ∷ [])) where
   kept : (before rows : List R) → P before → faults_after name checks before rows ≡ [] → P (before ++ rows)
   kept before [] p none = subst P (sym (append-nil before)) p
   kept before (r ∷ rows) p none =
-      let (here, rest) = none_both (faults_at name checks before r) (faults_after name checks (before ++ r ∷ []) rows) none in
-      subst P (append_assoc before (r ∷ []) rows) (kept (before ++ r ∷ []) rows (step before r p (none_mapped _ (checks before r) here)) rest)
+      let (here, rest) = none_both (faults_at name checks before r) (faults_after name checks (before ++ r ∷ []) rows)
+      none in
+      subst P (append_assoc before (r ∷ []) rows)
+      (kept (before ++ r ∷ []) rows (step before r p (none_mapped _ (checks before r) here)) rest)
 
-  pub kept_rows : (required : List (List ℕ)) (row : List (List ℕ) → List (List ℕ) → R) (records : List (List (List ℕ))) → P []
+  pub kept_rows : (required : List (List ℕ)) (row : List (List ℕ) → List (List ℕ) →
+      R) (records : List (List (List ℕ))) → P []
       → table_faults name required row checks records ≡ [] → P (table_rows row records)
   kept_rows required row [] start none = start
   kept_rows required row (header ∷ rest) start none = by (lacks required header) none
     where
-      by : (b : Bool) → (if b then missing_column name ∷ [] else faults_after name checks [] (map (row header) rest)) ≡ [] → P (map (row header) rest)
+      by : (b : Bool) → (if b then missing_column name ∷ [] else faults_after name checks [] (map (row header) rest))
+          ≡ [] → P (map (row header) rest)
       by true e = cc e
       by false e = kept [] (map (row header) rest) start e
 
@@ -60,36 +66,49 @@ nothing_distinct = tt
 
 -- no two routes share an identifier
 pub distinct_routes : (bytes : List ℕ) → routes.route_faults bytes ≡ [] → IsDistinct bytes_eq (routes.route_ids bytes)
-distinct_routes bytes = kept_rows file.Routes routes.checks (λ rows. IsDistinct bytes_eq (routes.routes_of rows)) step routes.required routes.row_of (records_of bytes) nothing_distinct
+distinct_routes bytes = kept_rows file.Routes routes.checks (λ rows. IsDistinct bytes_eq (routes.routes_of rows)) step
+    routes.required routes.row_of (records_of bytes) nothing_distinct
   where
-    step : (before : List routes.RouteRow) (r : routes.RouteRow) → IsDistinct bytes_eq (routes.routes_of before) → routes.checks before r ≡ []
+    step : (before : List routes.RouteRow) (r : routes.RouteRow) → IsDistinct bytes_eq (routes.routes_of before) →
+        routes.checks before r ≡ []
         → IsDistinct bytes_eq (routes.routes_of (before ++ r ∷ []))
     step before r apart none =
         let repeated : List What = when (list_any (bytes_eq r.id) (routes.routes_of before)) what.DuplicateId in
         let (_, new) = none_both (when (is_empty r.id) what.EmptyId) repeated none in
-        let fresh : list_any (bytes_eq r.id) (routes.routes_of before) ≡ false = passes (list_any (bytes_eq r.id) (routes.routes_of before)) what.DuplicateId new in
-        rw (map-append (λ (x : routes.RouteRow). x.id) before (r ∷ [])) (distinct_push (routes.routes_of before) r.id apart fresh)
+        let fresh : list_any (bytes_eq r.id) (routes.routes_of before) ≡ false =
+        passes (list_any (bytes_eq r.id) (routes.routes_of before)) what.DuplicateId new in
+        rw (map-append (λ (x : routes.RouteRow). x.id) before (r ∷ []))
+        (distinct_push (routes.routes_of before) r.id apart fresh)
 
 -- no two rows of the calendar are about one service
-pub distinct_calendar : (bytes : List ℕ) → calendar.calendar_faults bytes ≡ [] → IsDistinct bytes_eq (calendar.services_of (calendar.service_rows bytes))
-distinct_calendar bytes = kept_rows file.Calendar calendar.checks (λ rows. IsDistinct bytes_eq (calendar.services_of rows)) step calendar.required calendar.row_of (records_of bytes) nothing_distinct
+pub distinct_calendar : (bytes : List ℕ) → calendar.calendar_faults bytes ≡ [] →
+    IsDistinct bytes_eq (calendar.services_of (calendar.service_rows bytes))
+distinct_calendar bytes = kept_rows file.Calendar calendar.checks
+    (λ rows. IsDistinct bytes_eq (calendar.services_of rows)) step calendar.required calendar.row_of
+    (records_of bytes) nothing_distinct
   where
-    step : (before : List calendar.ServiceRow) (r : calendar.ServiceRow) → IsDistinct bytes_eq (calendar.services_of before) → calendar.checks before r ≡ []
+    step : (before : List calendar.ServiceRow) (r : calendar.ServiceRow) →
+        IsDistinct bytes_eq (calendar.services_of before) → calendar.checks before r ≡ []
         → IsDistinct bytes_eq (calendar.services_of (before ++ r ∷ []))
     step before r apart none =
         let unnamed : List What = when (is_empty r.service) what.EmptyId in
-        let repeated : List What = when (list_any (bytes_eq r.service) (calendar.services_of before)) what.DuplicateId in
+        let repeated : List What = when (list_any (bytes_eq r.service) (calendar.services_of before)) what.DuplicateId
+        in
         let days : List What = when (is_none (calendar.days_of r.days)) what.BadNumber in
         let first : List What = when (is_none (date_of r.first)) what.BadDate in
-        let (a, _) = none_both (unnamed ++ repeated ++ days ++ first) (when (is_none (date_of r.last)) what.BadDate) none in
+        let (a, _) = none_both (unnamed ++ repeated ++ days ++ first) (when (is_none (date_of r.last)) what.BadDate)
+        none in
         let (b, _) = none_both (unnamed ++ repeated ++ days) first a in
         let (d, _) = none_both (unnamed ++ repeated) days b in
         let (_, new) = none_both unnamed repeated d in
-        let fresh : list_any (bytes_eq r.service) (calendar.services_of before) ≡ false = passes (list_any (bytes_eq r.service) (calendar.services_of before)) what.DuplicateId new in
-        rw (map-append (λ (x : calendar.ServiceRow). x.service) before (r ∷ [])) (distinct_push (calendar.services_of before) r.service apart fresh)
+        let fresh : list_any (bytes_eq r.service) (calendar.services_of before) ≡ false =
+        passes (list_any (bytes_eq r.service) (calendar.services_of before)) what.DuplicateId new in
+        rw (map-append (λ (x : calendar.ServiceRow). x.service) before (r ∷ []))
+        (distinct_push (calendar.services_of before) r.service apart fresh)
 
 -- a number that was found is below the count
-pub number_below : (ids : List (List ℕ)) (id : List ℕ) → is_none (position (bytes_eq id) ids) ≡ false → number_in ids id < length ids
+pub number_below : (ids : List (List ℕ)) (id : List ℕ) → is_none (position (bytes_eq id) ids) ≡ false →
+    number_in ids id < length ids
 number_below ids id there = by (position (bytes_eq id) ids) refl there
   where
     by : (o : Option ℕ) → o ≡ position (bytes_eq id) ids → is_none o ≡ false → unwrap_or o 0 < length ids
@@ -102,12 +121,18 @@ pub record AreListed (ids : List (List ℕ)) (rows : List trips.TripRow) : Type 
   pub distinct : IsDistinct bytes_eq (trips.trip_ids rows)
   pub of_routes : All (λ r. number_in ids r.route < length ids) rows
 
-pub trips_listed : (ids : List (List ℕ)) (bytes : List ℕ) → trips.trip_faults ids bytes ≡ [] → AreListed ids (trips.trip_rows bytes)
+pub trips_listed : (ids : List (List ℕ)) (bytes : List ℕ) → trips.trip_faults ids bytes ≡ [] →
+    AreListed ids (trips.trip_rows bytes)
 trips_listed ids bytes =
     kept_rows file.Trips (trips.checks ids) (AreListed ids) step trips.required trips.row_of (records_of bytes)
-    (record { few = omega arith; distinct = nothing_distinct; of_routes = All-nil (λ (r : trips.TripRow). number_in ids r.route < length ids) })
+    (record {
+      few = omega arith;
+      distinct = nothing_distinct;
+      of_routes = All-nil (λ (r : trips.TripRow). number_in ids r.route < length ids);
+    })
   where
-    step : (before : List trips.TripRow) (r : trips.TripRow) → AreListed ids before → trips.checks ids before r ≡ [] → AreListed ids (before ++ r ∷ [])
+    step : (before : List trips.TripRow) (r : trips.TripRow) → AreListed ids before → trips.checks ids before r ≡ [] →
+        AreListed ids (before ++ r ∷ [])
     step before r are none =
         let full : List What = when (nat_le 1000000 (length before)) what.TooMany in
         let no_route : List What = when (is_empty r.route) what.EmptyId in
@@ -121,19 +146,25 @@ trips_listed ids bytes =
         let (e, known) = none_both (full ++ no_route) unknown d in
         let (many, _) = none_both full no_route e in
         let room : nat_le 1000000 (length before) ≡ false = passes (nat_le 1000000 (length before)) what.TooMany many in
-        let fresh : list_any (bytes_eq r.id) (trips.trip_ids before) ≡ false = passes (list_any (bytes_eq r.id) (trips.trip_ids before)) what.DuplicateId new in
-        let there : is_none (position (bytes_eq r.route) ids) ≡ false = passes (is_none (position (bytes_eq r.route) ids)) what.UnknownRoute known in
+        let fresh : list_any (bytes_eq r.id) (trips.trip_ids before) ≡ false =
+        passes (list_any (bytes_eq r.id) (trips.trip_ids before)) what.DuplicateId new in
+        let there : is_none (position (bytes_eq r.route) ids) ≡ false =
+        passes (is_none (position (bytes_eq r.route) ids)) what.UnknownRoute known in
         record {
-          few = let some : length before < 1000000 = grind (arith, nat_tests) in omega (arith, some, length-append before (r ∷ []));
-          distinct = rw (map-append (λ (x : trips.TripRow). x.id) before (r ∷ [])) (distinct_push (trips.trip_ids before) r.id are.distinct fresh);
-          of_routes = All-push (λ (x : trips.TripRow). number_in ids x.route < length ids) before r are.of_routes (number_below ids r.route there);
+          few = let some : length before < 1000000 = grind (arith, nat_tests) in
+              omega (arith, some, length-append before (r ∷ []));
+          distinct = rw (map-append (λ (x : trips.TripRow). x.id) before (r ∷ []))
+              (distinct_push (trips.trip_ids before) r.id are.distinct fresh);
+          of_routes = All-push (λ (x : trips.TripRow). number_in ids x.route
+              < length ids) before r are.of_routes (number_below ids r.route there);
         }
 
 -- the times of a row are within 168 hours, and its headway is at least a second
 pub rows_departing : (ids : List (List ℕ)) (bytes : List ℕ) → frequencies.frequency_faults ids bytes ≡ []
     → All (λ r. IsDeparting (frequencies.departures_at r)) (frequencies.frequency_rows bytes)
 rows_departing ids bytes =
-    kept_rows file.Frequencies (frequencies.checks ids) (All (λ r. IsDeparting (frequencies.departures_at r))) step frequencies.required frequencies.row_of (records_of bytes)
+    kept_rows file.Frequencies (frequencies.checks ids) (All (λ r. IsDeparting (frequencies.departures_at r))) step
+    frequencies.required frequencies.row_of (records_of bytes)
     (All-nil (λ (r : frequencies.FrequencyRow). IsDeparting (frequencies.departures_at r)))
   where
     time : (text : List ℕ) → is_none (time_of text) ≡ false → unwrap_or (time_of text) 0 ≤ 604799
@@ -143,18 +174,22 @@ rows_departing ids bytes =
         by None e h = cc h
         by (Some n) e h = time_small text n e
 
-    headway : (text : List ℕ) → is_none (frequencies.headway_of text) ≡ false → 1 ≤ unwrap_or (frequencies.headway_of text) 0
+    headway : (text : List ℕ) → is_none (frequencies.headway_of text) ≡ false →
+        1 ≤ unwrap_or (frequencies.headway_of text) 0
     headway text there = by (number_of text) there
       where
-        big : (n : ℕ) (b : Bool) → nat_le 1 n ≡ b → is_none (if b then Some n else None) ≡ false → 1 ≤ unwrap_or (if b then Some n else None) 0
+        big : (n : ℕ) (b : Bool) → nat_le 1 n ≡ b → is_none (if b then Some n else None) ≡ false →
+            1 ≤ unwrap_or (if b then Some n else None) 0
         big n true e h = grind (arith, nat_tests)
         big n false e h = cc h
 
-        by : (o : Option ℕ) → is_none (option_and_then (λ n. if nat_le 1 n then Some n else None) o) ≡ false → 1 ≤ unwrap_or (option_and_then (λ n. if nat_le 1 n then Some n else None) o) 0
+        by : (o : Option ℕ) → is_none (option_and_then (λ n. if nat_le 1 n then Some n else None) o) ≡ false →
+            1 ≤ unwrap_or (option_and_then (λ n. if nat_le 1 n then Some n else None) o) 0
         by None h = cc h
         by (Some n) h = big n (nat_le 1 n) refl h
 
-    step : (before : List frequencies.FrequencyRow) (r : frequencies.FrequencyRow) → All (λ x. IsDeparting (frequencies.departures_at x)) before → frequencies.checks ids before r ≡ []
+    step : (before : List frequencies.FrequencyRow) (r : frequencies.FrequencyRow) →
+        All (λ x. IsDeparting (frequencies.departures_at x)) before → frequencies.checks ids before r ≡ []
         → All (λ x. IsDeparting (frequencies.departures_at x)) (before ++ r ∷ [])
     step before r are none =
         let unnamed : List What = when (is_empty r.trip) what.EmptyId in

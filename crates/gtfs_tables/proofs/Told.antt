@@ -19,26 +19,32 @@ first_of_five e a b c d f t = tells_more e (a ++ b ++ c ++ d) f (first_of_four e
 pub second_of_five : (e : FeedFault) (a b c d f : List FeedFault) → a ≡ [] → Tells e b → Tells e (a ++ b ++ c ++ d ++ f)
 second_of_five e a b c d f no_a t = rw no_a (first_of_four e b c d f t)
 
-pub third_of_five : (e : FeedFault) (a b c d f : List FeedFault) → a ≡ [] → b ≡ [] → Tells e c → Tells e (a ++ b ++ c ++ d ++ f)
+pub third_of_five : (e : FeedFault) (a b c d f : List FeedFault) → a ≡ [] → b ≡ [] → Tells e c →
+    Tells e (a ++ b ++ c ++ d ++ f)
 third_of_five e a b c d f no_a no_b t = rw (no_a, no_b) (first_of_three e c d f t)
 
-pub fourth_of_five : (e : FeedFault) (a b c d f : List FeedFault) → a ≡ [] → b ≡ [] → c ≡ [] → Tells e d → Tells e (a ++ b ++ c ++ d ++ f)
+pub fourth_of_five : (e : FeedFault) (a b c d f : List FeedFault) → a ≡ [] → b ≡ [] → c ≡ [] → Tells e d →
+    Tells e (a ++ b ++ c ++ d ++ f)
 fourth_of_five e a b c d f no_a no_b no_c t = rw (no_a, no_b, no_c) (tells_more e d f t)
 
-pub fifth_of_five : (e : FeedFault) (a b c d f : List FeedFault) → a ≡ [] → b ≡ [] → c ≡ [] → d ≡ [] → Tells e f → Tells e (a ++ b ++ c ++ d ++ f)
+pub fifth_of_five : (e : FeedFault) (a b c d f : List FeedFault) → a ≡ [] → b ≡ [] → c ≡ [] → d ≡ [] → Tells e f →
+    Tells e (a ++ b ++ c ++ d ++ f)
 fifth_of_five e a b c d f no_a no_b no_c no_d t = rw (no_a, no_b, no_c, no_d) t
 
 pub second_of_four : (e : FeedFault) (a b c d : List FeedFault) → a ≡ [] → Tells e b → Tells e (a ++ b ++ c ++ d)
 second_of_four e a b c d no_a t = rw no_a (first_of_three e b c d t)
 
-pub third_of_four : (e : FeedFault) (a b c d : List FeedFault) → a ≡ [] → b ≡ [] → Tells e c → Tells e (a ++ b ++ c ++ d)
+pub third_of_four : (e : FeedFault) (a b c d : List FeedFault) → a ≡ [] → b ≡ [] → Tells e c →
+    Tells e (a ++ b ++ c ++ d)
 third_of_four e a b c d no_a no_b t = rw (no_a, no_b) (tells_more e c d t)
 
-pub fourth_of_four : (e : FeedFault) (a b c d : List FeedFault) → a ≡ [] → b ≡ [] → c ≡ [] → Tells e d → Tells e (a ++ b ++ c ++ d)
+pub fourth_of_four : (e : FeedFault) (a b c d : List FeedFault) → a ≡ [] → b ≡ [] → c ≡ [] → Tells e d →
+    Tells e (a ++ b ++ c ++ d)
 fourth_of_four e a b c d no_a no_b no_c t = rw (no_a, no_b, no_c) t
 
 -- where none has a fault, all have none
-pub none_of_five : (a b c d f : List FeedFault) → a ≡ [] → b ≡ [] → c ≡ [] → d ≡ [] → f ≡ [] → a ++ b ++ c ++ d ++ f ≡ []
+pub none_of_five : (a b c d f : List FeedFault) → a ≡ [] → b ≡ [] → c ≡ [] → d ≡ [] → f ≡ [] →
+    a ++ b ++ c ++ d ++ f ≡ []
 none_of_five a b c d f no_a no_b no_c no_d no_f = rw (no_a, no_b, no_c, no_d, no_f) refl
 
 -- where all have no fault, each has none

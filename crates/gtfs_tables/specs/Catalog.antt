@@ -4,7 +4,8 @@ use Rattle.timetable.specs.declared.limits.TheConstants.{MOST_TRIPS}
 use Rattle.table_records.specs.declared.limits.TheConstants.{MOST_BYTES}
 use Rattle.table_files.specs.Locations.{AreLocations}
 use Rattle.gtfs_tables.specs.Feed.{calendar_data, exception_data}
-use Rattle.gtfs_tables.specs.Files.{FeedFiles, calendar_in, exceptions_in, locations_in, numbers_in, routes_in, services_in, trip_ids_in}
+use Rattle.gtfs_tables.specs.Files.{FeedFiles, calendar_in, exceptions_in, locations_in, numbers_in, routes_in}
+use Rattle.gtfs_tables.specs.Files.{services_in, trip_ids_in}
 use Rattle.gtfs_tables.specs.declared.catalog.Catalog.{Catalog}
 
 -- the catalog that the files state; what it names is few enough, and its locations are those of one file

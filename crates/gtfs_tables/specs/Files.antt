@@ -1,7 +1,9 @@
 -- What the files of a feed state, and their faults in order: by file, then by record, then by check.
--- (GTFS Schedule reference, "Dataset Files": stops.txt, routes.txt, trips.txt and stop_times.txt are required; calendar.txt is
+-- (GTFS Schedule reference, "Dataset Files": stops.txt, routes.txt, trips.txt and stop_times.txt are required;
+-- calendar.txt is
 -- required unless calendar_dates.txt is there.)
-use Rattle.std.specs.Prelude.{◌≤◌, ℕ, List, [], ◌∷◌, ◌++◌, length, map, Option, Some, None, is_none, option_map, if◌then◌else◌}
+use Rattle.std.specs.Prelude.{◌≤◌, ℕ, List, [], ◌∷◌, ◌++◌, length, map, Option, Some, None, is_none, option_map}
+use Rattle.std.specs.Prelude.{if◌then◌else◌}
 use Rattle.std.specs.Option.{ForSome}
 use Rattle.std.proofs.Common.{Bor}
 use Rattle.table_records.specs.declared.fault.FeedFault.{FeedFault}
@@ -109,7 +111,8 @@ calendar_services_in files = calendar.services_of (rows_in calendar.service_rows
 
 -- and then those that calendar_dates.txt names first
 abbrev pub dated_services_in : FeedFiles → List (List ℕ)
-dated_services_in files = dates.services_after (calendar_services_in files) (rows_in dates.date_rows files.calendar_dates)
+dated_services_in files = dates.services_after (calendar_services_in files)
+    (rows_in dates.date_rows files.calendar_dates)
 
 -- and then those that trips.txt names first: all services, each at its number
 abbrev pub services_in : FeedFiles → List (List ℕ)
@@ -157,7 +160,8 @@ faults_of_routes files = required file.Routes route_faults files.routes
 -- calendar.txt may be absent where calendar_dates.txt is there
 abbrev pub faults_of_calendar : FeedFiles → List FeedFault
 faults_of_calendar files =
-    if is_none files.calendar_dates then required file.Calendar calendar.calendar_faults files.calendar else optional calendar.calendar_faults files.calendar
+    if is_none files.calendar_dates then required file.Calendar calendar.calendar_faults files.calendar else optional
+    calendar.calendar_faults files.calendar
 
 abbrev pub faults_of_calendar_dates : FeedFiles → List FeedFault
 faults_of_calendar_dates files = optional dates.exception_faults files.calendar_dates
@@ -177,16 +181,24 @@ faults_of_transfers files = optional (transfers.transfer_faults (names_in files)
 -- the faults of the files that name stops, routes, services and trips
 abbrev pub catalog_faults : FeedFiles → List FeedFault
 catalog_faults files =
-    faults_of_stops files ++ faults_of_routes files ++ faults_of_calendar files ++ faults_of_calendar_dates files ++ faults_of_trips files
+    faults_of_stops files ++ faults_of_routes files ++ faults_of_calendar files ++ faults_of_calendar_dates
+    files ++ faults_of_trips files
 
 -- all faults of a feed, in the order of its files
 abbrev pub feed_faults : FeedFiles → List FeedFault
-feed_faults files = catalog_faults files ++ faults_of_stop_times files ++ faults_of_frequencies files ++ faults_of_transfers files
+feed_faults files = catalog_faults files ++ faults_of_stop_times files ++ faults_of_frequencies
+    files ++ faults_of_transfers files
 
 -- the trips by their identifiers, numbers, events and departures
 abbrev pub trips_of : List (List ℕ) → List TripNumbers → List (List Event) → List (List Departures) → List FeedTrip
 trips_of (id ∷ ids) (n ∷ numbers) (e ∷ events) (d ∷ departures) =
-    record { route = n.route; service = n.service; id = id; events = e; departures = d } ∷ trips_of ids numbers events departures
+    record {
+      route = n.route;
+      service = n.service;
+      id = id;
+      events = e;
+      departures = d;
+    } ∷ trips_of ids numbers events departures
 trips_of _ _ _ _ = []
 
 -- what the files state

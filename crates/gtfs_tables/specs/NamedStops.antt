@@ -1,5 +1,7 @@
--- A file of an analysis whose records name stops, each once: the origins, the opportunities. Where records are counted, each states a number.
-use Rattle.std.specs.Prelude.{◌≡◌, ◌<◌, ◌==◌, ℕ, Bool, true, false, List, [], ◌++◌, codes, find, length, map, All, is_none, option_map, position, slice_index_or, unwrap_or}
+-- A file of an analysis whose records name stops, each once: the origins, the opportunities. Where records are counted,
+-- each states a number.
+use Rattle.std.specs.Prelude.{◌≡◌, ◌<◌, ◌==◌, ℕ, Bool, true, false, List, [], ◌++◌, codes, find, length, map, All}
+use Rattle.std.specs.Prelude.{is_none, option_map, position, slice_index_or, unwrap_or}
 use Rattle.std.specs.List.{list_any}
 use Rattle.std.specs.Str.{bytes_eq}
 use Rattle.table_records.specs.Columns.{column, field}
@@ -36,7 +38,8 @@ named_rows bytes = table_rows row_of (records_of bytes)
 abbrev pub stops_named : List NamedRow → List (List ℕ)
 stops_named rows = map (λ r. r.stop) rows
 
--- what is wrong with a record's stop, in the order of the checks: no identifier, no stop's, or one that was named before
+-- what is wrong with a record's stop, in the order of the checks: no identifier, no stop's, or one that was named
+-- before
 abbrev pub stop_checks : List (List ℕ) → List (List ℕ) → List ℕ → List What
 stop_checks stops before id =
     when (is_empty id) what.EmptyId
@@ -46,7 +49,8 @@ stop_checks stops before id =
 -- what is wrong with a record, by the identifiers of the feed's stops
 abbrev pub checks : Bool → List (List ℕ) → List NamedRow → NamedRow → List What
 checks false stops before r = stop_checks stops (stops_named before) r.stop
-checks true stops before r = stop_checks stops (stops_named before) r.stop ++ when (is_none (number_of r.count)) what.BadNumber
+checks true stops before r = stop_checks stops (stops_named before) r.stop ++ when (is_none (number_of r.count))
+    what.BadNumber
 
 -- the faults of records
 abbrev pub faults_of : FileName → Bool → List (List ℕ) → List NamedRow → List FeedFault
@@ -54,7 +58,8 @@ faults_of file is_counted stops rows = faults_after file (checks is_counted stop
 
 -- the faults of the bytes of the file
 abbrev pub faults_in : FileName → List (List ℕ) → Bool → List ℕ → List (List ℕ) → List FeedFault
-faults_in file required is_counted bytes stops = table_faults file required row_of (checks is_counted stops) (records_of bytes)
+faults_in file required is_counted bytes stops =
+    table_faults file required row_of (checks is_counted stops) (records_of bytes)
 
 -- the stop of a record
 abbrev pub named_stop : List (List ℕ) → NamedRow → StopNo

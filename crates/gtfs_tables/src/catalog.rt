@@ -32,7 +32,8 @@ pub struct Catalog {
 /// among them, in this order.
 pub fn read_catalog(alloc: Global, files: &FeedBytes<'_>) -> Result<Catalog, FeedFault>
     requires { spec.AreWithinLimit (spec.files_of files.now) }
-    ensures good { IfOk result (λ c. (spec.catalog_faults (spec.files_of files.now) ≡ []) × IsCatalog c (spec.files_of files.now)) }
+    ensures good { IfOk result (λ c. (spec.catalog_faults (spec.files_of files.now) ≡ [])
+        × IsCatalog c (spec.files_of files.now)) }
     ensures fault { IfErr result (λ e. Tells e (spec.catalog_faults (spec.files_of files.now))) }
 {
     let locations = locations_of(alloc, files)?;
@@ -74,7 +75,8 @@ fn locations_of(alloc: Global, files: &FeedBytes<'_>) -> Result<Box<Locations>, 
 // The identifiers of the routes.
 fn routes_of(alloc: Global, files: &FeedBytes<'_>) -> Result<Identifiers, FeedFault>
     requires { spec.IsWithinLimit (spec.bytes_of files.now.routes) }
-    ensures good { IfOk result (λ ids. (spec.faults_of_routes (spec.files_of files.now) ≡ []) × (ids ≡ spec.routes_in (spec.files_of files.now))) }
+    ensures good { IfOk result (λ ids. (spec.faults_of_routes (spec.files_of files.now) ≡ [])
+        × (ids ≡ spec.routes_in (spec.files_of files.now))) }
     ensures few { IfOk result (λ ids. length ids ≤ MOST_BYTES) }
     ensures fault { IfErr result (λ e. Tells e (spec.faults_of_routes (spec.files_of files.now))) }
 {

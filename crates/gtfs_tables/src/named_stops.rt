@@ -56,10 +56,12 @@ impl<'a> RecordTaker for NamedReader<'a> {
 
     type Fault = FeedFault;
 
-    ghost Makes = { λ s _ records now. (faults_of s.name s.is_counted s.feed.now.stops (map (row_at s.columns) records) ≡ [])
+    ghost Makes = { λ s _ records now. (faults_of s.name s.is_counted s.feed.now.stops (map (row_at s.columns) records)
+        ≡ [])
         × AreNamed s.feed.now.stops now (map (row_at s.columns) records) };
 
-    ghost Refuses = { λ s _ records e. Tells e (faults_of s.name s.is_counted s.feed.now.stops (map (row_at s.columns) records)) };
+    ghost Refuses = { λ s _ records e. Tells e
+        (faults_of s.name s.is_counted s.feed.now.stops (map (row_at s.columns) records)) };
 
     ghost HasRoom = { λ s table _. (length table.named.marks.items ≡ length s.feed.now.stops)
         × (length table.counts.items ≡ length s.feed.now.stops) };
@@ -99,7 +101,8 @@ impl NamedStops {
             × AreMarked feed.now.stops self.new.marks.items (before ++ id.now ∷ [])) }
         ensures stop { IfOk result (λ s. s.0 < length feed.now.stops) }
         ensures size { length self.new.marks.items ≡ length self.old.marks.items }
-        ensures fault { IfErr result (λ w. (before : List (List ℕ)) → AreMarked feed.now.stops self.old.marks.items before
+        ensures fault { IfErr result (λ w. (before : List (List ℕ)) →
+            AreMarked feed.now.stops self.old.marks.items before
             → IsFirst w (stop_checks feed.now.stops before id.now)) }
     {
         if id.is_empty() {
@@ -127,9 +130,11 @@ pub fn read_named(
     is_counted: bool,
 ) -> Result<NamedList, FeedFault>
     requires { length bytes.now ≤ MOST_BYTES }
-    ensures good { IfOk result (λ t. (spec.faults_in name (map (λ text. text.now) required.now) is_counted bytes.now feed.now.stops ≡ [])
+    ensures good { IfOk result (λ t. (spec.faults_in name (map (λ text. text.now) required.now) is_counted bytes.now
+        feed.now.stops ≡ [])
         × AreNamed feed.now.stops t (spec.named_rows bytes.now)) }
-    ensures fault { IfErr result (λ e. Tells e (spec.faults_in name (map (λ text. text.now) required.now) is_counted bytes.now feed.now.stops)) }
+    ensures fault { IfErr result (λ e. Tells e
+        (spec.faults_in name (map (λ text. text.now) required.now) is_counted bytes.now feed.now.stops)) }
 {
     let mut list = none_named(alloc, feed)?;
     let mut file = open_table(alloc, bytes, name, required)?;

@@ -31,7 +31,8 @@ use trip_events::{StopTimes, read_stop_times};
 /// Each file has at most 2^30 bytes, which [`FeedBytes::fits`] tests.
 pub fn read_feed(alloc: Global, files: &FeedBytes<'_>) -> Result<Feed, FeedFault>
     requires { spec.AreWithinLimit (spec.files_of files.now) }
-    ensures good { IfOk result (λ feed. (spec.feed_faults (spec.files_of files.now) ≡ []) × (feed ≡ spec.feed_of (spec.files_of files.now))) }
+    ensures good { IfOk result (λ feed. (spec.feed_faults (spec.files_of files.now) ≡ [])
+        × (feed ≡ spec.feed_of (spec.files_of files.now))) }
     ensures fault { IfErr result (λ e. Tells e (spec.feed_faults (spec.files_of files.now))) }
 {
     let catalog = catalog_of(alloc, files)?;
@@ -70,7 +71,8 @@ fn times_of(
     requires few_trips { length trips.now ≤ MOST_TRIPS }
     requires few_stops { length stops.now ≤ MOST_STOPS }
     ensures good { IfOk result (λ t. (spec.faults_of_stop_times (spec.files_of files.now) ≡ [])
-        × (t.trips.items ≡ spec.events_in (spec.files_of files.now)) × (t.aside ≡ spec.aside_in (spec.files_of files.now))) }
+        × (t.trips.items ≡ spec.events_in (spec.files_of files.now))
+        × (t.aside ≡ spec.aside_in (spec.files_of files.now))) }
     ensures fit { IfOk result (λ t. AreEvents (length stops.now) t.trips.items) }
     ensures few { IfOk result (λ t. t.aside ≤ length trips.now) }
     ensures fault { IfErr result (λ e. Tells e (spec.faults_of_stop_times (spec.files_of files.now))) }
@@ -108,8 +110,10 @@ fn transfers_of(
     requires size { spec.IsWithinLimit (spec.bytes_of files.now.transfers) }
     requires locations { locations.now ≡ spec.locations_in (spec.files_of files.now) }
     ensures good { IfOk result (λ t. (spec.faults_of_transfers (spec.files_of files.now) ≡ [])
-        × (t.links.items ≡ spec.links_in (spec.files_of files.now)) × (t.unused ≡ spec.unused_in (spec.files_of files.now))) }
-    ensures in_range { IfOk result (λ t. All (IsLink (length locations.now.stops) (length locations.now.stations)) t.links.items) }
+        × (t.links.items ≡ spec.links_in (spec.files_of files.now))
+        × (t.unused ≡ spec.unused_in (spec.files_of files.now))) }
+    ensures in_range { IfOk result (λ t. All (IsLink (length locations.now.stops) (length locations.now.stations))
+        t.links.items) }
     ensures fault { IfErr result (λ e. Tells e (spec.faults_of_transfers (spec.files_of files.now))) }
 {
     match files.transfers {
@@ -131,7 +135,8 @@ fn trips_of(
     requires numbers { length trips.now.numbers.items ≡ length trips.now.ids }
     requires events { length events.items ≡ length trips.now.ids }
     requires departures { length departures.items ≡ length trips.now.ids }
-    ensures { IfOk result (λ v. v.items ≡ spec.trips_of trips.now.ids trips.now.numbers.items events.items (map (λ rows. rows.items) departures.items)) }
+    ensures { IfOk result (λ v. v.items ≡ spec.trips_of trips.now.ids trips.now.numbers.items events.items
+        (map (λ rows. rows.items) departures.items)) }
 {
     let mut done = Vec::with_capacity(alloc, events.len())?;
     let mut departures = departures.into_iter();

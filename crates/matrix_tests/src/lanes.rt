@@ -16,7 +16,8 @@ const FAR: Narrow = [65_535; 32];
 
 /// The first two lanes at these seconds, the others not at all.
 fn two(first: u32, second: u32) -> Lanes
-    ensures { (l : ℕ) → l < 16 → (slice_index result l ≡ NEVER) ⊎ ((slice_index result l ≡ first) ⊎ (slice_index result l ≡ second)) }
+    ensures { (l : ℕ) → l < 16 → (slice_index result l ≡ NEVER)
+        ⊎ ((slice_index result l ≡ first) ⊎ (slice_index result l ≡ second)) }
 {
     let mut lanes = UNREACHED;
     lanes[0] = first;

@@ -1,5 +1,7 @@
 -- Texts that are put out in parts, the last of them perhaps cut off.
-use Rattle.std.proofs.Common.{◌≡◌, ◌<◌, ◌+◌, ℕ, zero, suc, List, [], ◌++◌, Option, Some, None, inl, inr, ◌⊎◌, take, drop, refl, sym, ap, ◌∙◌, subst, arith, append_assoc, take-append-drop, length, length-drop}
+use Rattle.std.proofs.Common.{◌≡◌, ◌<◌, ◌+◌, ℕ, zero, suc, List, [], ◌++◌, Option, Some, None, inl, inr, ◌⊎◌, take}
+use Rattle.std.proofs.Common.{drop, refl, sym, ap, ◌∙◌, subst, arith, append_assoc, take-append-drop, length}
+use Rattle.std.proofs.Common.{length-drop}
 use Rattle.std.proofs.KnownBytes.{Appends-nil, Appends-trans}
 use Rattle.std.proofs.lemmas.Bool.{cases_order}
 use Rattle.std.specs.Io.KnownBytes.{Appends, Keeps}
@@ -15,9 +17,16 @@ pub first_out : (a b : Option (List ℕ)) (text : List ℕ) (n : ℕ) → Append
 first_out a b text n h = record { out = take n text; left = drop n text; split = take-append-drop n text; appended = h }
 
 -- and where they aren't all, a part
-pub part_out : (a b : Option (List ℕ)) (text : List ℕ) (n : ℕ) → n < length text → Appends a b (take n text) → PutsPart a b text
+pub part_out : (a b : Option (List ℕ)) (text : List ℕ) (n : ℕ) → n < length text → Appends a b (take n text) →
+    PutsPart a b text
 part_out a b text n few h =
-    record { out = take n text; left = drop n text; split = take-append-drop n text; some_left = omega (arith, length-drop n text); appended = h }
+    record {
+      out = take n text;
+      left = drop n text;
+      split = take-append-drop n text;
+      some_left = omega (arith, length-drop n text);
+      appended = h;
+    }
 
 -- and still are where a write that failed kept them
 pub kept_out : (a b c : Option (List ℕ)) (text : List ℕ) → Appends a b text → Keeps b c → Appends a c text
@@ -36,7 +45,8 @@ cut_before a b first more p = record {
 }
 
 -- the first part, and a prefix of the second
-pub cut_after : (a b c : Option (List ℕ)) (first more : List ℕ) → Appends a b first → PutsPrefix b c more → PutsPrefix a c (first ++ more)
+pub cut_after : (a b c : Option (List ℕ)) (first more : List ℕ) → Appends a b first → PutsPrefix b c more →
+    PutsPrefix a c (first ++ more)
 cut_after a b c first more h p = record {
   out = first ++ p.out;
   left = p.left;
@@ -45,22 +55,27 @@ cut_after a b c first more h p = record {
 }
 
 -- a prefix of fewer texts
-fewer : (a b : Option (List ℕ)) (text : ℕ → List ℕ) (k n : ℕ) → k < n → PutsPrefix a b (texts_below text (suc k)) → PutsPrefix a b (texts_below text n)
+fewer : (a b : Option (List ℕ)) (text : ℕ → List ℕ) (k n : ℕ) → k < n → PutsPrefix a b (texts_below text (suc k)) →
+    PutsPrefix a b (texts_below text n)
 fewer a b text k zero low p = absurd (omega arith)
 fewer a b text k (suc n) low p = at (λ l. fewer a b text k n l p) (cases_order k n)
   where
-    at : (k < n → PutsPrefix a b (texts_below text n)) → (k ≡ n) ⊎ ((k < n) ⊎ (n < k)) → PutsPrefix a b (texts_below text (suc n))
+    at : (k < n → PutsPrefix a b (texts_below text n)) → (k ≡ n) ⊎ ((k < n) ⊎ (n < k)) →
+        PutsPrefix a b (texts_below text (suc n))
     at below (inl e) = subst (λ j. PutsPrefix a b (texts_below text (suc j))) e p
     at below (inr (inl l)) = cut_before a b (texts_below text n) (text n) (below l)
     at below (inr (inr l)) = absurd (omega arith)
 
 -- the texts below k, and a prefix of the next
-pub cut_below : (a b c : Option (List ℕ)) (text : ℕ → List ℕ) (k n : ℕ) → k < n → Appends a b (texts_below text k) → PutsPrefix b c (text k) → PutsPrefix a c (texts_below text n)
+pub cut_below : (a b c : Option (List ℕ)) (text : ℕ → List ℕ) (k n : ℕ) → k < n → Appends a b (texts_below text k) →
+    PutsPrefix b c (text k) → PutsPrefix a c (texts_below text n)
 cut_below a b c text k n low h p = fewer a c text k n low (cut_after a b c (texts_below text k) (text k) h p)
 
 -- the texts below k, and the next
-pub one_more : (a b c : Option (List ℕ)) (text : ℕ → List ℕ) (k : ℕ) → Appends a b (texts_below text k) → Appends b c (text k) → Appends a c (texts_below text (k + 1))
-one_more a b c text k h p = subst (λ n. Appends a c (texts_below text n)) (suc_is k) (Appends-trans a b c (texts_below text k) (text k) h p)
+pub one_more : (a b c : Option (List ℕ)) (text : ℕ → List ℕ) (k : ℕ) → Appends a b (texts_below text k) →
+    Appends b c (text k) → Appends a c (texts_below text (k + 1))
+one_more a b c text k h p = subst (λ n. Appends a c (texts_below text n)) (suc_is k)
+    (Appends-trans a b c (texts_below text k) (text k) h p)
   where
     suc_is : (n : ℕ) → suc n ≡ n + 1
     suc_is n = omega arith

@@ -1,6 +1,7 @@
 -- The text of a matrix: a header record, and then a record per scenario, origin and share, each ended by LF.
 -- (Comma-separated records as csv writes them: RFC 4180, with LF alone.)
-use Rattle.std.specs.Prelude.{◌≡◌, ℕ, zero, suc, ◌+◌, ◌*◌, ◌<◌, List, [], ◌∷◌, ◌++◌, length, map, codes, decimal, All, Option, Some, None, slice_get}
+use Rattle.std.specs.Prelude.{◌≡◌, ℕ, zero, suc, ◌+◌, ◌*◌, ◌<◌, List, [], ◌∷◌, ◌++◌, length, map, codes, decimal, All}
+use Rattle.std.specs.Prelude.{Option, Some, None, slice_get}
 use Rattle.std.specs.List.{flat_map, zip}
 use Rattle.std.specs.Option.{option_map_or}
 use Rattle.csv.specs.Writing.{row_text, default_writer}
@@ -9,7 +10,8 @@ use Rattle.collector.specs.Row.{CellsData, RowData}
 use Rattle.collector.specs.Places.{MatrixData}
 use Rattle.matrix_text.specs.declared.labels.Labels.{Labels}
 
--- the names of the scenarios, the stop of each origin, the shares of the minutes, the limits of reach in seconds, the destinations, and
+-- the names of the scenarios, the stop of each origin, the shares of the minutes, the limits of reach in seconds, the
+-- destinations, and
 -- the identifiers of all stops
 pub record LabelData : Type 0 where
   pub scenarios : List (List ℕ)
@@ -29,7 +31,8 @@ labels_of l = record {
   stops = l.feed.now.stops;
 }
 
--- one name per scenario, one of the stops per origin and per destination, and as many shares, limits and destinations as the matrix has
+-- one name per scenario, one of the stops per origin and per destination, and as many shares, limits and destinations
+-- as the matrix has
 -- shares, limits and columns
 pub record LabelsFit (l : LabelData) (m : MatrixData) : Type 0 where
   pub scenarios : length l.scenarios ≡ m.scenarios
@@ -55,7 +58,8 @@ text_at texts k = option_map_or (λ (text : List ℕ). text) (slice_get texts k)
 -- the fields of the header: behind the limits' the identifiers of the destinations, in their order
 abbrev pub header_fields : List ℕ → List StopNo → List (List ℕ) → List (List ℕ)
 header_fields limits destinations stops =
-    codes "scenario" ∷ codes "origin" ∷ codes "share" ∷ (map limit_field limits ++ map (λ (stop : StopNo). text_at stops stop.0) destinations)
+    codes "scenario" ∷ codes "origin" ∷ codes
+    "share" ∷ (map limit_field limits ++ map (λ (stop : StopNo). text_at stops stop.0) destinations)
 
 -- a cell's field: its digits, or nothing where it is absent
 abbrev pub cell_field : Option ℕ → List ℕ
@@ -64,7 +68,8 @@ cell_field (Some seconds) = decimal seconds
 
 -- the fields of a share's line: the scenario's name, the origin's stop, the share, its access sums and its cells
 abbrev pub share_fields : List ℕ → List ℕ → ℕ → CellsData → List (List ℕ)
-share_fields name stop share given = name ∷ stop ∷ decimal share ∷ (map decimal given.access ++ map cell_field given.cells)
+share_fields name stop share given = name ∷ stop ∷ decimal
+    share ∷ (map decimal given.access ++ map cell_field given.cells)
 
 -- the line of a share, and of what it gives
 abbrev pub share_line : List ℕ → List ℕ → ℕ × CellsData → List ℕ

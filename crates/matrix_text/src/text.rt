@@ -1,7 +1,9 @@
 //! The text of a matrix, line after line.
 ghost use Rattle.std.specs.Prelude.{◌≡◌, ◌<◌, ◌++◌, ◌∷◌, [], All, length, map, decimal, OnOk, OnErr};
 ghost use Rattle.std.specs.Io.KnownBytes.{Appends};
-ghost use Rattle.matrix_text.specs.Text.{labels_of, text_at, LabelsFit, limit_field, header_fields, share_fields, cell_field, line_text, row_lines, lines_at, scenario_text, rows_text, matrix_text};
+ghost use Rattle.matrix_text.specs.Text.{labels_of, text_at, LabelsFit, limit_field, header_fields, share_fields};
+ghost use Rattle.matrix_text.specs.Text.{cell_field, line_text, row_lines, lines_at, scenario_text, rows_text};
+ghost use Rattle.matrix_text.specs.Text.{matrix_text};
 ghost use Rattle.matrix_text.specs.Prefixes.{PutsPrefix};
 
 use crate::faults::TextFault;
@@ -57,9 +59,11 @@ fn write_header<W: Write>(
 ) -> Result<(), TextFault>
     requires { All (λ stop. stop.0 < length feed.now.stops) destinations.now }
     ensures ok { OnOk result
-        (Appends (W.contents w.old) (W.contents w.new) (line_text (header_fields limits.now destinations.now feed.now.stops))) }
+        (Appends (W.contents w.old) (W.contents w.new)
+        (line_text (header_fields limits.now destinations.now feed.now.stops))) }
     ensures err { OnErr result
-        (PutsPrefix (W.contents w.old) (W.contents w.new) (line_text (header_fields limits.now destinations.now feed.now.stops))) }
+        (PutsPrefix (W.contents w.old) (W.contents w.new)
+        (line_text (header_fields limits.now destinations.now feed.now.stops))) }
 {
     fill_header(line, limits, destinations, feed)?;
     line.put(w)
@@ -169,7 +173,8 @@ fn write_row<W: Write>(
     ensures ok { OnOk result
         (Appends (W.contents w.old) (W.contents w.new) (lines_at (labels_of labels.now) matrix.now scenario origin)) }
     ensures err { OnErr result
-        (PutsPrefix (W.contents w.old) (W.contents w.new) (lines_at (labels_of labels.now) matrix.now scenario origin)) }
+        (PutsPrefix (W.contents w.old) (W.contents w.new)
+        (lines_at (labels_of labels.now) matrix.now scenario origin)) }
 {
     let name = &labels.scenarios[scenario as usize];
     let stop = labels.feed.stop_id(labels.origins[origin as usize]);
@@ -209,7 +214,8 @@ fn write_share<W: Write>(
     ensures ok { OnOk result
         (Appends (W.contents w.old) (W.contents w.new) (line_text (share_fields name.now stop.now share given.now))) }
     ensures err { OnErr result
-        (PutsPrefix (W.contents w.old) (W.contents w.new) (line_text (share_fields name.now stop.now share given.now))) }
+        (PutsPrefix (W.contents w.old) (W.contents w.new)
+        (line_text (share_fields name.now stop.now share given.now))) }
 {
     fill_share(line, name, stop, share, given)?;
     line.put(w)

@@ -39,9 +39,12 @@ ExplainsFile file.Routes checks = Explains checks routes.row_of routes.checks
 ExplainsFile file.Calendar checks = Explains checks calendar.row_of calendar.checks
 ExplainsFile file.CalendarDates checks = Explains checks calendar_dates.row_of calendar_dates.checks
 ExplainsFile file.Trips checks = (names : List (List ℕ)) → Explains checks trips.row_of (trips.checks names)
-ExplainsFile file.StopTimes checks = (names stops : List (List ℕ)) → Explains checks stop_times.row_of (stop_times.checks names stops)
-ExplainsFile file.Frequencies checks = (names : List (List ℕ)) → Explains checks frequencies.row_of (frequencies.checks names)
+ExplainsFile file.StopTimes checks = (names stops : List (List ℕ)) →
+    Explains checks stop_times.row_of (stop_times.checks names stops)
+ExplainsFile file.Frequencies checks = (names : List (List ℕ)) →
+    Explains checks frequencies.row_of (frequencies.checks names)
 ExplainsFile file.Transfers checks = (names : List (List ℕ)) → Explains checks transfers.row_of (transfers.checks names)
 ExplainsFile file.Footpaths checks = (feed : FeedData) → Explains checks footpaths.row_of (footpaths.checks feed)
 ExplainsFile file.Origins checks = (stops : List (List ℕ)) → Explains checks origins.row_of (origins.checks stops)
-ExplainsFile file.Opportunities checks = (stops : List (List ℕ)) → Explains checks opportunities.row_of (opportunities.checks stops)
+ExplainsFile file.Opportunities checks = (stops : List (List ℕ)) →
+    Explains checks opportunities.row_of (opportunities.checks stops)

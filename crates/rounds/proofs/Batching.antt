@@ -40,7 +40,8 @@ module _ (lanes minutes : ℕ) (some : 0 < lanes) where
       omega (arith, within, few, e)
 
   -- so they hold each sixteen of minutes
-  pub sixteens_reach : 16 * (lanes / 16) ≡ lanes → 16 * ((minutes + 15) / 16) ≤ lanes * ((minutes + (lanes - 1)) / lanes)
+  pub sixteens_reach : 16 * (lanes / 16) ≡ lanes →
+      16 * ((minutes + 15) / 16) ≤ lanes * ((minutes + (lanes - 1)) / lanes)
   sixteens_reach whole =
       let e = sixteens lanes ((minutes + (lanes - 1)) / lanes) whole in
       let reach = batches_reach in
@@ -50,12 +51,14 @@ module _ (lanes minutes : ℕ) (some : 0 < lanes) where
 abbrev pub batch_at : ℕ → ℕ → ℕ → ℕ
 batch_at lanes minutes i = (minutes + (lanes - 1)) / lanes - 1 - i
 
-module _ (lanes own minutes i : ℕ) (same : own ≡ lanes) (some : 0 < lanes) (turn : i < (minutes + (own - 1)) / own) where
+module _ (lanes own minutes i : ℕ) (same : own ≡ lanes) (some : 0 < lanes) (turn : i
+    < (minutes + (own - 1)) / own) where
   pub turn_same : own * batch_at own minutes i ≡ lanes * batch_at own minutes i
   turn_same = ap (λ (x : ℕ). x * batch_at own minutes i) same
 
   pub turn_begins : lanes * batch_at own minutes i < minutes
-  turn_begins = let l = batch_begins own minutes (omega (arith, same)) (batch_at own minutes i) (omega arith) in omega (arith, l, turn_same)
+  turn_begins = let l = batch_begins own minutes (omega (arith, same)) (batch_at own minutes i) (omega arith) in
+      omega (arith, l, turn_same)
 
   pub turn_after : lanes * (batch_at own minutes i + 1) ≡ lanes * batch_at own minutes i + lanes
   turn_after = next_batch lanes (batch_at own minutes i)
@@ -64,5 +67,6 @@ module _ (lanes own minutes i : ℕ) (same : own ≡ lanes) (some : 0 < lanes) (
   pub turn_lives : 0 < i → lanes * batch_at own minutes i + lanes < minutes
   turn_lives more =
       let l = batch_begins own minutes (omega (arith, same)) (batch_at own minutes i + 1) (omega arith) in
-      let e : own * (batch_at own minutes i + 1) ≡ lanes * (batch_at own minutes i + 1) = ap (λ (x : ℕ). x * (batch_at own minutes i + 1)) same in
+      let e : own * (batch_at own minutes i + 1) ≡ lanes * (batch_at own minutes i + 1) =
+      ap (λ (x : ℕ). x * (batch_at own minutes i + 1)) same in
       omega (arith, l, e, turn_after)

@@ -1,5 +1,6 @@
 -- A network with its times cut is a network, and its lines are those of the network.
-use Rattle.std.proofs.Common.{◌≡◌, ℕ, zero, suc, ◌+◌, ◌*◌, ◌<◌, ◌≤◌, List, [], ◌∷◌, map, length, slice_get, Some, All, IsTrue, sum, sum_by, refl, sym, ◌∙◌, ap, subst, arith}
+use Rattle.std.proofs.Common.{◌≡◌, ℕ, zero, suc, ◌+◌, ◌*◌, ◌<◌, ◌≤◌, List, [], ◌∷◌, map, length, slice_get, Some, All}
+use Rattle.std.proofs.Common.{IsTrue, sum, sum_by, refl, sym, ◌∙◌, ap, subst, arith}
 use Rattle.std.proofs.lemmas.Option.{same_Some, slice_get_within, slice_get-map}
 use Rattle.std.proofs.lemmas.List.{length-map}
 use Rattle.std.proofs.lemmas.List.Elements.{All-map}
@@ -20,12 +21,14 @@ use Rattle.rounds.specs.Cut.{cut_event, cut_trip, cut_net}
 use Rattle.rounds.proofs.Lined.{none_overtakes}
 
 -- what stands in a mapped list comes from what stands there in the list
-pub map_got : {A B : Type 0} (f : A → B) (xs : List A) (k : ℕ) (y : B) → slice_get (map f xs) k ≡ Some y → (x : A) × (slice_get xs k ≡ Some x) × (f x ≡ y)
+pub map_got : {A B : Type 0} (f : A → B) (xs : List A) (k : ℕ) (y : B) → slice_get (map f xs) k ≡ Some y →
+    (x : A) × (slice_get xs k ≡ Some x) × (f x ≡ y)
 map_got f [] k y h = absurd (let w = slice_get_within [] k y h in omega (arith, w))
 map_got f (x ∷ xs) zero y h = (x, refl, same_Some (f x) y h)
 map_got f (x ∷ xs) (suc k) y h = map_got f xs k y h
 
-pub map_put : {A B : Type 0} (f : A → B) (xs : List A) (k : ℕ) (x : A) → slice_get xs k ≡ Some x → slice_get (map f xs) k ≡ Some (f x)
+pub map_put : {A B : Type 0} (f : A → B) (xs : List A) (k : ℕ) (x : A) → slice_get xs k ≡ Some x →
+    slice_get (map f xs) k ≡ Some (f x)
 map_put f xs k x h = slice_get-map f xs k ∙ ap (option_map f) h
 
 -- cutting keeps the order of times
@@ -37,52 +40,72 @@ module _ (base cap : ℕ) where
   pub cut_events_rise : (events : List Event) → EventsRise events → EventsRise (map (cut_event base cap) events)
   cut_events_rise events ok =
       record {
-        stays = All-map (λ (e : Event). e.arrive ≤ e.depart) (cut_event base cap) events (λ k d l. cut_rises base cap _ _ (ok.stays k d l));
+        stays = All-map (λ (e : Event). e.arrive
+            ≤ e.depart) (cut_event base cap) events (λ k d l. cut_rises base cap _ _ (ok.stays k d l));
         moves = λ k e f he hf.
             let a = map_got (cut_event base cap) events k e he in
             let b = map_got (cut_event base cap) events (k + 1) f hf in
             rw (← a.2, ← b.2) (cut_rises base cap _ _ (ok.moves k a.0 b.0 a.1 b.1));
       }
 
-  pub cut_follows : (before after : List Event) → Follows before after → Follows (map (cut_event base cap) before) (map (cut_event base cap) after)
+  pub cut_follows : (before after : List Event) → Follows before after →
+      Follows (map (cut_event base cap) before) (map (cut_event base cap) after)
   cut_follows before after ok =
       record {
-        same_length = length-map before (cut_event base cap) ∙ (ok.same_length ∙ sym (length-map after (cut_event base cap)));
+        same_length = length-map before (cut_event base cap)
+            ∙ (ok.same_length ∙ sym (length-map after (cut_event base cap)));
         events = λ k e f he hf.
             let a = map_got (cut_event base cap) before k e he in
             let b = map_got (cut_event base cap) after k f hf in
             let o = ok.events k a.0 b.0 a.1 b.1 in
-            rw (← a.2, ← b.2) (record { stop = o.stop; board = o.board; alight = o.alight; arrive = cut_rises base cap _ _ o.arrive; depart = cut_rises base cap _ _ o.depart });
+            rw (← a.2, ← b.2) (record {
+              stop = o.stop;
+              board = o.board;
+              alight = o.alight;
+              arrive = cut_rises base cap _ _ o.arrive;
+              depart = cut_rises base cap _ _ o.depart;
+            });
       }
 
   -- the trips
   pub cut_trips_long : (trips : List Trip) → length (map (cut_trip base cap) trips) ≡ length trips
   cut_trips_long trips = length-map trips (cut_trip base cap)
 
-  cut_lengths : (trips : List Trip) → map (λ (t : Trip). length t.events) (map (cut_trip base cap) trips) ≡ map (λ (t : Trip). length t.events) trips
+  cut_lengths : (trips : List Trip) → map (λ (t : Trip). length t.events) (map (cut_trip base cap) trips)
+      ≡ map (λ (t : Trip). length t.events) trips
   cut_lengths [] = refl
   cut_lengths (t ∷ trips) =
       let here = length-map t.events (cut_event base cap) in
       let rest = cut_lengths trips in
       cc (here, rest)
 
-  cut_sum : (trips : List Trip) → sum_by (λ (t : Trip). length t.events) (map (cut_trip base cap) trips) ≡ sum_by (λ (t : Trip). length t.events) trips
+  cut_sum : (trips : List Trip) → sum_by (λ (t : Trip). length t.events) (map (cut_trip base cap) trips)
+      ≡ sum_by (λ (t : Trip). length t.events) trips
   cut_sum trips =
-      sym (sum-map (λ (t : Trip). length t.events) (map (cut_trip base cap) trips)) ∙ (ap sum (cut_lengths trips) ∙ sum-map (λ (t : Trip). length t.events) trips)
+      sym (sum-map (λ (t : Trip). length t.events) (map (cut_trip base cap) trips))
+      ∙ (ap sum (cut_lengths trips) ∙ sum-map (λ (t : Trip). length t.events) trips)
 
   -- an event of a cut trip is one of the trip, cut
-  pub cut_event_got : (trips : List Trip) (trip k : ℕ) (e : Event) → IsEvent (map (cut_trip base cap) trips) trip k e → (f : Event) × IsEvent trips trip k f × (cut_event base cap f ≡ e)
+  pub cut_event_got : (trips : List Trip) (trip k : ℕ) (e : Event) → IsEvent (map (cut_trip base cap) trips) trip k e →
+      (f : Event) × IsEvent trips trip k f × (cut_event base cap f ≡ e)
   cut_event_got trips trip k e h =
       let t = map_got (cut_trip base cap) trips trip h.0 h.1 in
-      let at : slice_get (map (cut_event base cap) t.0.events) k ≡ Some e = ap (λ (u : Trip). slice_get u.events k) t.2 ∙ h.2 in
+      let at : slice_get (map (cut_event base cap) t.0.events) k ≡ Some e =
+      ap (λ (u : Trip). slice_get u.events k) t.2 ∙ h.2 in
       let f = map_got (cut_event base cap) t.0.events k e at in
       (f.0, (t.0, t.1, f.1), f.2)
 
-  pub cut_event_put : (trips : List Trip) (trip k : ℕ) (f : Event) → IsEvent trips trip k f → IsEvent (map (cut_trip base cap) trips) trip k (cut_event base cap f)
-  cut_event_put trips trip k f h =
-      (cut_trip base cap h.0, map_put (cut_trip base cap) trips trip h.0 h.1, map_put (cut_event base cap) h.0.events k f h.2)
+  pub cut_event_put : (trips : List Trip) (trip k : ℕ) (f : Event) → IsEvent trips trip k f →
+      IsEvent (map (cut_trip base cap) trips) trip k (cut_event base cap f)
+  cut_event_put trips trip k f h = (
+    cut_trip base cap h.0,
+    map_put (cut_trip base cap) trips trip h.0 h.1,
+    map_put (cut_event base cap) h.0.events k f h.2,
+  )
 
-  pub cut_stops : (stops : ℕ) (trips : List Trip) → All (λ (t : Trip). All (λ (e : Event). e.stop.0 < stops) t.events) trips → All (λ (t : Trip). All (λ (e : Event). e.stop.0 < stops) t.events) (map (cut_trip base cap) trips)
+  pub cut_stops : (stops : ℕ) (trips : List Trip) →
+      All (λ (t : Trip). All (λ (e : Event). e.stop.0 < stops) t.events) trips →
+      All (λ (t : Trip). All (λ (e : Event). e.stop.0 < stops) t.events) (map (cut_trip base cap) trips)
   cut_stops stops trips within =
       All-map (λ (t : Trip). All (λ (e : Event). e.stop.0 < stops) t.events) (cut_trip base cap) trips (λ i t l.
       All-map (λ (e : Event). e.stop.0 < stops) (cut_event base cap) _ (within i t l))
@@ -96,12 +119,15 @@ module _ (base cap : ℕ) where
           lists = ok.in_range.lists;
           events = cut_stops n.stops n.trips ok.in_range.events;
         };
-        rise = All-map (λ (t : Trip). EventsRise t.events) (cut_trip base cap) n.trips (λ i t l. cut_events_rise _ (ok.rise i t l));
+        rise = All-map (λ (t : Trip). EventsRise t.events) (cut_trip base cap) n.trips
+            (λ i t l. cut_events_rise _ (ok.rise i t l));
         within = record {
           few = omega (arith, cut_trips_long n.trips, ok.within.few);
           events = omega (arith, cut_sum n.trips, ok.within.events);
-          axis = All-map (λ (t : Trip). All (λ (e : Event). e.depart < END_OF_AXIS) t.events) (cut_trip base cap) n.trips (λ i t l.
-              All-map (λ (e : Event). e.depart < END_OF_AXIS) (cut_event base cap) _ (λ k e m. let a = ok.within.axis i t l k e m in omega (arith, a)));
+          axis = All-map (λ (t : Trip). All (λ (e : Event). e.depart < END_OF_AXIS) t.events) (cut_trip base cap)
+              n.trips (λ i t l.
+              All-map (λ (e : Event). e.depart < END_OF_AXIS) (cut_event base cap) _ (λ k e m. let a =
+              ok.within.axis i t l k e m in omega (arith, a)));
         };
       }
 
@@ -117,7 +143,8 @@ module _ (base cap : ℕ) where
             rw (← a.2, ← b.2) (cut_follows a.0.events b.0.events (ok.order r s i j a.0 b.0 le hr hs a.1 b.1));
       }
 
-  pub cut_lines : (trips : List Trip) (lines : List Line) → AreLines trips lines → AreLines (map (cut_trip base cap) trips) lines
+  pub cut_lines : (trips : List Trip) (lines : List Line) → AreLines trips lines →
+      AreLines (map (cut_trip base cap) trips) lines
   cut_lines trips lines ok =
       record {
         few = omega (arith, ok.few, cut_trips_long trips);
@@ -126,12 +153,15 @@ module _ (base cap : ℕ) where
         all = λ trip l. ok.all trip (omega (arith, cut_trips_long trips));
       }
 
-  cut_place_got : (trips : List Trip) (lines : List Line) (line k : ℕ) (e : Event) → IsPlace (map (cut_trip base cap) trips) lines line k e → (f : Event) × IsPlace trips lines line k f × (cut_event base cap f ≡ e)
+  cut_place_got : (trips : List Trip) (lines : List Line) (line k : ℕ) (e : Event) →
+      IsPlace (map (cut_trip base cap) trips) lines line k e →
+      (f : Event) × IsPlace trips lines line k f × (cut_event base cap f ≡ e)
   cut_place_got trips lines line k e h =
       let f = cut_event_got trips h.0 k e h.2 in
       (f.0, (h.0, h.1, f.1), f.2)
 
-  pub cut_boarded : (stops : ℕ) (trips : List Trip) (lines : List Line) (boarded : List (List (ℕ × ℕ))) → AreBoarded stops trips lines boarded → AreBoarded stops (map (cut_trip base cap) trips) lines boarded
+  pub cut_boarded : (stops : ℕ) (trips : List Trip) (lines : List Line) (boarded : List (List (ℕ × ℕ))) →
+      AreBoarded stops trips lines boarded → AreBoarded stops (map (cut_trip base cap) trips) lines boarded
   cut_boarded stops trips lines boarded ok =
       record {
         size = ok.size;
@@ -144,52 +174,73 @@ module _ (base cap : ℕ) where
       }
 
   -- the rows of a line
-  cut_events_of : (trips : List Trip) (i : ℕ) → events_of (map (cut_trip base cap) trips) i ≡ map (cut_event base cap) (events_of trips i)
+  cut_events_of : (trips : List Trip) (i : ℕ) →
+      events_of (map (cut_trip base cap) trips) i ≡ map (cut_event base cap) (events_of trips i)
   cut_events_of [] i = refl
   cut_events_of (t ∷ trips) zero = refl
   cut_events_of (t ∷ trips) (suc i) = cut_events_of trips i
 
-  pub cut_rows : (trips : List Trip) (line : List ℕ) → rows_of_line (map (cut_trip base cap) trips) line ≡ map (map (cut_event base cap)) (rows_of_line trips line)
+  pub cut_rows : (trips : List Trip) (line : List ℕ) →
+      rows_of_line (map (cut_trip base cap) trips) line ≡ map (map (cut_event base cap)) (rows_of_line trips line)
   cut_rows trips [] = refl
   cut_rows trips (i ∷ line) =
       let here = cut_events_of trips i in
       let rest = cut_rows trips line in
       cc (here, rest)
 
-  pub cut_rows_long : (trips : List Trip) (line : List ℕ) → length (rows_of_line (map (cut_trip base cap) trips) line) ≡ length (rows_of_line trips line)
-  cut_rows_long trips line = length-map line (events_of (map (cut_trip base cap) trips)) ∙ sym (length-map line (events_of trips))
+  pub cut_rows_long : (trips : List Trip) (line : List ℕ) →
+      length (rows_of_line (map (cut_trip base cap) trips) line) ≡ length (rows_of_line trips line)
+  cut_rows_long trips line = length-map line (events_of (map (cut_trip base cap) trips))
+      ∙ sym (length-map line (events_of trips))
 
   -- a row of the cut trips is one of the trips, cut
-  pub cut_row_got : (trips : List Trip) (line : List ℕ) (r : ℕ) (row : List Event) → slice_get (rows_of_line (map (cut_trip base cap) trips) line) r ≡ Some row → (own : List Event) × (slice_get (rows_of_line trips line) r ≡ Some own) × (map (cut_event base cap) own ≡ row)
+  pub cut_row_got : (trips : List Trip) (line : List ℕ) (r : ℕ) (row : List Event) →
+      slice_get (rows_of_line (map (cut_trip base cap) trips) line) r ≡ Some row →
+      (own : List Event) × (slice_get (rows_of_line trips line) r ≡ Some own) × (map (cut_event base cap) own ≡ row)
   cut_row_got trips line r row h =
-      map_got (map (cut_event base cap)) (rows_of_line trips line) r row (ap (λ (rows : List (List Event)). slice_get rows r) (sym (cut_rows trips line)) ∙ h)
+      map_got (map (cut_event base cap)) (rows_of_line trips line) r row
+      (ap (λ (rows : List (List Event)). slice_get rows r) (sym (cut_rows trips line)) ∙ h)
 
-  pub cut_at_got : (trips : List Trip) (line : List ℕ) (r j : ℕ) (e : Event) → IsAt (rows_of_line (map (cut_trip base cap) trips) line) r j e → (f : Event) × IsAt (rows_of_line trips line) r j f × (cut_event base cap f ≡ e)
+  pub cut_at_got : (trips : List Trip) (line : List ℕ) (r j : ℕ) (e : Event) →
+      IsAt (rows_of_line (map (cut_trip base cap) trips) line) r j e →
+      (f : Event) × IsAt (rows_of_line trips line) r j f × (cut_event base cap f ≡ e)
   cut_at_got trips line r j e h =
       let own = cut_row_got trips line r h.row h.trip in
-      let at : slice_get (map (cut_event base cap) own.0) j ≡ Some e = ap (λ (row : List Event). slice_get row j) own.2 ∙ h.event in
+      let at : slice_get (map (cut_event base cap) own.0) j ≡ Some e =
+      ap (λ (row : List Event). slice_get row j) own.2 ∙ h.event in
       let f = map_got (cut_event base cap) own.0 j e at in
       (f.0, record { row = own.0; trip = own.1; event = f.1 }, f.2)
 
   -- the calls of a line show its cut trips, and its times do when they are cut
-  pub cut_line_view : (trips : List Trip) (line : List ℕ) (calls : List Call) (times : List Times) → IsViewOf (rows_of_line trips line) calls times → IsCutViewOf base cap (rows_of_line (map (cut_trip base cap) trips) line) calls times
+  pub cut_line_view : (trips : List Trip) (line : List ℕ) (calls : List Call) (times : List Times) →
+      IsViewOf (rows_of_line trips line) calls times →
+      IsCutViewOf base cap (rows_of_line (map (cut_trip base cap) trips) line) calls times
   cut_line_view trips line calls times v =
       record {
         places = λ r row h.
             let own = cut_row_got trips line r row h in
             rw (← own.2) (length-map own.0 (cut_event base cap) ∙ v.places r own.0 own.1);
         size = v.size ∙ ap (λ m. m * length calls) (sym (cut_rows_long trips line));
-        stop = λ r j e c h g. let f = cut_at_got trips line r j e h in v.stop r j f.0 c f.1 g ∙ ap (λ (x : Event). x.stop.0) f.2;
-        board = λ r j e c h g. let f = cut_at_got trips line r j e h in v.board r j f.0 c f.1 g ∙ ap (λ (x : Event). x.board) f.2;
-        alight = λ r j e c h g. let f = cut_at_got trips line r j e h in v.alight r j f.0 c f.1 g ∙ ap (λ (x : Event). x.alight) f.2;
-        arrival = λ r j e h. let f = cut_at_got trips line r j e h in ap (cut base cap) (v.arrival r j f.0 f.1) ∙ ap (λ (x : Event). x.arrive) f.2;
-        departure = λ r j e h. let f = cut_at_got trips line r j e h in ap (cut base cap) (v.departure r j f.0 f.1) ∙ ap (λ (x : Event). x.depart) f.2;
+        stop = λ r j e c h g. let f = cut_at_got trips line r j e h in
+            v.stop r j f.0 c f.1 g ∙ ap (λ (x : Event). x.stop.0) f.2;
+        board = λ r j e c h g. let f = cut_at_got trips line r j e h in
+            v.board r j f.0 c f.1 g ∙ ap (λ (x : Event). x.board) f.2;
+        alight = λ r j e c h g. let f = cut_at_got trips line r j e h in
+            v.alight r j f.0 c f.1 g ∙ ap (λ (x : Event). x.alight) f.2;
+        arrival = λ r j e h. let f = cut_at_got trips line r j e h in
+            ap (cut base cap) (v.arrival r j f.0 f.1) ∙ ap (λ (x : Event). x.arrive) f.2;
+        departure = λ r j e h. let f = cut_at_got trips line r j e h in
+            ap (cut base cap) (v.departure r j f.0 f.1) ∙ ap (λ (x : Event). x.depart) f.2;
       }
 
-  pub cut_none_overtakes : (trips : List Trip) (line : Line) → IsLine trips line → NoneOvertakes (rows_of_line (map (cut_trip base cap) trips) line)
+  pub cut_none_overtakes : (trips : List Trip) (line : Line) → IsLine trips line →
+      NoneOvertakes (rows_of_line (map (cut_trip base cap) trips) line)
   cut_none_overtakes trips line ok = none_overtakes (map (cut_trip base cap) trips) line (cut_line trips line ok)
 
   -- all that is known of a line of a network, of its cut trips
-  module _ (stops : ℕ) (trips : List Trip) (table : LineTable) (are : AreLinesOf stops trips table) (i : ℕ) (line : Line) (at : slice_get table.lines i ≡ Some line) where
-    pub table_view : (calls : List Call) (times : List Times) → slice_get table.calls i ≡ Some calls → slice_get table.times i ≡ Some times → IsCutViewOf base cap (rows_of_line (map (cut_trip base cap) trips) line) calls times
+  module _ (stops : ℕ) (trips : List Trip) (table : LineTable) (are : AreLinesOf stops trips table) (i : ℕ)
+      (line : Line) (at : slice_get table.lines i ≡ Some line) where
+    pub table_view : (calls : List Call) (times : List Times) → slice_get table.calls i ≡ Some calls →
+        slice_get table.times i ≡ Some times → IsCutViewOf base cap (rows_of_line (map (cut_trip base cap) trips) line)
+        calls times
     table_view calls times c t = cut_line_view trips line calls times (are.viewed.view i line calls times at c t)

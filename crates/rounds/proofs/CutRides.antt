@@ -11,7 +11,8 @@ use Rattle.rounds.proofs.CutNetworks.{map_got, map_put}
 use Rattle.rounds.proofs.Journeying.{rises}
 
 -- a ride on a trip, of which the times are told cut
-pub record IsCutRide (base cap : ℕ) (trips : List Trip) (trip j i : ℕ) (a : Whereabouts) (ready : ℕ) (b : Whereabouts) : Type 0 where
+pub record IsCutRide (base cap : ℕ) (trips : List Trip) (trip j i : ℕ) (a : Whereabouts) (ready : ℕ)
+    (b : Whereabouts) : Type 0 where
   pub t : Trip
   pub on : Event
   pub off : Event
@@ -67,5 +68,7 @@ module _ (base cap : ℕ) (trips : List Trip) (trip j i : ℕ) (a : Whereabouts)
       }
 
 -- a ride ends no earlier than it begins
-pub ride_rises : (n : Net) (ok : IsNet n) (trip j i : ℕ) (t : Trip) (on off : Event) → slice_get n.trips trip ≡ Some t → IsRide t j i on off → on.depart ≤ off.arrive
-ride_rises n ok trip j i t on off runs r = rises n ok trip t runs (i - j - 1) j i on off (omega (arith, r.later)) r.from r.to
+pub ride_rises : (n : Net) (ok : IsNet n) (trip j i : ℕ) (t : Trip) (on off : Event) → slice_get n.trips trip ≡ Some t →
+    IsRide t j i on off → on.depart ≤ off.arrive
+ride_rises n ok trip j i t on off runs r =
+    rises n ok trip t runs (i - j - 1) j i on off (omega (arith, r.later)) r.from r.to

@@ -1,5 +1,6 @@
 -- What is true of each journey, whenever it begins.
-use Rattle.std.proofs.Common.{◌≡◌, ℕ, zero, suc, ◌+◌, ◌-◌, ◌<◌, ◌≤◌, List, [], ◌∷◌, length, get_or, slice_index, slice_get, Some, refl, sym, ◌∙◌, arith}
+use Rattle.std.proofs.Common.{◌≡◌, ℕ, zero, suc, ◌+◌, ◌-◌, ◌<◌, ◌≤◌, List, [], ◌∷◌, length, get_or, slice_index}
+use Rattle.std.proofs.Common.{slice_get, Some, refl, sym, ◌∙◌, arith}
 use Rattle.std.proofs.lemmas.Option.{slice_get_within, slice_get-get_or}
 use Rattle.timetable.proofs.Known.{event_stop, event_stays, event_moves, foot_in_range}
 use Rattle.timetable.specs.declared.trips.Event.{Event}
@@ -35,15 +36,28 @@ module _ (n : Net) (o : Whereabouts) where
       record { legs = r.legs; journey = rw (← e) r.journey; few = r.few }
 
   -- who came by no walk is ready to board by the end of a change
-  pub ready_by_change : (k : ℕ) (legs : List Leg) (p end : ℕ) → Journey n o legs (record { stop = p; time = end }) → rides legs ≤ k → EndsInNoWalk legs → (time : ℕ) × IsReady n o k p time × (time ≤ end + slice_index n.feet.changes p)
+  pub ready_by_change : (k : ℕ) (legs : List Leg) (p end : ℕ) → Journey n o legs (record { stop = p; time = end }) →
+      rides legs ≤ k → EndsInNoWalk legs → (time : ℕ) × IsReady n o k p time
+      × (time ≤ end + slice_index n.feet.changes p)
   ready_by_change k [] p end j few no_walk =
       (end, record { legs = []; end = end; journey = j; few = few; ready = refl }, omega arith)
-  ready_by_change k (Ride trip i m ∷ before) p end j few no_walk =
-      (end + slice_index n.feet.changes p, record { legs = Ride trip i m ∷ before; end = end; journey = j; few = few; ready = refl }, omega arith)
+  ready_by_change k (Ride trip i m ∷ before) p end j few no_walk = (
+    end + slice_index n.feet.changes p,
+    record {
+      legs = Ride trip i m ∷ before;
+      end = end;
+      journey = j;
+      few = few;
+      ready = refl;
+    },
+    omega arith,
+  )
   ready_by_change k (Walk ∷ before) p end j few no_walk = absurd no_walk
 
 -- a later event of a trip is no earlier
-pub rises : (n : Net) → IsNet n → (trip : ℕ) (t : Trip) → slice_get n.trips trip ≡ Some t → (d j i : ℕ) (on off : Event) → i ≡ j + 1 + d → slice_get t.events j ≡ Some on → slice_get t.events i ≡ Some off → on.depart ≤ off.arrive
+pub rises : (n : Net) → IsNet n → (trip : ℕ) (t : Trip) → slice_get n.trips trip ≡ Some t →
+    (d j i : ℕ) (on off : Event) → i ≡ j + 1 + d → slice_get t.events j ≡ Some on → slice_get t.events i ≡ Some off →
+    on.depart ≤ off.arrive
 rises n ok trip t runs zero j i on off e from to =
     let next : i ≡ j + 1 = omega arith in
     event_moves n ok trip t j on off runs from (rw next at to)
@@ -76,7 +90,10 @@ module _ (n : Net) (ok : IsNet n) (o : Whereabouts) where
       let early = not_before before a j in
       let on = r.in_time in
       let late = not_early n o before a in
-      let rise = rises n ok trip r.t r.runs (i - k - 1) k i r.on r.off (omega (arith, r.ride.later)) r.ride.from r.ride.to in
+      let rise = rises n ok trip r.t r.runs (i - k - 1) k i r.on r.off (omega (
+        arith,
+        r.ride.later,
+      )) r.ride.from r.ride.to in
       rw r.there (omega arith)
   not_before (Walk ∷ before) b (a, j, no_walk, w) =
       let early = not_before before a j in

@@ -1,5 +1,6 @@
 -- The lines of a network, one after another, in one lane.
-use Rattle.std.proofs.Common.{◌≡◌, ℕ, ◌+◌, ◌<◌, ◌≤◌, inl, inr, List, length, slice_index, slice_get, Some, sym, ◌∙◌, arith, subst}
+use Rattle.std.proofs.Common.{◌≡◌, ℕ, ◌+◌, ◌<◌, ◌≤◌, inl, inr, List, length, slice_index, slice_get, Some, sym, ◌∙◌}
+use Rattle.std.proofs.Common.{arith, subst}
 use Rattle.std.proofs.lemmas.Bool.{cases_lt}
 use Rattle.std.proofs.lemmas.Option.{same_Some}
 use Rattle.timetable.specs.declared.trips.Trip.{Trip}
@@ -16,10 +17,13 @@ pub record CarriesBelow (ready : List ℕ) (trips : List Trip) (lines : List (Li
   pub below : i < x
   pub carries : CarriesLine ready trips line p end
 
-pub no_lines : (ready : List ℕ) (trips : List Trip) (lines : List (List ℕ)) (old : List ℕ) → Lowers (CarriesBelow ready trips lines 0) old old
+pub no_lines : (ready : List ℕ) (trips : List Trip) (lines : List (List ℕ)) (old : List ℕ) →
+    Lowers (CarriesBelow ready trips lines 0) old old
 no_lines ready trips lines old = lowers_none old (λ p x c. absurd (omega (arith, c.below)))
 
-pub one_line : (ready : List ℕ) (trips : List Trip) (lines : List (List ℕ)) (x : ℕ) (line : List ℕ) {old mid new : List ℕ} → slice_get lines x ≡ Some line → Lowers (CarriesBelow ready trips lines x) old mid → Lowers (CarriesLine ready trips line) mid new → Lowers (CarriesBelow ready trips lines (x + 1)) old new
+pub one_line : (ready : List ℕ) (trips : List Trip) (lines : List (List ℕ)) (x : ℕ) (line : List ℕ)
+    {old mid new : List ℕ} → slice_get lines x ≡ Some line → Lowers (CarriesBelow ready trips lines x) old mid →
+    Lowers (CarriesLine ready trips line) mid new → Lowers (CarriesBelow ready trips lines (x + 1)) old new
 one_line ready trips lines x line at_x h k =
     lowers_alike
     (λ p y. λ o. elim o [
@@ -36,11 +40,14 @@ one_line ready trips lines x line at_x h k =
     (lowers_both h k)
 
 -- the trips of a line are trips
-pub any_of_line : {ready : List ℕ} {trips : List Trip} {line : List ℕ} {p end : ℕ} → CarriesLine ready trips line p end → CarriesAny ready trips p end
+pub any_of_line : {ready : List ℕ} {trips : List Trip} {line : List ℕ} {p end : ℕ} →
+    CarriesLine ready trips line p end → CarriesAny ready trips p end
 any_of_line c = record { trip = c.rank.trip; t = c.t; runs = c.rank.runs; carries = c.carries }
 
 -- what all trips had nothing lower to offer to, a line has not
-pub line_settled : (before : List ℕ) (trips : List Trip) (line old now : List ℕ) → length now ≡ length old → ((p : ℕ) → slice_index now p ≤ slice_index old p) → NothingLower (CarriesAny before trips) old → NothingLower (CarriesLine before trips line) now
+pub line_settled : (before : List ℕ) (trips : List Trip) (line old now : List ℕ) → length now ≡ length old →
+    ((p : ℕ) → slice_index now p ≤ slice_index old p) → NothingLower (CarriesAny before trips) old →
+    NothingLower (CarriesLine before trips line) now
 line_settled before trips line old now same falls settled p x l c =
     let low = settled p x (omega (arith, same)) (any_of_line c) in
     let f = falls p in

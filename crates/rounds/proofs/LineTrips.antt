@@ -1,6 +1,7 @@
 -- Lines and where they are boarded: which of them a round leaves out, and that they carry as all trips do.
 -- As these need no view of the lines, they hold of cut trips too.
-use Rattle.std.proofs.Common.{◌≡◌, ℕ, ◌<◌, ◌≤◌, ◌∙◌, inl, inr, List, length, get_or, slice_index, slice_get, Some, ap, arith}
+use Rattle.std.proofs.Common.{◌≡◌, ℕ, ◌<◌, ◌≤◌, ◌∙◌, inl, inr, List, length, get_or, slice_index, slice_get, Some, ap}
+use Rattle.std.proofs.Common.{arith}
 use Rattle.std.proofs.lemmas.Bool.{cases_lt}
 use Rattle.std.proofs.lemmas.Option.{slice_get_within, slice_get-get_or}
 use Rattle.timetable.specs.declared.trips.Event.{Event}
@@ -24,7 +25,8 @@ module _ (trips : List Trip) (lines : List Line) (are : AreLines trips lines) wh
   line_at i line at = all_at (IsLine trips) lines i line are.line at
 
   -- each trip stands in a line
-  pub lines_carry : (ready : List ℕ) (x : ℕ) {old new : List ℕ} → length lines ≤ x → Lowers (CarriesBelow ready trips lines x) old new → Lowers (CarriesAny ready trips) old new
+  pub lines_carry : (ready : List ℕ) (x : ℕ) {old new : List ℕ} → length lines ≤ x →
+      Lowers (CarriesBelow ready trips lines x) old new → Lowers (CarriesAny ready trips) old new
   lines_carry ready x all h =
       lowers_alike
       (λ p y. λ c. any_of_line c.carries)
@@ -35,25 +37,53 @@ module _ (trips : List Trip) (lines : List Line) (are : AreLines trips lines) wh
         line = w.1.0;
         at = w.1.2;
         below = let k = slice_get_within lines w.0 w.1.0 w.1.2 in omega arith;
-        carries = record { r = w.1.1; t = c.t; rank = record { trip = c.trip; here = w.1.3; runs = c.runs }; carries = c.carries };
+        carries = record {
+          r = w.1.1;
+          t = c.t;
+          rank = record { trip = c.trip; here = w.1.3; runs = c.runs };
+          carries = c.carries;
+        };
       })
       h
 
   module _ (i : ℕ) (line : Line) (at_i : slice_get lines i ≡ Some line) (before ready : List ℕ) where
     -- a line of which nobody newly catches a trip has nothing lower to offer
-    pub none_catches : ((r j : ℕ) → IsCaught before ready (rows_of_line trips line) r j → ⊥) → (ride : List ℕ) → NothingLower (CarriesLine before trips line) ride → NothingLower (CarriesLine ready trips line) ride
+    pub none_catches : ((r j : ℕ) → IsCaught before ready (rows_of_line trips line) r j → ⊥) → (ride : List ℕ) →
+        NothingLower (CarriesLine before trips line) ride → NothingLower (CarriesLine ready trips line) ride
     none_catches none ride settled p x l c =
         let k = c.carries in
         elim (cases_lt k.on.depart (slice_index before k.on.stop.0)) [
           | inl fresh ↦
               let at_row = trip_row trips line (line_at i line at_i) c.r c.t c.rank in
-              absurd (none c.r k.j (record { on = k.on; from = record { row = c.t.events; trip = at_row; event = k.ride.from }; may_board = k.ride.may_board; in_time = k.in_time; fresh = fresh }))
-          | inr soon ↦ settled p x l (record { r = c.r; t = c.t; rank = c.rank; carries = record { j = k.j; i = k.i; on = k.on; off = k.off; ride = k.ride; in_time = soon; stop = k.stop; time = k.time } })
+              absurd (none c.r k.j (record {
+                on = k.on;
+                from = record { row = c.t.events; trip = at_row; event = k.ride.from };
+                may_board = k.ride.may_board;
+                in_time = k.in_time;
+                fresh = fresh;
+              }))
+          | inr soon ↦ settled p x l (record {
+            r = c.r;
+            t = c.t;
+            rank = c.rank;
+            carries = record {
+              j = k.j;
+              i = k.i;
+              on = k.on;
+              off = k.off;
+              ride = k.ride;
+              in_time = soon;
+              stop = k.stop;
+              time = k.time;
+            };
+          })
         ]
 
     -- nobody newly catches a trip of a line before the place that is noted for it
-    pub catches_from : (stops : ℕ) (boarded : List (List (ℕ × ℕ))) → AreBoarded stops trips lines boarded → (falls : List Fall) (due : List ℕ) → length falls ≡ stops → AreFalls before ready falls
-        → ((p line place : ℕ) (f : Fall) → IsIn boarded p (line, place) → slice_get falls p ≡ Some f → f.low < f.top → slice_index due line ≤ place)
+    pub catches_from : (stops : ℕ) (boarded : List (List (ℕ × ℕ))) → AreBoarded stops trips lines boarded →
+        (falls : List Fall) (due : List ℕ) → length falls ≡ stops → AreFalls before ready falls
+        → ((p line place : ℕ) (f : Fall) → IsIn boarded p (line, place) → slice_get falls p ≡ Some f → f.low < f.top →
+        slice_index due line ≤ place)
         → (r j : ℕ) → IsCaught before ready (rows_of_line trips line) r j → slice_index due i ≤ j
     catches_from stops boarded board falls due same fallen notes r j g =
         let t = row_trip trips line (line_at i line at_i) r g.from.row g.from.trip in
@@ -62,7 +92,8 @@ module _ (trips : List Trip) (lines : List Line) (are : AreLines trips lines) wh
         let in_range = slice_get_within boarded g.on.stop.0 b.0 b.2 in
         let nowhere : Fall = record { low = 0; high = 0; top = 0 } in
         let f = get_or falls g.on.stop.0 nowhere in
-        let at_f : slice_get falls g.on.stop.0 ≡ Some f = slice_get-get_or falls g.on.stop.0 nowhere (omega (arith, board.size)) in
+        let at_f : slice_get falls g.on.stop.0 ≡ Some f =
+        slice_get-get_or falls g.on.stop.0 nowhere (omega (arith, board.size)) in
         let h = fallen.fall g.on.stop.0 f at_f in
         let fell : slice_index ready g.on.stop.0 < slice_index before g.on.stop.0 = omega (arith, g.in_time, g.fresh) in
         let low = h.low fell in

@@ -16,18 +16,21 @@ use Rattle.rounds.specs.Table.{batches_of, label_of}
 use Rattle.trip_lanes.specs.Cut.{cut}
 use Rattle.trip_lanes.specs.declared.lanes.TheConstants.{LANES}
 
--- stop by stop, the least duration for each minute of a window, or NEVER where there is none; lanes past the window are dead
+-- stop by stop, the least duration for each minute of a window, or NEVER where there is none; lanes past the window are
+-- dead
 pub record AreLabels (n : Net) (origin : ℕ) (w : Window) (k : ℕ) (labels : List (List ℕ)) : Type 0 where
   pub size : length labels ≡ n.stops * batches_of w.minutes
   pub each : (p m : ℕ) → p < n.stops → m < w.minutes →
       IsLeastOrNever (IsDuration n origin (departure w m) k p) (label_of w.minutes labels p m)
-  pub dead : (p m : ℕ) → p < n.stops → w.minutes ≤ m → m < LANES * batches_of w.minutes → label_of w.minutes labels p m ≡ NEVER
+  pub dead : (p m : ℕ) → p < n.stops → w.minutes ≤ m → m < LANES * batches_of w.minutes →
+      label_of w.minutes labels p m ≡ NEVER
 
 -- the labels that are kept as times
 abbrev pub bounds_in : ℕ → ℕ → List ℕ → List ℕ
 bounds_in base cap kept = map (cut base cap) kept
 
--- labels reach to the end of 32 bits at most, each departure is a label, and none is later than the one whose labels bound them
+-- labels reach to the end of 32 bits at most, each departure is a label, and none is later than the one whose labels
+-- bound them
 pub record IsBatch {R : Type 0} (lanes never : ℕ) (labels : R → List ℕ) (b : Batch R) : Type 0 where
   pub base : b.base + never ≤ NEVER
   pub departs : (l : ℕ) → l < lanes → slice_index (labels b.departs) l ≤ never
@@ -40,4 +43,5 @@ start_at q time = record { stop = q.origin.0; time = time }
 -- for each number of rides up to so many, the labels of who starts so, on the network with its times cut
 abbrev pub AreKept : ℕ → ℕ → Net → Whereabouts → ℕ → List Kept → Type 0
 AreKept never base n start rides kept = (k : ℕ) (x : Kept) → k ≤ rides → slice_get kept k ≡ Some x →
-    LaneStateTo never (cut_net base never n) start k (bounds_in base never x.ride.items) (bounds_in base never x.ready.items)
+    LaneStateTo never (cut_net base never n) start k (bounds_in base never x.ride.items)
+    (bounds_in base never x.ready.items)

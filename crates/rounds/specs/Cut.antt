@@ -8,7 +8,13 @@ use Rattle.trip_lanes.specs.Cut.{cut}
 -- the event, at its cut times
 abbrev pub cut_event : ℕ → ℕ → Event → Event
 cut_event base cap e =
-    record { stop = e.stop; arrive = cut base cap e.arrive; depart = cut base cap e.depart; board = e.board; alight = e.alight }
+    record {
+      stop = e.stop;
+      arrive = cut base cap e.arrive;
+      depart = cut base cap e.depart;
+      board = e.board;
+      alight = e.alight;
+    }
 
 -- the trip, each of its events at its cut times
 abbrev pub cut_trip : ℕ → ℕ → Trip → Trip

@@ -4,7 +4,8 @@ use Rattle.timetable.specs.declared.least.TheConstants.{NEVER}
 
 -- by the time of each label, its stop is reached
 pub record AreMet (Reached : ℕ → ℕ → Type 0) (labels : List ℕ) : Type 0 where
-  pub met : (p : ℕ) → p < length labels → slice_index labels p ≢ NEVER → (time : ℕ) × Reached p time × (time ≤ slice_index labels p)
+  pub met : (p : ℕ) → p < length labels → slice_index labels p ≢ NEVER →
+      (time : ℕ) × Reached p time × (time ≤ slice_index labels p)
 
 -- no stop is reached before its label
 abbrev pub NoneEarlier : (ℕ → ℕ → Type 0) → List ℕ → Type 0

@@ -1,5 +1,6 @@
 //! The minutes of a window, batch by batch and from the last to the first.
-ghost use Rattle.std.specs.Prelude.{◌≡◌, ◌≢◌, ℕ, ◌+◌, ◌-◌, ◌*◌, ◌/◌, ◌<◌, ◌≤◌, ◌⊎◌, ◌↔◌, IsTrue, [], length, slice_index, slice_index_or, All, IfOk, OnOk};
+ghost use Rattle.std.specs.Prelude.{◌≡◌, ◌≢◌, ℕ, ◌+◌, ◌-◌, ◌*◌, ◌/◌, ◌<◌, ◌≤◌, ◌⊎◌, ◌↔◌, IsTrue, [], length};
+ghost use Rattle.std.specs.Prelude.{slice_index, slice_index_or, All, IfOk, OnOk};
 ghost use Rattle.timetable.specs.declared.limits.TheConstants.{END_OF_AXIS, MOST_FOOT_SECONDS};
 ghost use Rattle.timetable.specs.declared.least.TheConstants.{NEVER as NEVER_VALUE};
 ghost use Rattle.trip_lanes.specs.Lane.{lane, labels_in};
@@ -13,7 +14,6 @@ ghost use Rattle.rounds.specs.Table.{batches_of, label_of};
 ghost use Rattle.trip_lanes.specs.declared.lanes.TheConstants.{LANES};
 
 use crate::bounded::{Batch, no_kept, run_bounded};
-use crate::last::fill_last_arrivals;
 use crate::query::Query;
 use crate::tables::Tables;
 use crate::unreached::leave_out_unreached;
@@ -51,7 +51,10 @@ fn is_near<R: Row>(time: u32, base: u32) -> bool
 fn are_told<R: Row>(ride: &[R], ready: &[R], departs: R, base: u32, last: &[u32]) -> bool
     requires same { length ride.now ≡ length ready.now }
     requires last { length last.now ≡ length ready.now }
-    ensures told { IsTrue result ↔ ((l p : ℕ) → l < R.LANES → p < length ready.now → slice_index (R.labels departs) l ≢ R.NEVER → arrival (lane l (labels_in R.labels ride.now)) (lane l (labels_in R.labels ready.now)) p ≡ R.NEVER → slice_index last.now p < base + R.NEVER) }
+    ensures told { IsTrue result ↔ ((l p : ℕ) → l < R.LANES → p < length ready.now →
+        slice_index (R.labels departs) l ≢ R.NEVER →
+        arrival (lane l (labels_in R.labels ride.now)) (lane l (labels_in R.labels ready.now)) p ≡ R.NEVER →
+        slice_index last.now p < base + R.NEVER) }
 {
     for stop in 0..ready.len() {
         if !is_near::<R>(last[stop], base)
@@ -77,11 +80,21 @@ fn write_part<R: Row>(
     requires part { LANES * part + LANES ≤ R.LANES }
     requires same { length tables.now.ride.items ≡ length tables.now.ready.items }
     requires room { length labels.old ≡ length tables.now.ready.items * batches }
-    requires fits { (l p : ℕ) → l < R.LANES → slice_index (lane l (labels_in R.labels tables.now.ready.items)) p ≤ R.NEVER }
-    requires since { (l p : ℕ) → l < R.LANES → p < length tables.now.ready.items → arrival (lane l (labels_in R.labels tables.now.ride.items)) (lane l (labels_in R.labels tables.now.ready.items)) p ≢ R.NEVER → slice_index (R.labels departs) l ≤ arrival (lane l (labels_in R.labels tables.now.ride.items)) (lane l (labels_in R.labels tables.now.ready.items)) p }
+    requires fits { (l p : ℕ) → l < R.LANES →
+        slice_index (lane l (labels_in R.labels tables.now.ready.items)) p ≤ R.NEVER }
+    requires since { (l p : ℕ) → l < R.LANES → p < length tables.now.ready.items →
+        arrival (lane l (labels_in R.labels tables.now.ride.items)) (lane l (labels_in R.labels tables.now.ready.items))
+        p ≢ R.NEVER → slice_index (R.labels departs) l
+        ≤ arrival (lane l (labels_in R.labels tables.now.ride.items))
+        (lane l (labels_in R.labels tables.now.ready.items)) p }
     ensures same { length labels.new ≡ length labels.old }
-    ensures written { (l p : ℕ) → l < LANES → p < length tables.now.ready.items → IsSinceTo R.NEVER (slice_index (R.labels departs) (LANES * part + l)) (arrival (lane (LANES * part + l) (labels_in R.labels tables.now.ride.items)) (lane (LANES * part + l) (labels_in R.labels tables.now.ready.items)) p) (slice_index (slice_index_or labels.new (p * batches + at) []) l) }
-    ensures kept { (p b : ℕ) → b < batches → b ≢ at → slice_index_or labels.new (p * batches + b) [] ≡ slice_index_or labels.old (p * batches + b) [] }
+    ensures written { (l p : ℕ) → l < LANES → p < length tables.now.ready.items →
+        IsSinceTo R.NEVER (slice_index (R.labels departs) (LANES * part + l))
+        (arrival (lane (LANES * part + l) (labels_in R.labels tables.now.ride.items))
+        (lane (LANES * part + l) (labels_in R.labels tables.now.ready.items)) p)
+        (slice_index (slice_index_or labels.new (p * batches + at) []) l) }
+    ensures kept { (p b : ℕ) → b < batches → b ≢ at →
+        slice_index_or labels.new (p * batches + b) [] ≡ slice_index_or labels.old (p * batches + b) [] }
 {
     let ride = tables.ride.as_slice();
     let ready = tables.ready.as_slice();
@@ -103,11 +116,23 @@ fn write_batch<R: Row>(
     requires batch { R.LANES * batch < minutes }
     requires same { length tables.now.ride.items ≡ length tables.now.ready.items }
     requires room { length labels.old ≡ length tables.now.ready.items * batches_of minutes }
-    requires fits { (l p : ℕ) → l < R.LANES → slice_index (lane l (labels_in R.labels tables.now.ready.items)) p ≤ R.NEVER }
-    requires since { (l p : ℕ) → l < R.LANES → p < length tables.now.ready.items → arrival (lane l (labels_in R.labels tables.now.ride.items)) (lane l (labels_in R.labels tables.now.ready.items)) p ≢ R.NEVER → slice_index (R.labels departs) l ≤ arrival (lane l (labels_in R.labels tables.now.ride.items)) (lane l (labels_in R.labels tables.now.ready.items)) p }
+    requires fits { (l p : ℕ) → l < R.LANES →
+        slice_index (lane l (labels_in R.labels tables.now.ready.items)) p ≤ R.NEVER }
+    requires since { (l p : ℕ) → l < R.LANES → p < length tables.now.ready.items →
+        arrival (lane l (labels_in R.labels tables.now.ride.items)) (lane l (labels_in R.labels tables.now.ready.items))
+        p ≢ R.NEVER → slice_index (R.labels departs) l
+        ≤ arrival (lane l (labels_in R.labels tables.now.ride.items))
+        (lane l (labels_in R.labels tables.now.ready.items)) p }
     ensures same { length labels.new ≡ length labels.old }
-    ensures written { (l p : ℕ) → l < R.LANES → p < length tables.now.ready.items → R.LANES * batch + l < LANES * batches_of minutes → IsSinceTo R.NEVER (slice_index (R.labels departs) l) (arrival (lane l (labels_in R.labels tables.now.ride.items)) (lane l (labels_in R.labels tables.now.ready.items)) p) (label_of minutes labels.new p (R.LANES * batch + l)) }
-    ensures kept { (p m : ℕ) → m < LANES * batches_of minutes → (m < R.LANES * batch) ⊎ (R.LANES * batch + R.LANES ≤ m) → label_of minutes labels.new p m ≡ label_of minutes labels.old p m }
+    ensures written { (l p : ℕ) → l < R.LANES → p < length tables.now.ready.items →
+        R.LANES * batch + l < LANES * batches_of minutes →
+        IsSinceTo R.NEVER (slice_index (R.labels departs) l)
+        (arrival (lane l (labels_in R.labels tables.now.ride.items))
+        (lane l (labels_in R.labels tables.now.ready.items)) p)
+        (label_of minutes labels.new p (R.LANES * batch + l)) }
+    ensures kept { (p m : ℕ) → m < LANES * batches_of minutes →
+        (m < R.LANES * batch) ⊎ (R.LANES * batch + R.LANES ≤ m) →
+        label_of minutes labels.new p m ≡ label_of minutes labels.old p m }
 {
     let batches = (minutes + (LANES - 1)) / LANES;
     let parts = R::LANES / LANES;
@@ -119,8 +144,8 @@ fn write_batch<R: Row>(
     }
 }
 
-/// Whether labels tell all stops of a batch. Where some are never, last arrivals are found; where these leave it open,
-/// stops that no journey reaches are left out, and the others looked at again.
+/// Whether labels tell all stops of a batch. Where last arrivals leave it open, stops that no journey reaches are left
+/// out, and the others looked at again.
 fn are_told_of_reached<R: Row>(
     alloc: Global,
     query: Query<'_>,
@@ -134,9 +159,14 @@ fn are_told_of_reached<R: Row>(
     requires tables { AreTablesFor query.network.now.stops query.lines.now tables.now }
     requires last { AreLastFrom query.network.now query.origin.0 query.window.first query.rides last.old }
     requires few { (p : ℕ) → slice_index last.old p ≤ END_OF_AXIS + MOST_FOOT_SECONDS }
-    ensures last { OnOk result (AreLastFrom query.entry.network.now query.entry.origin.0 query.entry.window.first query.entry.rides last.new) }
+    ensures last { OnOk result (AreLastFrom query.entry.network.now query.entry.origin.0 query.entry.window.first
+        query.entry.rides last.new) }
     ensures few { (p : ℕ) → slice_index last.new p ≤ END_OF_AXIS + MOST_FOOT_SECONDS }
-    ensures told { IfOk result (λ told. IsTrue told → (l p : ℕ) → l < R.LANES → p < length tables.now.ready.items → slice_index (R.labels batch.departs) l ≢ R.NEVER → arrival (lane l (labels_in R.labels tables.now.ride.items)) (lane l (labels_in R.labels tables.now.ready.items)) p ≡ R.NEVER → slice_index last.new p < batch.base + R.NEVER) }
+    ensures told { IfOk result (λ told. IsTrue told → (l p : ℕ) → l < R.LANES → p < length tables.now.ready.items →
+        slice_index (R.labels batch.departs) l ≢ R.NEVER →
+        arrival (lane l (labels_in R.labels tables.now.ride.items))
+        (lane l (labels_in R.labels tables.now.ready.items)) p ≡ R.NEVER →
+        slice_index last.new p < batch.base + R.NEVER) }
     ensures early { END_OF_AXIS + MOST_FOOT_SECONDS < batch.base + R.NEVER → IfOk result (λ told. IsTrue told) }
 {
     let ride = tables.ride.as_slice();
@@ -144,18 +174,15 @@ fn are_told_of_reached<R: Row>(
     if are_told(ride, ready, batch.departs, batch.base, last) {
         return Ok(true);
     }
-    fill_last_arrivals(alloc, query, last)?;
-    if !are_told(ride, ready, batch.departs, batch.base, last) {
-        leave_out_unreached(alloc, query, beside, last)?;
-    }
+    leave_out_unreached(alloc, query, beside, last)?;
     Ok(are_told(ride, ready, batch.departs, batch.base, last))
 }
 
 /// Writes the least durations for each minute of a window, batch by batch from the last, each bounded by the one after
 /// it. Where labels can't tell all of them it gives up, and says so: what is written is then of no use.
 ///
-/// `last` bounds how late somebody may be at each stop. It is found, and stops that no journey reaches are left out of
-/// it, by the tables `beside`, only where labels need it. Out of memory there is the only error.
+/// `last` bounds how late somebody may be at each stop. Stops that no journey reaches are left out of it, by the tables
+/// `beside`, only where labels need it. Out of memory there is the only error.
 pub(crate) fn run_window<R: Row>(
     alloc: Global,
     query: Query<'_>,
@@ -171,9 +198,11 @@ pub(crate) fn run_window<R: Row>(
     requires few { (p : ℕ) → slice_index last.old p ≤ END_OF_AXIS + MOST_FOOT_SECONDS }
     requires labels { length labels.old ≡ query.network.now.stops * batches_of query.window.minutes }
     ensures same { length labels.new ≡ length labels.old }
-    ensures last { OnOk result (AreLastFrom query.entry.network.now query.entry.origin.0 query.entry.window.first query.entry.rides last.new) }
+    ensures last { OnOk result (AreLastFrom query.entry.network.now query.entry.origin.0 query.entry.window.first
+        query.entry.rides last.new) }
     ensures few { (p : ℕ) → slice_index last.new p ≤ END_OF_AXIS + MOST_FOOT_SECONDS }
-    ensures told { IfOk result (λ told. IsTrue told → AreLabels query.entry.network.now query.entry.origin.0 query.entry.window query.entry.rides labels.new) }
+    ensures told { IfOk result (λ told. IsTrue told →
+        AreLabels query.entry.network.now query.entry.origin.0 query.entry.window query.entry.rides labels.new) }
     ensures early { END_OF_AXIS + MOST_FOOT_SECONDS < R.NEVER → IfOk result (λ told. IsTrue told) }
 {
     query.network.known();

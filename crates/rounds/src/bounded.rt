@@ -1,5 +1,6 @@
 //! Departures side by side, each round bounded by the labels of a later departure.
-ghost use Rattle.std.specs.Prelude.{◌≡◌, ◌≢◌, ℕ, ◌+◌, ◌<◌, ◌≤◌, length, replicate, slice_get, slice_index, Some, true, All, IfOk};
+ghost use Rattle.std.specs.Prelude.{◌≡◌, ◌≢◌, ℕ, ◌+◌, ◌<◌, ◌≤◌, length, replicate, slice_get, slice_index, Some, true};
+ghost use Rattle.std.specs.Prelude.{All, IfOk};
 ghost use Rattle.timetable.specs.Steps.{Lowers};
 ghost use Rattle.timetable.specs.declared.least.TheConstants.{NEVER as NEVER_VALUE};
 ghost use Rattle.trip_lanes.specs.Cut.{cut};
@@ -31,7 +32,8 @@ pub(crate) struct Kept {
 pub(crate) fn no_kept(alloc: Global, stops: usize, rides: u32) -> Result<Vec<Kept>, AllocError>
     requires { rides ≤ MOST_RIDES }
     ensures many { IfOk result (λ kept. length kept.items ≡ rides + 1) }
-    ensures never { IfOk result (λ kept. All (λ x. (x.ride.items ≡ replicate stops NEVER_VALUE) × (x.ready.items ≡ replicate stops NEVER_VALUE)) kept.items) }
+    ensures never { IfOk result (λ kept. All (λ x. (x.ride.items ≡ replicate stops NEVER_VALUE)
+        × (x.ready.items ≡ replicate stops NEVER_VALUE)) kept.items) }
 {
     let mut kept = Vec::new(alloc);
     for _ in 0..rides + 1 {
@@ -53,7 +55,8 @@ fn bound_of<R: Row>(bound: u32, base: u32) -> R
 /// Lowers each label to the bound of its stop.
 fn lower_to<R: Row>(labels: &mut [R], bound: &[u32], base: u32)
     requires { length bound.now ≡ length labels.old }
-    ensures { (l : ℕ) → l < R.LANES → Lowers (Bounds (bounds_in base R.NEVER bound.now)) (lane l (labels_in R.labels labels.old)) (lane l (labels_in R.labels labels.new)) }
+    ensures { (l : ℕ) → l < R.LANES → Lowers (Bounds (bounds_in base R.NEVER bound.now))
+        (lane l (labels_in R.labels labels.old)) (lane l (labels_in R.labels labels.new)) }
 {
     for stop in 0..labels.len() {
         labels[stop] = labels[stop].lower_of(bound_of(bound[stop], base));
@@ -64,7 +67,8 @@ fn lower_to<R: Row>(labels: &mut [R], bound: &[u32], base: u32)
 fn begin<R: Row>(labels: &mut [R], before: &mut [R], fallen: &mut [bool], bound: &[u32], base: u32)
     requires bound { length bound.now ≡ length labels.old }
     requires before { length before.old ≡ length labels.old }
-    ensures lanes { (l : ℕ) → l < R.LANES → Lowers (Bounds (bounds_in base R.NEVER bound.now)) (lane l (labels_in R.labels labels.old)) (lane l (labels_in R.labels labels.new)) }
+    ensures lanes { (l : ℕ) → l < R.LANES → Lowers (Bounds (bounds_in base R.NEVER bound.now))
+        (lane l (labels_in R.labels labels.old)) (lane l (labels_in R.labels labels.new)) }
     ensures before { before.new ≡ labels.new }
     ensures fallen { length fallen.new ≡ length fallen.old }
 {
@@ -80,7 +84,9 @@ fn begin<R: Row>(labels: &mut [R], before: &mut [R], fallen: &mut [bool], bound:
 fn set_out<R: Row>(ride: &mut [R], marked: &mut [bool], stop: usize, times: R)
     requires stop { stop < length ride.old }
     requires same { length marked.old ≡ length ride.old }
-    ensures lanes { (l : ℕ) → l < R.LANES → Lowers (λ p x. (p ≡ stop) × (x ≡ slice_index (R.labels times) l)) (lane l (labels_in R.labels ride.old)) (lane l (labels_in R.labels ride.new)) }
+    ensures lanes { (l : ℕ) → l < R.LANES → Lowers (λ p x. (p ≡ stop)
+        × (x ≡ slice_index (R.labels times) l)) (lane l (labels_in R.labels ride.old))
+        (lane l (labels_in R.labels ride.new)) }
     ensures same { length marked.new ≡ length marked.old }
     ensures here { slice_get marked.new stop ≡ Some true }
 {
@@ -143,12 +149,17 @@ pub(crate) fn run_bounded<R: Row>(
     requires short { All (λ row. length row ≤ R.NEVER) query.lines.now.lines }
     requires batch { IsBatch R.LANES R.NEVER R.labels batch }
     requires many { length kept.old ≡ query.rides + 1 }
-    requires bounds { AreKept R.NEVER batch.base query.network.now (start_at query (cut batch.base R.NEVER batch.later)) query.rides kept.old }
+    requires bounds { AreKept R.NEVER batch.base query.network.now (start_at query (cut batch.base R.NEVER batch.later))
+        query.rides kept.old }
     requires tables { AreTablesFor query.network.now.stops query.lines.now tables.old }
     ensures tables { AreTablesFor query.entry.network.now.stops query.entry.lines.now tables.new }
-    ensures states { (l : ℕ) → l < R.LANES → LaneStateTo R.NEVER (cut_net batch.base R.NEVER query.entry.network.now) (start_at query.entry (slice_index (R.labels batch.departs) l)) query.entry.rides (lane l (labels_in R.labels tables.new.ride.items)) (lane l (labels_in R.labels tables.new.ready.items)) }
+    ensures states { (l : ℕ) → l < R.LANES →
+        LaneStateTo R.NEVER (cut_net batch.base R.NEVER query.entry.network.now)
+        (start_at query.entry (slice_index (R.labels batch.departs) l)) query.entry.rides
+        (lane l (labels_in R.labels tables.new.ride.items)) (lane l (labels_in R.labels tables.new.ready.items)) }
     ensures many { length kept.new ≡ query.entry.rides + 1 }
-    ensures kept { AreKept R.NEVER batch.base query.entry.network.now (start_at query.entry (slice_index (R.labels batch.departs) 0)) query.entry.rides kept.new }
+    ensures kept { AreKept R.NEVER batch.base query.entry.network.now
+        (start_at query.entry (slice_index (R.labels batch.departs) 0)) query.entry.rides kept.new }
 {
     query.network.known();
     let base = batch.base;

@@ -35,7 +35,8 @@ pub(crate) fn note_lines(lines: &Lines, falls: &[Fall], due: &mut [u32])
     requires stops { length falls.now ≡ length lines.now.boarded }
     requires few { length falls.now ≤ MOST_STOPS }
     requires in_range { (p line place : ℕ) → IsIn lines.now.boarded p (line, place) → line < length due.old }
-    ensures { (p line place : ℕ) (f : FallValue) → IsIn lines.now.boarded p (line, place) → slice_get falls.now p ≡ Some f → f.low < f.top → slice_index due.new line ≤ place }
+    ensures { (p line place : ℕ) (f : FallValue) → IsIn lines.now.boarded p (line, place) →
+        slice_get falls.now p ≡ Some f → f.low < f.top → slice_index due.new line ≤ place }
 {
     for stop in 0..falls.len() {
         if falls[stop].low < falls[stop].top {

@@ -7,8 +7,8 @@
 //! - `search`: [`Search`], which serves one origin after another. `query`: what is asked of it. `tables`: its tables.
 //! - `batches`: the minutes of a window, so many at a time, from the last to the first.
 //! - `bounded`: the rounds of departures side by side, within the labels of a later one.
-//! - `last`: how late somebody may be at a stop, by which one sees that narrow labels tell all. `unreached`: which
-//!   stops no journey reaches, however late.
+//! - `unreached`: which stops no journey reaches, however late, where a network's last arrivals leave it open whether
+//!   narrow labels tell all.
 //! - `scan`, `due`: a round of rides, line by line: the lines that serve a stop where a label fell, from there on.
 //! - `table`: [`Durations`], as a window gives them.
 //! - `steps`: what trips, changes and walks do to the labels of stops.
@@ -21,7 +21,6 @@
 mod batches;
 mod bounded;
 mod due;
-mod last;
 mod laws;
 mod minutes;
 mod query;

@@ -15,7 +15,7 @@ use crate::table::Durations;
 use crate::tables::Tables;
 use crate::window::{Window, longest};
 use std::alloc::{AllocError, Global};
-use timetable::{END_OF_AXIS, MOST_FOOT_SECONDS, NEVER, Network, StopNo};
+use timetable::{NEVER, Network, StopNo};
 use trip_lanes::{LANES, Lanes, Narrow, Row};
 
 /// After a search that narrow labels couldn't tell, how many go by wide ones at once.
@@ -77,14 +77,14 @@ impl Search {
     /// The labels of a window, batch by batch: by narrow labels where these tell all, and else by wide ones.
     fn labels_of(&mut self, alloc: Global, query: Query<'_>) -> Result<Vec<Lanes>, AllocError>
         requires { IsAsked query }
-        ensures { IfOk result (λ labels. AreLabels query.entry.network.now query.entry.origin.0 query.entry.window query.entry.rides labels.items) }
+        ensures { IfOk result (λ labels. AreLabels query.entry.network.now query.entry.origin.0 query.entry.window
+            query.entry.rides labels.items) }
     {
         query.network.known();
         let stops = query.network.stops() as usize;
         let batches = (query.window.minutes as usize + (LANES - 1)) / LANES;
         let mut labels = vec![in alloc; [NEVER; LANES]; stops * batches]?;
-        // Nobody is at a stop later, whatever the network.
-        let mut last = vec![in alloc; END_OF_AXIS + MOST_FOOT_SECONDS; stops]?;
+        let mut last = query.network.last_arrivals().to_vec(alloc)?;
         let most = longest(query.lines);
         self.write(alloc, query, most, &mut last, &mut labels)?;
         Ok(labels)
@@ -105,7 +105,8 @@ impl Search {
         requires last { AreLastFrom query.network.now query.origin.0 query.window.first query.rides last.old }
         requires few { (p : ℕ) → slice_index last.old p ≤ END_OF_AXIS + MOST_FOOT_SECONDS }
         requires labels { length labels.old ≡ query.network.now.stops * batches_of query.window.minutes }
-        ensures { OnOk result (AreLabels query.entry.network.now query.entry.origin.0 query.entry.window query.entry.rides labels.new) }
+        ensures { OnOk result (AreLabels query.entry.network.now query.entry.origin.0 query.entry.window
+            query.entry.rides labels.new) }
     {
         if are_ranked::<Narrow>(most) && is_narrow_turn(&mut self.wide_left) {
             if by_narrow(alloc, query, &mut self.narrow, &mut self.wide, last, labels)? {
@@ -147,9 +148,11 @@ fn by_narrow(
     requires last { AreLastFrom query.network.now query.origin.0 query.window.first query.rides last.old }
     requires few { (p : ℕ) → slice_index last.old p ≤ END_OF_AXIS + MOST_FOOT_SECONDS }
     requires labels { length labels.old ≡ query.network.now.stops * batches_of query.window.minutes }
-    ensures last { OnOk result (AreLastFrom query.entry.network.now query.entry.origin.0 query.entry.window.first query.entry.rides last.new) }
+    ensures last { OnOk result (AreLastFrom query.entry.network.now query.entry.origin.0 query.entry.window.first
+        query.entry.rides last.new) }
     ensures few { (p : ℕ) → slice_index last.new p ≤ END_OF_AXIS + MOST_FOOT_SECONDS }
-    ensures told { IfOk result (λ told. IsTrue told → AreLabels query.entry.network.now query.entry.origin.0 query.entry.window query.entry.rides labels.new) }
+    ensures told { IfOk result (λ told. IsTrue told →
+        AreLabels query.entry.network.now query.entry.origin.0 query.entry.window query.entry.rides labels.new) }
 {
     query.network.known();
     tables.fit(alloc, query.network.stops() as usize, query.lines)?;
@@ -169,7 +172,8 @@ fn by_wide(
     requires last { AreLastFrom query.network.now query.origin.0 query.window.first query.rides last.old }
     requires few { (p : ℕ) → slice_index last.old p ≤ END_OF_AXIS + MOST_FOOT_SECONDS }
     requires labels { length labels.old ≡ query.network.now.stops * batches_of query.window.minutes }
-    ensures { OnOk result (AreLabels query.entry.network.now query.entry.origin.0 query.entry.window query.entry.rides labels.new) }
+    ensures { OnOk result (AreLabels query.entry.network.now query.entry.origin.0 query.entry.window query.entry.rides
+        labels.new) }
 {
     query.network.known();
     tables.fit(alloc, query.network.stops() as usize, query.lines)?;

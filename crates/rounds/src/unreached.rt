@@ -24,7 +24,10 @@ fn run_first(alloc: Global, query: Query<'_>, tables: &mut Tables<Lanes>) -> Res
     requires short { All (λ row. length row ≤ NEVER_VALUE) query.lines.now.lines }
     requires tables { AreTablesFor query.network.now.stops query.lines.now tables.old }
     ensures tables { OnOk result (AreTablesFor query.entry.network.now.stops query.entry.lines.now tables.new) }
-    ensures state { OnOk result (LaneStateTo NEVER_VALUE (cut_net 0 NEVER_VALUE query.entry.network.now) (start_at query.entry query.entry.window.first) query.entry.rides (lane 0 (labels_in (λ row. row) tables.new.ride.items)) (lane 0 (labels_in (λ row. row) tables.new.ready.items))) }
+    ensures state { OnOk result (LaneStateTo NEVER_VALUE (cut_net 0 NEVER_VALUE query.entry.network.now)
+        (start_at query.entry query.entry.window.first) query.entry.rides
+        (lane 0 (labels_in (λ row. row) tables.new.ride.items))
+        (lane 0 (labels_in (λ row. row) tables.new.ready.items))) }
 {
     query.network.known();
     let mut kept = no_kept(alloc, query.network.stops() as usize, query.rides)?;
@@ -56,7 +59,9 @@ fn leave_out<R: Row>(ride: &[R], ready: &[R], last: &mut [u32])
     requires ready { length ready.now ≡ length last.old }
     ensures same { length last.new ≡ length last.old }
     ensures falls { (p : ℕ) → slice_index last.new p ≤ slice_index last.old p }
-    ensures kept { (p : ℕ) → p < length last.old → arrival (lane 0 (labels_in R.labels ride.now)) (lane 0 (labels_in R.labels ready.now)) p ≢ R.NEVER → slice_index last.new p ≡ slice_index last.old p }
+    ensures kept { (p : ℕ) → p < length last.old →
+        arrival (lane 0 (labels_in R.labels ride.now)) (lane 0 (labels_in R.labels ready.now)) p ≢ R.NEVER →
+        slice_index last.new p ≡ slice_index last.old p }
 {
     for stop in 0..last.len() {
         let arrived = ride[stop].lower_of(ready[stop]).first();
@@ -77,7 +82,8 @@ pub(crate) fn leave_out_unreached(
     requires short { All (λ row. length row ≤ NEVER_VALUE) query.lines.now.lines }
     requires last { AreLastFrom query.network.now query.origin.0 query.window.first query.rides last.old }
     requires few { (p : ℕ) → slice_index last.old p ≤ END_OF_AXIS + MOST_FOOT_SECONDS }
-    ensures last { OnOk result (AreLastFrom query.entry.network.now query.entry.origin.0 query.entry.window.first query.entry.rides last.new) }
+    ensures last { OnOk result (AreLastFrom query.entry.network.now query.entry.origin.0 query.entry.window.first
+        query.entry.rides last.new) }
     ensures falls { (p : ℕ) → slice_index last.new p ≤ slice_index last.old p }
 {
     query.network.known();

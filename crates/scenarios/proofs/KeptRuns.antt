@@ -14,7 +14,8 @@ use Rattle.scenarios.proofs.MovedEvents.{same_length}
 pub as_many : (t : FeedTrip) (number : ℕ) (z : ℤ) → length (moved_trip t number z).events ≡ length t.events
 as_many t number z = length-map (instance_events t) _ ∙ same_length (has_rows t) t.events
 
-module _ (scenario : ScenarioData) (run : Run) (o : Option FeedTrip) (t : FeedTrip) (is : o ≡ Some t) (keeps : keeps_of scenario.edits run.trip t.route ≡ true) where
+module _ (scenario : ScenarioData) (run : Run) (o : Option FeedTrip) (t : FeedTrip) (is : o
+    ≡ Some t) (keeps : keeps_of scenario.edits run.trip t.route ≡ true) where
   pub kept : kept_trip scenario run o ≡ moved_trip t run.trip (sum_of scenario run) ∷ []
   kept = rw (is, keeps) refl
 

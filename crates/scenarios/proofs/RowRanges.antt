@@ -1,5 +1,6 @@
 -- The departures of a frequency row stay in range where its first and its last one do.
-use Rattle.std.proofs.Common.{◌≡◌, ◌∙◌, ◌<◌, ◌≤◌, ◌+◌, ◌-◌, ◌*◌, ◌/◌, ◌%◌, ◌&&◌, ◌||◌, ℕ, ℤ, Bool, true, false, not, cond, List, [], ◌∷◌, map, nat_le, nat_lt, get_or, refl, sym, ap, arith}
+use Rattle.std.proofs.Common.{◌≡◌, ◌∙◌, ◌<◌, ◌≤◌, ◌+◌, ◌-◌, ◌*◌, ◌/◌, ◌%◌, ◌&&◌, ◌||◌, ℕ, ℤ, Bool, true, false, not}
+use Rattle.std.proofs.Common.{cond, List, [], ◌∷◌, map, nat_le, nat_lt, get_or, refl, sym, ap, arith}
 use Rattle.std.proofs.Math.Nat.{mul-le-mul_left, mul-le-mul_right}
 use Rattle.std.proofs.lemmas.Bool.Decides.{nat_tests}
 use Rattle.std.proofs.lemmas.List.Folds.{list_all-map, list_all_at}
@@ -14,11 +15,13 @@ use Rattle.scenarios.specs.ShiftedTimes.{begins_in_range, ends_in_range, is_depa
 use Rattle.scenarios.proofs.KeptRuns.{and_false}
 use Rattle.scenarios.proofs.Ranges.{begins_later, ends_earlier}
 
-pub list_all-filter : {A : Type 0} (p q : A → Bool) (xs : List A) → list_all q (filter p xs) ≡ list_all (λ x. not (p x) || q x) xs
+pub list_all-filter : {A : Type 0} (p q : A → Bool) (xs : List A) →
+    list_all q (filter p xs) ≡ list_all (λ x. not (p x) || q x) xs
 list_all-filter p q [] = refl
 list_all-filter p q (x ∷ xs) = one (p x) ∙ ap (λ b. (not (p x) || q x) && b) (list_all-filter p q xs)
   where
-    one : (b : Bool) → list_all q (cond b (x ∷ filter p xs) (filter p xs)) ≡ ((not b || q x) && list_all q (filter p xs))
+    one : (b : Bool) → list_all q (cond b (x ∷ filter p xs) (filter p xs))
+        ≡ ((not b || q x) && list_all q (filter p xs))
     one true = refl
     one false = refl
 
@@ -53,10 +56,12 @@ module _ (z : ℤ) (span : ℕ) (row : Departures) (is : IsDeparting row) where
       ∙ list_all-map (λ t. not (nat_lt t row.end) || is_departure_in_range z span t) time (range_with_len 0 row.end)
 
   past : (x : ℕ) → row.end ≤ time x → passes x ≡ true
-  past x le = let off : nat_lt (time x) row.end ≡ false = grind (arith, nat_tests) in ap (λ b. not b || is_departure_in_range z span (time x)) off
+  past x le = let off : nat_lt (time x) row.end ≡ false = grind (arith, nat_tests) in
+      ap (λ b. not b || is_departure_in_range z span (time x)) off
 
   before : (x : ℕ) → time x < row.end → passes x ≡ is_departure_in_range z span (time x)
-  before x lt = let on : nat_lt (time x) row.end ≡ true = grind (arith, nat_tests) in ap (λ b. not b || is_departure_in_range z span (time x)) on
+  before x lt = let on : nat_lt (time x) row.end ≡ true = grind (arith, nat_tests) in
+      ap (λ b. not b || is_departure_in_range z span (time x)) on
 
   -- a row that ends no later than it starts has none
   pub none_in_row : row.end ≤ row.start → true ≡ list_all (is_departure_in_range z span) (departures_of row)
@@ -98,7 +103,8 @@ module _ (z : ℤ) (span : ℕ) (row : Departures) (is : IsDeparting row) where
             let rest : n % h < h = omega arith in
             absurd (omega arith)
 
-    by_ends : (b e : Bool) → begins_in_range z row.start ≡ b → ends_in_range z (last + span) ≡ e → (b && e) ≡ list_all passes (range_with_len 0 row.end)
+    by_ends : (b e : Bool) → begins_in_range z row.start ≡ b → ends_in_range z (last + span) ≡ e →
+        (b && e) ≡ list_all passes (range_with_len 0 row.end)
     by_ends true true hb he = sym (all_below passes row.end (λ x lt. at x (nat_lt (time x) row.end) refl))
       where
         at : (x : ℕ) (c : Bool) → nat_lt (time x) row.end ≡ c → passes x ≡ true
@@ -112,12 +118,15 @@ module _ (z : ℤ) (span : ℕ) (row : Departures) (is : IsDeparting row) where
     by_ends false e hb he =
         let first : time 0 ≡ row.start = omega arith in
         let begins : begins_in_range z (time 0) ≡ false = ap (begins_in_range z) first ∙ hb in
-        sym (one_below passes row.end 0 (omega arith) (before 0 (omega arith) ∙ ap (λ b. b && ends_in_range z (time 0 + span)) begins))
+        sym (one_below passes row.end 0 (omega arith) (before 0 (omega arith)
+        ∙ ap (λ b. b && ends_in_range z (time 0 + span)) begins))
     by_ends true false hb he =
         let (at, within, below) = last_time in
         let ends : ends_in_range z (time number + span) ≡ false = ap (λ t. ends_in_range z (t + span)) (sym at) ∙ he in
-        sym (one_below passes row.end number below (before number (omega arith) ∙ and_false (begins_in_range z (time number)) (ends_in_range z (time number + span)) ends))
+        sym (one_below passes row.end number below (before number (omega arith)
+        ∙ and_false (begins_in_range z (time number)) (ends_in_range z (time number + span)) ends))
 
     -- its first and its last departure decide
-    pub row_by_ends : (begins_in_range z row.start && ends_in_range z (last + span)) ≡ list_all (is_departure_in_range z span) (departures_of row)
+    pub row_by_ends : (begins_in_range z row.start && ends_in_range z (last + span))
+        ≡ list_all (is_departure_in_range z span) (departures_of row)
     row_by_ends = by_ends (begins_in_range z row.start) (ends_in_range z (last + span)) refl refl ∙ sym by_number

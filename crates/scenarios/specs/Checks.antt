@@ -24,9 +24,12 @@ pub record Finds (feed : FeedData) (c : EditCheck) (header fields : List (List �
   pub refused : refuses feed c.1 (field fields (column header c.0.now)) ≡ true
 
 -- one of the checks does, or the file has too many records
-pub record IsExplained (feed : FeedData) (table : List EditCheck) (header fields : List (List ℕ)) (w : ScenarioWhat) : Type 0 where
-  pub by : (w ≡ what.TooMany) ⊎ ((c : EditCheck) × ((i : ℕ) × (slice_get table i ≡ Some c)) × Finds feed c header fields w)
+pub record IsExplained (feed : FeedData) (table : List EditCheck) (header fields : List (List ℕ))
+    (w : ScenarioWhat) : Type 0 where
+  pub by : (w ≡ what.TooMany) ⊎ ((c : EditCheck) × ((i : ℕ) × (slice_get table i ≡ Some c))
+      × Finds feed c header fields w)
 
 -- so of each of these faults of a record
-pub record AreExplained (feed : FeedData) (table : List EditCheck) (header fields : List (List ℕ)) (faults : List ScenarioWhat) : Type 0 where
+pub record AreExplained (feed : FeedData) (table : List EditCheck) (header fields : List (List ℕ))
+    (faults : List ScenarioWhat) : Type 0 where
   pub each : All (IsExplained feed table header fields) faults

@@ -1,7 +1,9 @@
 -- The records of a scenario's file, one by one: an action, the identifier of a route or trip, and seconds for a shift.
--- (The product's own format, a table like those of a feed: columns `action`, `id` and `seconds`. Actions and identifiers are
+-- (The product's own format, a table like those of a feed: columns `action`, `id` and `seconds`. Actions and
+-- identifiers are
 -- compared byte by byte.)
-use Rattle.std.specs.Prelude.{◌==◌, ◌+◌, ◌++◌, ℕ, ℤ, List, [], ◌∷◌, Option, Some, None, codes, is_none, map, nat_le, nat_lt, neg_ℤ, option_and_then, option_map, pos, position, if◌then◌else◌}
+use Rattle.std.specs.Prelude.{◌==◌, ◌+◌, ◌++◌, ℕ, ℤ, List, [], ◌∷◌, Option, Some, None, codes, is_none, map, nat_le}
+use Rattle.std.specs.Prelude.{nat_lt, neg_ℤ, option_and_then, option_map, pos, position, if◌then◌else◌}
 use Rattle.std.specs.Str.{bytes_eq}
 use Rattle.table_records.specs.Columns.{column, field}
 use Rattle.table_records.specs.Fields.{number_of, trimmed}
@@ -23,11 +25,19 @@ pub record EditRow : Type 0 where
   pub seconds : List ℕ
 
 abbrev pub columns_of : List (List ℕ) → EditColumns
-columns_of header = record { action = column header (codes "action"); id = column header (codes "id"); seconds = column header (codes "seconds") }
+columns_of header = record {
+  action = column header (codes "action");
+  id = column header (codes "id");
+  seconds = column header (codes "seconds");
+}
 
 -- a record's fields, without the spaces around its seconds
 abbrev pub row_at : EditColumns → List (List ℕ) → EditRow
-row_at c fields = record { action = field fields c.action; id = field fields c.id; seconds = trimmed (field fields c.seconds) }
+row_at c fields = record {
+  action = field fields c.action;
+  id = field fields c.id;
+  seconds = trimmed (field fields c.seconds);
+}
 
 abbrev pub row_of : List (List ℕ) → List (List ℕ) → EditRow
 row_of header = row_at (columns_of header)
@@ -88,7 +98,8 @@ abbrev pub trip_removal_of : FeedData → List ℕ → Option Edit
 trip_removal_of feed id = option_map edit.RemoveTrip (trip_no feed id)
 
 abbrev pub trip_shift_of : FeedData → List ℕ → List ℕ → Option Edit
-trip_shift_of feed id seconds = option_and_then (λ trip. option_map (edit.Shift trip) (seconds_of seconds)) (trip_no feed id)
+trip_shift_of feed id seconds = option_and_then (λ trip. option_map (edit.Shift trip) (seconds_of seconds))
+    (trip_no feed id)
 
 abbrev pub edit_by : FeedData → EditRow → Option Action → Option Edit
 edit_by feed r None = None

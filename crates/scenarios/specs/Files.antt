@@ -1,4 +1,5 @@
--- The file of a scenario: a header, then one edit a record. First each record is checked, then the times of the trips that
+-- The file of a scenario: a header, then one edit a record. First each record is checked, then the times of the trips
+-- that
 -- all records together shift.
 use Rattle.std.specs.Prelude.{◌+◌, ◌++◌, ℕ, List, [], ◌∷◌, codes, map, if◌then◌else◌}
 use Rattle.std.specs.List.{filter_map}
@@ -23,7 +24,10 @@ missing_column = record { at = 1; what = what.MissingColumn }
 -- the faults of rows, the first of which is that of the record `at`
 abbrev pub faults_from : FeedData → ℕ → List EditRow → List ScenarioFault
 faults_from feed at [] = []
-faults_from feed at (r ∷ rs) = map (λ w. record { at = at; what = w }) (row_faults feed at r) ++ faults_from feed (at + 1) rs
+faults_from feed at (r ∷ rs) = map (λ w. record {
+  at = at;
+  what = w;
+}) (row_faults feed at r) ++ faults_from feed (at + 1) rs
 
 -- what rows do, in their order
 abbrev pub edits_of : FeedData → List EditRow → List Edit

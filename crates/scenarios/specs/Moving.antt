@@ -23,4 +23,5 @@ time_if_on_axis seconds time = if is_on_axis seconds time then Some (moved_time 
 -- a moved event, where it is on the axis
 abbrev pub moved_if_on_axis : Bool → ℤ → Event → Option Event
 moved_if_on_axis departs seconds e =
-    if is_event_on_axis seconds (departing_event departs e) then Some (moved_event seconds (departing_event departs e)) else None
+    if is_event_on_axis seconds (departing_event departs e) then Some (moved_event seconds (departing_event departs e))
+    else None

@@ -1,6 +1,7 @@
 -- The network of a scenario: the runs of the trips that it keeps, each with its times moved, and the footpaths.
 -- (Axis times lie from 0 to before 16,777,216. The limits are those of a network.)
-use Rattle.std.specs.Prelude.{◌&&◌, ◌+ℤ◌, ℕ, ℤ, Bool, true, not, List, [], ◌∷◌, Option, Some, None, int_lt, length, map, nat_le, pos, slice_get, sum_by, unsigned_abs, if◌then◌else◌}
+use Rattle.std.specs.Prelude.{◌&&◌, ◌+ℤ◌, ℕ, ℤ, Bool, true, not, List, [], ◌∷◌, Option, Some, None, int_lt, length, map}
+use Rattle.std.specs.Prelude.{nat_le, pos, slice_get, sum_by, unsigned_abs, if◌then◌else◌}
 use Rattle.std.specs.List.{flat_map, list_all}
 use Rattle.timetable.specs.declared.limits.TheConstants.{END_OF_AXIS, MOST_EVENTS, MOST_TRIPS}
 use Rattle.timetable.specs.declared.faults.NetFault.{NetFault}
@@ -37,7 +38,11 @@ sum_of scenario run = run.shift +ℤ shift_of scenario.edits run.trip
 
 -- the trip with a number, its instance moved by seconds
 abbrev pub moved_trip : FeedTrip → ℕ → ℤ → Trip
-moved_trip trip number seconds = record { route = trip.route; name = number; events = map (moved_event seconds) (instance_events trip) }
+moved_trip trip number seconds = record {
+  route = trip.route;
+  name = number;
+  events = map (moved_event seconds) (instance_events trip);
+}
 
 -- the trip of a run, where the scenario keeps it
 abbrev pub kept_trip : ScenarioData → Run → Option FeedTrip → List Trip
@@ -49,7 +54,8 @@ kept_trip scenario run (Some trip) =
 abbrev pub stays : ScenarioData → Run → Option FeedTrip → Bool
 stays scenario run None = true
 stays scenario run (Some trip) =
-    if keeps_of scenario.edits run.trip trip.route then list_all (is_event_on_axis (sum_of scenario run)) (instance_events trip) else true
+    if keeps_of scenario.edits run.trip trip.route then list_all (is_event_on_axis (sum_of scenario run))
+    (instance_events trip) else true
 
 -- the trips of the kept runs, in their order
 abbrev pub trips_of : FeedData → ScenarioData → List Run → List Trip

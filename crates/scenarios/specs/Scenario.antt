@@ -19,7 +19,8 @@ scenario_of s = record { name = name_of s.name; edits = s.edits.items }
 
 -- what is looked up by route or trip is what the edits do; past the end of a list nothing is removed or shifted
 pub record IsLookedUp (s : Inside) : Type 0 where
-  pub routes : (route : ℕ) → slice_index_or s.removed_routes.items route false ≡ list_any (removes_route route) s.edits.items
+  pub routes : (route : ℕ) → slice_index_or s.removed_routes.items route false
+      ≡ list_any (removes_route route) s.edits.items
   pub trips : (trip : ℕ) → slice_index_or s.removed_trips.items trip false ≡ list_any (removes_trip trip) s.edits.items
   pub shifts : (trip : ℕ) → slice_index_or s.shifts.items trip (pos 0) ≡ shift_of s.edits.items trip
   pub few : length s.edits.items ≤ MOST_EDITS

@@ -1,6 +1,9 @@
--- Which trips are shifted too far. All times of a trip, those of every departure where it has frequency rows, are to lie
--- between 0 and 1,999,999 seconds of its service day once all its shifts are added, whether or not it is kept or ever runs.
-use Rattle.std.specs.Prelude.{◌≡◌, ◌==◌, ◌&&◌, ◌+◌, ◌++◌, ◌+ℤ◌, ◌<◌, ⊤, ℕ, ℤ, Bool, false, not, List, [], ◌∷◌, MatchOption, Option, Some, None, int_lt, length, pos, slice_get, if◌then◌else◌}
+-- Which trips are shifted too far. All times of a trip, those of every departure where it has frequency rows, are to
+-- lie
+-- between 0 and 1,999,999 seconds of its service day once all its shifts are added, whether or not it is kept or ever
+-- runs.
+use Rattle.std.specs.Prelude.{◌≡◌, ◌==◌, ◌&&◌, ◌+◌, ◌++◌, ◌+ℤ◌, ◌<◌, ⊤, ℕ, ℤ, Bool, false, not, List, [], ◌∷◌}
+use Rattle.std.specs.Prelude.{MatchOption, Option, Some, None, int_lt, length, pos, slice_get, if◌then◌else◌}
 use Rattle.std.specs.List.{list_all, list_any}
 use Rattle.timetable.specs.declared.trips.Event.{Event}
 use Rattle.table_records.specs.Faults.{IsFirst}
@@ -35,7 +38,8 @@ is_departure_in_range seconds length time = begins_in_range seconds time && ends
 
 -- all times of all instances of a trip on a service day are
 abbrev pub is_trip_in_range : ℤ → FeedTrip → Bool
-is_trip_in_range seconds trip = list_all (λ run. list_all (is_event_in_range (run.shift +ℤ seconds)) (instance_events trip)) (runs_of_trip 0 0 trip)
+is_trip_in_range seconds trip = list_all
+    (λ run. list_all (is_event_in_range (run.shift +ℤ seconds)) (instance_events trip)) (runs_of_trip 0 0 trip)
 
 -- edits together shift a trip too far
 abbrev pub goes_out : List Edit → ℕ → Option FeedTrip → Bool
@@ -58,7 +62,8 @@ shifts_trip trip (Shift t seconds) = t == trip
 abbrev pub is_last_too_far : FeedData → List Edit → Edit → List Edit → Bool
 is_last_too_far feed all (RemoveRoute r) later = false
 is_last_too_far feed all (RemoveTrip t) later = false
-is_last_too_far feed all (Shift t seconds) later = not (list_any (shifts_trip t) later) && goes_out all t (slice_get feed.trips t)
+is_last_too_far feed all (Shift t seconds) later =
+    not (list_any (shifts_trip t) later) && goes_out all t (slice_get feed.trips t)
 
 -- the fault at a record
 abbrev pub too_far : ℕ → ScenarioFault

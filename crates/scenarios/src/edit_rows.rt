@@ -3,7 +3,9 @@ ghost use Rattle.std.specs.Prelude.{◌≡◌, ◌≤◌, ◌≤ℤ◌, [], IfEr
 ghost use Rattle.csv.specs.Records.{fields_of};
 ghost use Rattle.table_records.specs.Faults.{IsFirst};
 ghost use Rattle.scenarios.specs.declared.edits.TheConstants.{MOST_SHIFT};
-ghost use Rattle.scenarios.specs.EditRows.{action_of, columns_of, edit_of, route_faults, route_removal_of, row_at, row_faults, seconds_of, seconds_of_digits, shift_faults, trip_faults, trip_removal_of, trip_shift_of};
+ghost use Rattle.scenarios.specs.EditRows.{action_of, columns_of, edit_of, route_faults, route_removal_of, row_at};
+ghost use Rattle.scenarios.specs.EditRows.{row_faults, seconds_of, seconds_of_digits, shift_faults, trip_faults};
+ghost use Rattle.scenarios.specs.EditRows.{trip_removal_of, trip_shift_of};
 ghost use Rattle.scenarios.specs.Edits.{IsShift};
 
 use crate::edits::{Edit, MOST_EDITS, MOST_SHIFT};
@@ -81,7 +83,8 @@ fn action_in(text: &[u8]) -> Option<Action>
 
 /// The removal of the route with an identifier.
 fn route_removal(feed: &Feed, id: &[u8]) -> Result<Edit, ScenarioWhat>
-    ensures good { IfOk result (λ edit. (route_faults feed.now id.now ≡ []) × (route_removal_of feed.now id.now ≡ Some edit)) }
+    ensures good { IfOk result (λ edit. (route_faults feed.now id.now ≡ [])
+        × (route_removal_of feed.now id.now ≡ Some edit)) }
     ensures shift { IfOk result IsShift }
     ensures fault { IfErr result (λ e. IsFirst e (route_faults feed.now id.now)) }
 {
@@ -93,7 +96,8 @@ fn route_removal(feed: &Feed, id: &[u8]) -> Result<Edit, ScenarioWhat>
 
 /// The removal of the trip with an identifier.
 fn trip_removal(feed: &Feed, id: &[u8]) -> Result<Edit, ScenarioWhat>
-    ensures good { IfOk result (λ edit. (trip_faults feed.now id.now ≡ []) × (trip_removal_of feed.now id.now ≡ Some edit)) }
+    ensures good { IfOk result (λ edit. (trip_faults feed.now id.now ≡ [])
+        × (trip_removal_of feed.now id.now ≡ Some edit)) }
     ensures shift { IfOk result IsShift }
     ensures fault { IfErr result (λ e. IsFirst e (trip_faults feed.now id.now)) }
 {
@@ -105,7 +109,8 @@ fn trip_removal(feed: &Feed, id: &[u8]) -> Result<Edit, ScenarioWhat>
 
 /// The shift of the trip with an identifier by the seconds that a text says.
 fn trip_shift(feed: &Feed, id: &[u8], seconds: &[u8]) -> Result<Edit, ScenarioWhat>
-    ensures good { IfOk result (λ edit. (shift_faults feed.now id.now seconds.now ≡ []) × (trip_shift_of feed.now id.now seconds.now ≡ Some edit)) }
+    ensures good { IfOk result (λ edit. (shift_faults feed.now id.now seconds.now ≡ [])
+        × (trip_shift_of feed.now id.now seconds.now ≡ Some edit)) }
     ensures shift { IfOk result IsShift }
     ensures fault { IfErr result (λ e. IsFirst e (shift_faults feed.now id.now seconds.now)) }
 {

@@ -32,7 +32,8 @@ pub fn read_scenario(
     feed: &Feed,
 ) -> Result<Scenario, ScenarioFault>
     requires { length bytes.now ≤ MOST_BYTES }
-    ensures good { IfOk result (λ s. (scenario_faults bytes.now feed.now ≡ []) × (s ≡ scenario_in name.now bytes.now feed.now)) }
+    ensures good { IfOk result (λ s. (scenario_faults bytes.now feed.now ≡ [])
+        × (s ≡ scenario_in name.now bytes.now feed.now)) }
     ensures fault { IfErr result (λ e. Tells e (scenario_faults bytes.now feed.now)) }
 {
     let mut scenario = Scenario::named(alloc, Vec::from_slice(alloc, name)?);

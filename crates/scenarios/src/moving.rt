@@ -20,7 +20,8 @@ pub(crate) fn moved_trip(
     seconds: i64,
 ) -> Result<Trip, NetFault>
     requires { IsSum seconds }
-    ensures good { IfOk result (λ made. (list_all (spec.is_event_on_axis seconds) (instance_events trip.now) ≡ true) × (made ≡ spec.moved_trip trip.now number seconds)) }
+    ensures good { IfOk result (λ made. (list_all (spec.is_event_on_axis seconds) (instance_events trip.now) ≡ true)
+        × (made ≡ spec.moved_trip trip.now number seconds)) }
     ensures fault { IfErr result (λ e. (e ≡ net_fault.Memory)
         ⊎ ((e ≡ net_fault.TooLarge) × (list_all (spec.is_event_on_axis seconds) (instance_events trip.now) ≡ false))) }
 {
@@ -41,9 +42,11 @@ fn moved_events(
     seconds: i64,
 ) -> Result<Vec<Event>, NetFault>
     requires { IsSum seconds }
-    ensures good { IfOk result (λ made. (list_all (spec.is_event_on_axis seconds) (arriving departs events.now) ≡ true) × (made.items ≡ map (spec.moved_event seconds) (arriving departs events.now))) }
+    ensures good { IfOk result (λ made. (list_all (spec.is_event_on_axis seconds) (arriving departs events.now) ≡ true)
+        × (made.items ≡ map (spec.moved_event seconds) (arriving departs events.now))) }
     ensures fault { IfErr result (λ e. (e ≡ net_fault.Memory)
-        ⊎ ((e ≡ net_fault.TooLarge) × (list_all (spec.is_event_on_axis seconds) (arriving departs events.now) ≡ false))) }
+        ⊎ ((e ≡ net_fault.TooLarge) × (list_all (spec.is_event_on_axis seconds) (arriving departs events.now)
+        ≡ false))) }
 {
     let mut made = match Vec::with_capacity(alloc, events.len()) {
         Ok(made) => made,

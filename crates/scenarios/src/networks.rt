@@ -1,5 +1,6 @@
 //! The network of a scenario.
-ghost use Rattle.std.specs.Prelude.{◌≡◌, ◌+◌, ◌≤ℤ◌, ◌⊎◌, ◌++◌, ◌&&◌, [], All, IfErr, IfOk, OnOk, false, length, neg_ℤ, pos, slice_get, true};
+ghost use Rattle.std.specs.Prelude.{◌≡◌, ◌+◌, ◌≤ℤ◌, ◌⊎◌, ◌++◌, ◌&&◌, [], All, IfErr, IfOk, OnOk, false, length, neg_ℤ};
+ghost use Rattle.std.specs.Prelude.{pos, slice_get, true};
 ghost use Rattle.table_records.specs.Faults.{IsFirst};
 ghost use Rattle.timetable.specs.declared.faults.NetFault.TheVariants as net_fault;
 ghost use Rattle.service_days.specs.declared.day.TheConstants.{LAST_START};
@@ -52,8 +53,10 @@ fn kept_trips(
     runs: &[Run],
 ) -> Result<Vec<Trip>, NetFault>
     requires { All (IsRun feed.now) runs.now }
-    ensures good { IfOk result (λ trips. (fits feed.now scenario.now runs.now ≡ true) × (trips.items ≡ trips_of feed.now scenario.now runs.now)) }
-    ensures fault { IfErr result (λ e. (e ≡ net_fault.Memory) ⊎ ((e ≡ net_fault.TooLarge) × (fits feed.now scenario.now runs.now ≡ false))) }
+    ensures good { IfOk result (λ trips. (fits feed.now scenario.now runs.now ≡ true)
+        × (trips.items ≡ trips_of feed.now scenario.now runs.now)) }
+    ensures fault { IfErr result (λ e. (e ≡ net_fault.Memory)
+        ⊎ ((e ≡ net_fault.TooLarge) × (fits feed.now scenario.now runs.now ≡ false))) }
 {
     let mut trips = TripList::new(alloc);
     for run in runs {
@@ -74,7 +77,8 @@ fn add_run(
     ensures good { OnOk result ((stays scenario.now run (slice_get feed.now.trips run.trip) ≡ true)
         × (trips.new ≡ trips.old ++ kept_trip scenario.now run (slice_get feed.now.trips run.trip))) }
     ensures fault { IfErr result (λ e. (e ≡ net_fault.Memory)
-        ⊎ ((e ≡ net_fault.TooLarge) × ((are_few (trips.old ++ kept_trip scenario.now run (slice_get feed.now.trips run.trip))
+        ⊎ ((e ≡ net_fault.TooLarge) × ((are_few (trips.old ++ kept_trip scenario.now run
+        (slice_get feed.now.trips run.trip))
         && stays scenario.now run (slice_get feed.now.trips run.trip)) ≡ false))) }
 {
     if !scenario.keeps(feed, run.trip) {

@@ -1,5 +1,6 @@
 //! Values by the number of a route or trip. Past the end of a list stands what no edit has changed.
-ghost use Rattle.std.specs.Prelude.{◌≡◌, ◌<◌, ◌==◌, ◌||◌, ◌+ℤ◌, ℕ, OnOk, pos, false, slice_index_or, vec_len, if◌then◌else◌};
+ghost use Rattle.std.specs.Prelude.{◌≡◌, ◌<◌, ◌==◌, ◌||◌, ◌+ℤ◌, ℕ, OnOk, pos, false, slice_index_or, vec_len};
+ghost use Rattle.std.specs.Prelude.{if◌then◌else◌};
 ghost use Rattle.scenarios.specs.Moving.{IsSum};
 
 use std::alloc::AllocError;
@@ -20,7 +21,8 @@ pub(crate) fn shift_at(shifts: &[i64], number: u32) -> i64
 
 /// Sets the flag at a number.
 pub(crate) fn raise_flag(flags: &mut Vec<bool>, number: u32) -> Result<(), AllocError>
-    ensures { OnOk result ((k : ℕ) → slice_index_or flags.new.items k false ≡ (slice_index_or flags.old.items k false || (number == k))) }
+    ensures { OnOk result ((k : ℕ) → slice_index_or flags.new.items k false
+        ≡ (slice_index_or flags.old.items k false || (number == k))) }
 {
     make_room(flags, number, false)?;
     flags[number as usize] = true;
@@ -32,7 +34,8 @@ pub(crate) fn add_shift(shifts: &mut Vec<i64>, number: u32, seconds: i64)
     requires there { number < vec_len shifts.old }
     requires shift { IsSum (slice_index_or shifts.old.items number (pos 0)) }
     requires seconds { IsSum seconds }
-    ensures { (k : ℕ) → slice_index_or shifts.new.items k (pos 0) ≡ slice_index_or shifts.old.items k (pos 0) +ℤ (if number == k then seconds else pos 0) }
+    ensures { (k : ℕ) → slice_index_or shifts.new.items k (pos 0)
+        ≡ slice_index_or shifts.old.items k (pos 0) +ℤ (if number == k then seconds else pos 0) }
 {
     shifts[number as usize] += seconds;
 }

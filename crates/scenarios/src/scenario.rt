@@ -1,5 +1,6 @@
 //! Scenarios: which trips they keep, and by how much they shift them.
-ghost use Rattle.std.specs.Prelude.{◌≡◌, ◌<◌, ◌≤ℤ◌, [], IfSome, Some, codes, length, neg_ℤ, pos, slice_get, slice_index_or, false};
+ghost use Rattle.std.specs.Prelude.{◌≡◌, ◌<◌, ◌≤ℤ◌, [], IfSome, Some, codes, length, neg_ℤ, pos, slice_get};
+ghost use Rattle.std.specs.Prelude.{slice_index_or, false};
 ghost use Rattle.std.specs.Option.{option_map};
 
 use crate::edits::Edit;
@@ -48,7 +49,8 @@ pub fn base(alloc: Global) -> Scenario
 }
 
 impl Scenario {
-    ghost use Rattle.std.specs.Prelude.{◌≡◌, ◌<◌, ◌≤ℤ◌, ◌++◌, ◌∷◌, [], Some, IfSome, OnErr, OnOk, length, neg_ℤ, pos, slice_get, slice_index_or, false};
+    ghost use Rattle.std.specs.Prelude.{◌≡◌, ◌<◌, ◌≤ℤ◌, ◌++◌, ◌∷◌, [], Some, IfSome, OnErr, OnOk, length, neg_ℤ, pos};
+    ghost use Rattle.std.specs.Prelude.{slice_get, slice_index_or, false};
     ghost use Rattle.std.specs.Option.{MatchOption};
     ghost use Rattle.scenarios.specs.declared.edits.Edit.TheVariants as edits;
     ghost use Rattle.scenarios.specs.declared.edits.TheConstants.{MOST_EDITS};
@@ -102,7 +104,10 @@ impl Scenario {
     // Adds the removal of a route.
     fn remove_route(&mut self, route: u32) -> Result<(), AllocError>
         requires { length self.old.edits < MOST_EDITS }
-        ensures good { OnOk result (self.new ≡ record self.old { edits = self.old.edits ++ edits.RemoveRoute route ∷ [] }) }
+        ensures good { OnOk result (self.new ≡ record self.old {
+          edits =
+              self.old.edits ++ edits.RemoveRoute route ∷ [];
+        }) }
         ensures err { OnErr result (self.new ≡ self.old) }
     {
         make_room(&mut self.removed_routes, route, false)?;
@@ -114,7 +119,10 @@ impl Scenario {
     // Adds the removal of a trip.
     fn remove_trip(&mut self, trip: u32) -> Result<(), AllocError>
         requires { length self.old.edits < MOST_EDITS }
-        ensures good { OnOk result (self.new ≡ record self.old { edits = self.old.edits ++ edits.RemoveTrip trip ∷ [] }) }
+        ensures good { OnOk result (self.new ≡ record self.old {
+          edits =
+              self.old.edits ++ edits.RemoveTrip trip ∷ [];
+        }) }
         ensures err { OnErr result (self.new ≡ self.old) }
     {
         make_room(&mut self.removed_trips, trip, false)?;
@@ -128,7 +136,10 @@ impl Scenario {
         requires few { length self.old.edits < MOST_EDITS }
         requires low { neg_ℤ (pos 604799) ≤ℤ seconds }
         requires high { seconds ≤ℤ pos 604799 }
-        ensures good { OnOk result (self.new ≡ record self.old { edits = self.old.edits ++ edits.Shift trip seconds ∷ [] }) }
+        ensures good { OnOk result (self.new ≡ record self.old {
+          edits =
+              self.old.edits ++ edits.Shift trip seconds ∷ [];
+        }) }
         ensures err { OnErr result (self.new ≡ self.old) }
     {
         make_room(&mut self.shifts, trip, 0)?;
@@ -140,7 +151,8 @@ impl Scenario {
     /// Whether the scenario keeps a trip of the feed: no row removes it or its route.
     pub fn keeps(&self, feed: &Feed, trip: u32) -> bool
         requires { trip < length feed.now.trips }
-        ensures { (t : FeedTrip) → slice_get feed.now.trips trip ≡ Some t → result ≡ keeps_of self.now.edits trip t.route }
+        ensures { (t : FeedTrip) → slice_get feed.now.trips trip ≡ Some t →
+            result ≡ keeps_of self.now.edits trip t.route }
     {
         let route = feed.trip(trip).route;
         !flag_at(&self.removed_trips, trip) && !flag_at(&self.removed_routes, route)

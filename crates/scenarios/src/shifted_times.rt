@@ -1,5 +1,6 @@
 //! Whether shifted trips stay within the times of a service day.
-ghost use Rattle.std.specs.Prelude.{◌≡◌, ◌≤◌, ◌<◌, ◌+◌, ◌&&◌, ◌∷◌, ℕ, List, [], All, IfErr, IfOk, OnOk, false, length, slice_index_or};
+ghost use Rattle.std.specs.Prelude.{◌≡◌, ◌≤◌, ◌<◌, ◌+◌, ◌&&◌, ◌∷◌, ℕ, List, [], All, IfErr, IfOk, OnOk, false, length};
+ghost use Rattle.std.specs.Prelude.{slice_index_or};
 ghost use Rattle.std.specs.List.{list_all, list_any};
 ghost use Rattle.timetable.specs.Trips.{EventsRise};
 ghost use Rattle.gtfs_tables.specs.Feed.{IsDeparting};
@@ -64,7 +65,8 @@ fn is_last_too_far(
     edit: Edit,
 ) -> Result<bool, AllocError>
     requires { NamesTrip feed.now edit }
-    ensures { IfOk result (λ is. (rest : List Edit) → ((k : ℕ) → slice_index_or later.old.items k false ≡ list_any (shifts_trip k) rest)
+    ensures { IfOk result (λ is. (rest : List Edit) →
+        ((k : ℕ) → slice_index_or later.old.items k false ≡ list_any (shifts_trip k) rest)
         → (is ≡ spec.is_last_too_far feed.now scenario.now.edits edit rest)
         × ((k : ℕ) → slice_index_or later.new.items k false ≡ list_any (shifts_trip k) (edit ∷ rest))) }
 {
@@ -106,7 +108,8 @@ fn are_rows_in_range(rows: &[Departures], length: u32, seconds: i64) -> bool
     requires seconds { IsSum seconds }
     requires length { length ≤ 604799 }
     requires rows { All IsDeparting rows.now }
-    ensures { result ≡ list_all (λ row. list_all (spec.is_departure_in_range seconds length) (departures_of row)) rows.now }
+    ensures { result ≡ list_all (λ row. list_all (spec.is_departure_in_range seconds length) (departures_of row))
+        rows.now }
 {
     for row in rows {
         if !is_row_in_range(row, length, seconds) {

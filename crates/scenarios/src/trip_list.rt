@@ -23,7 +23,8 @@ impl Model for TripList {
 
     ghost view = { λ l. l.trips.items };
 
-    ghost invariant = { λ l. (length l.trips.items ≤ MOST_TRIPS) × (l.events ≡ sum_by (λ t. length t.events) l.trips.items) × (l.events ≤ MOST_EVENTS) };
+    ghost invariant = { λ l. (length l.trips.items ≤ MOST_TRIPS)
+        × (l.events ≡ sum_by (λ t. length t.events) l.trips.items) × (l.events ≤ MOST_EVENTS) };
 }
 
 impl TripList {
@@ -41,7 +42,8 @@ impl TripList {
 
     /// Whether there is room for one more trip, which has so many events.
     pub(crate) fn has_room(&self, events: usize) -> bool
-        ensures { IsTrue result ↔ ((length self.now < MOST_TRIPS) × (sum_by (λ t. length t.events) self.now + events ≤ MOST_EVENTS)) }
+        ensures { IsTrue result ↔ ((length self.now < MOST_TRIPS)
+            × (sum_by (λ t. length t.events) self.now + events ≤ MOST_EVENTS)) }
     {
         self.trips.len() < MOST_TRIPS && events <= MOST_EVENTS - self.events
     }

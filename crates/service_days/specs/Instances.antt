@@ -1,7 +1,8 @@
 -- The instances of a feed's trips on the service days of a study, as runs: what is added to the times of which trip.
 -- A trip runs once on each day of its service; with rows in frequencies.txt it runs only as their departures.
 -- (GTFS Schedule reference, frequencies.txt. Service days lie 86,400 seconds apart on the axis.)
-use Rattle.std.specs.Prelude.{◌≡◌, ◌==◌, ◌||◌, ◌+◌, ◌-◌, ◌*◌, ◌<◌, ◌≤ℤ◌, ◌+ℤ◌, ◌-ℤ◌, ℕ, Bool, not, List, [], ◌∷◌, ◌++◌, All, Some, length, map, nat_lt, neg_ℤ, pos, slice_get, if◌then◌else◌}
+use Rattle.std.specs.Prelude.{◌≡◌, ◌==◌, ◌||◌, ◌+◌, ◌-◌, ◌*◌, ◌<◌, ◌≤ℤ◌, ◌+ℤ◌, ◌-ℤ◌, ℕ, Bool, not, List, [], ◌∷◌, ◌++◌}
+use Rattle.std.specs.Prelude.{All, Some, length, map, nat_lt, neg_ℤ, pos, slice_get, if◌then◌else◌}
 use Rattle.std.specs.List.{enumerate_from, filter, flat_map, range_with_len}
 use Rattle.timetable.specs.declared.trips.Event.{Event}
 use Rattle.table_files.specs.declared.frequencies.Departures.{Departures}
@@ -34,7 +35,8 @@ instance_events trip = if has_rows trip then arriving_at_departure trip.events e
 
 -- the departures of a frequency row: start + x * headway for x = 0, 1, .. strictly below its end
 abbrev pub departures_of : Departures → List ℕ
-departures_of row = filter (λ time. nat_lt time row.end) (map (λ x. row.start + x * row.headway) (range_with_len 0 row.end))
+departures_of row = filter (λ time. nat_lt time row.end)
+    (map (λ x. row.start + x * row.headway) (range_with_len 0 row.end))
 
 -- the run that departs at a time of the day, where the trip first departs at another
 abbrev pub departing : ℕ → ℕ → ℕ → ℕ → Run
@@ -57,7 +59,8 @@ runs_if feed day base number trip = if runs_on feed trip.service day then runs_o
 
 -- the runs of all trips on a day, trip by trip
 abbrev pub runs_of_day : FeedData → ℕ → ℕ → List Run
-runs_of_day feed day base = flat_map (λ (at : ℕ × FeedTrip). runs_if feed day base at.0 at.1) (enumerate_from 0 feed.trips)
+runs_of_day feed day base = flat_map (λ (at : ℕ × FeedTrip). runs_if feed day base at.0 at.1)
+    (enumerate_from 0 feed.trips)
 
 -- the runs of successive days, day by day
 abbrev pub runs_of_days : FeedData → ℕ → ℕ → List Run
@@ -83,7 +86,8 @@ IsListFault DateRange n = ⊥
 IsListFault TooMany n = MOST_RUNS < n
 IsListFault Memory n = Unit {0}
 
--- a run names a trip that has events, and moves its times by less than a week back and by no more than a week and all days of the
+-- a run names a trip that has events, and moves its times by less than a week back and by no more than a week and all
+-- days of the
 -- calendar ahead, none of them to before the axis
 pub record IsRun (feed : FeedData) (run : Run) : Type 0 where
   pub trip : FeedTrip
@@ -91,4 +95,5 @@ pub record IsRun (feed : FeedData) (run : Run) : Type 0 where
   pub has_events : 0 < length trip.events
   pub low : neg_ℤ (pos 604799) ≤ℤ run.shift
   pub high : run.shift ≤ℤ pos (LAST_START + 604799)
-  pub times : All (λ e. (pos 0 ≤ℤ (pos e.arrive +ℤ run.shift)) × (pos 0 ≤ℤ (pos e.depart +ℤ run.shift))) (instance_events trip)
+  pub times : All (λ e. (pos 0 ≤ℤ (pos e.arrive +ℤ run.shift))
+      × (pos 0 ≤ℤ (pos e.depart +ℤ run.shift))) (instance_events trip)

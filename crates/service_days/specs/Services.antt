@@ -31,4 +31,5 @@ runs_on feed service day =
 -- for each service of the feed, whether it runs on the day
 pub record IsServiceDay (feed : FeedData) (day : ServiceDay) : Type 0 where
   pub count : length day.running.items ≡ length feed.services
-  pub each : (service : ℕ) → service < length feed.services → slice_index_or day.running.items service false ≡ runs_on feed service day.number
+  pub each : (service : ℕ) → service < length feed.services →
+      slice_index_or day.running.items service false ≡ runs_on feed service day.number

@@ -50,7 +50,8 @@ fn add_rows(
     requires first { first ≤ 604799 }
     requires rows { All IsDeparting rows.now }
     ensures good { OnOk result (runs.new ≡ runs.old ++ flat_map (runs_of_row base trip first) rows.now) }
-    ensures fault { IfErr result (λ e. IsListFault e (length runs.old + length (flat_map (runs_of_row base trip first) rows.now))) }
+    ensures fault { IfErr result (λ e. IsListFault e
+        (length runs.old + length (flat_map (runs_of_row base trip first) rows.now))) }
 {
     for row in rows {
         add_row(runs, base, trip, first, row)?;
@@ -89,7 +90,8 @@ fn add_row(
 /// How many departures a frequency row has: those before its end.
 fn departure_count(row: &Departures) -> u32
     requires { IsDeparting row.now }
-    ensures departures { departures_of row.now ≡ map (λ x. row.now.start + x * row.now.headway) (range_with_len 0 result) }
+    ensures departures { departures_of row.now
+        ≡ map (λ x. row.now.start + x * row.now.headway) (range_with_len 0 result) }
     ensures before_end { (x : ℕ) → x < result → row.now.start + x * row.now.headway < row.now.end }
 {
     if row.end <= row.start {

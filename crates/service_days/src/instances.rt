@@ -1,11 +1,13 @@
 //! The runs of a study: the trips that run on its service days.
-ghost use Rattle.std.specs.Prelude.{◌≡◌, ◌⊎◌, ◌≤◌, ◌<◌, ◌+◌, ◌++◌, ◌*◌, [], All, IfErr, IfOk, OnOk, Some, length, slice_get};
+ghost use Rattle.std.specs.Prelude.{◌≡◌, ◌⊎◌, ◌≤◌, ◌<◌, ◌+◌, ◌++◌, ◌*◌, [], All, IfErr, IfOk, OnOk, Some, length};
+ghost use Rattle.std.specs.Prelude.{slice_get};
 ghost use Rattle.table_records.specs.Faults.{IsFirst};
 ghost use Rattle.gtfs_tables.specs.Feed.{day_number};
 ghost use Rattle.service_days.specs.declared.day.TheConstants.{LAST_DAY, LAST_START};
 ghost use Rattle.service_days.specs.declared.fault.DayFault.TheVariants as day_fault;
 ghost use Rattle.service_days.specs.Services.{IsServiceDay};
-ghost use Rattle.service_days.specs.Instances.{IsListFault, IsRun, day_faults, runs_if, runs_of, runs_of_day, runs_of_days};
+ghost use Rattle.service_days.specs.Instances.{IsListFault, IsRun, day_faults, runs_if, runs_of, runs_of_day};
+ghost use Rattle.service_days.specs.Instances.{runs_of_days};
 
 use crate::day::{LAST_DAY, number_of};
 use crate::departures::add_trip;
@@ -35,7 +37,8 @@ pub fn active(
     ensures good { IfOk result (λ runs. (day_faults feed.now (day_number date) back ahead ≡ [])
         × (runs.items ≡ runs_of feed.now (day_number date) back ahead)) }
     ensures runs { IfOk result (λ runs. All (IsRun feed.now) runs.items) }
-    ensures fault { IfErr result (λ e. (e ≡ day_fault.Memory) ⊎ IsFirst e (day_faults feed.now (day_number date) back ahead)) }
+    ensures fault { IfErr result (λ e. (e ≡ day_fault.Memory)
+        ⊎ IsFirst e (day_faults feed.now (day_number date) back ahead)) }
 {
     feed.known();
     let day = number_of(date);
@@ -71,7 +74,8 @@ fn add_day(runs: &mut RunList, feed: &Feed, day: &ServiceDay, base: u64) -> Resu
     requires base { base ≤ LAST_START }
     requires day { IsServiceDay feed.now day.now }
     ensures good { OnOk result (runs.new ≡ runs.old ++ runs_of_day feed.now day.now.number base) }
-    ensures fault { IfErr result (λ e. IsListFault e (length runs.old + length (runs_of_day feed.now day.now.number base))) }
+    ensures fault { IfErr result (λ e. IsListFault e
+        (length runs.old + length (runs_of_day feed.now day.now.number base))) }
 {
     for number in 0..feed.trip_count() {
         add_if_running(runs, feed, day, base, number, feed.trip(number))?;
@@ -92,7 +96,8 @@ fn add_if_running(
     requires day { IsServiceDay feed.now day.now }
     requires trip { slice_get feed.now.trips number ≡ Some trip.now }
     ensures good { OnOk result (runs.new ≡ runs.old ++ runs_if feed.now day.now.number base number trip.now) }
-    ensures fault { IfErr result (λ e. IsListFault e (length runs.old + length (runs_if feed.now day.now.number base number trip.now))) }
+    ensures fault { IfErr result (λ e. IsListFault e
+        (length runs.old + length (runs_if feed.now day.now.number base number trip.now))) }
 {
     feed.known();
     if !day.running[trip.service as usize] {

@@ -1,6 +1,7 @@
 //! On which days services run: their weekdays between two dates, with dates added and dates removed.
 //! (GTFS Schedule reference, `calendar.txt` and `calendar_dates.txt`.)
-ghost use Rattle.std.specs.Prelude.{◌≡◌, ◌≤◌, ◌<◌, ◌+◌, ◌==◌, ◌&&◌, ◌||◌, if◌then◌else◌, ℕ, IfOk, false, length, not, slice_index_or};
+ghost use Rattle.std.specs.Prelude.{◌≡◌, ◌≤◌, ◌<◌, ◌+◌, ◌==◌, ◌&&◌, ◌||◌, if◌then◌else◌, ℕ, IfOk, false, length, not};
+ghost use Rattle.std.specs.Prelude.{slice_index_or};
 ghost use Rattle.std.specs.List.{list_any};
 ghost use Rattle.gtfs_tables.specs.Feed.{calendar_data, day_number, exception_data};
 ghost use Rattle.service_days.specs.Services as spec;
@@ -69,7 +70,8 @@ impl ServiceDay {
 /// Marks those that run on the day, of as many services from `first` on as there are marks, where none is marked yet.
 fn mark_running(running: &mut [bool], first: u32, feed: &Feed, day: Day)
     requires { (k : ℕ) → k < length running.old → slice_index_or running.old k false ≡ false }
-    ensures { (k : ℕ) → k < length running.old → slice_index_or running.new k false ≡ runs_on feed.now (first + k) day.number }
+    ensures { (k : ℕ) → k < length running.old →
+        slice_index_or running.new k false ≡ runs_on feed.now (first + k) day.number }
 {
     let exceptions = feed.exceptions();
     mark_scheduled(running, first, feed.calendar(), day);
@@ -80,7 +82,8 @@ fn mark_running(running: &mut [bool], first: u32, feed: &Feed, day: Day)
 /// Marks the services that the calendar has run on the day.
 fn mark_scheduled(running: &mut [bool], first: u32, calendar: &[CalendarRow], day: Day)
     ensures { (k : ℕ) → k < length running.old → slice_index_or running.new k false
-        ≡ (slice_index_or running.old k false || list_any (λ row. spec.schedules (first + k) day.number (calendar_data row)) calendar.now) }
+        ≡ (slice_index_or running.old k false || list_any
+        (λ row. spec.schedules (first + k) day.number (calendar_data row)) calendar.now) }
 {
     for row in calendar {
         if covers(row, day) {
@@ -92,7 +95,8 @@ fn mark_scheduled(running: &mut [bool], first: u32, calendar: &[CalendarRow], da
 /// Unmarks the services from which the day is removed.
 fn unmark_removed(running: &mut [bool], first: u32, exceptions: &[ExceptionRow], day: Day)
     ensures { (k : ℕ) → k < length running.old → slice_index_or running.new k false
-        ≡ (slice_index_or running.old k false && not (list_any (λ row. spec.removes (first + k) day.number (exception_data row)) exceptions.now)) }
+        ≡ (slice_index_or running.old k false && not
+        (list_any (λ row. spec.removes (first + k) day.number (exception_data row)) exceptions.now)) }
 {
     for row in exceptions {
         if removes(row, day) {
@@ -104,7 +108,8 @@ fn unmark_removed(running: &mut [bool], first: u32, exceptions: &[ExceptionRow],
 /// Marks the services to which the day is added.
 fn mark_added(running: &mut [bool], first: u32, exceptions: &[ExceptionRow], day: Day)
     ensures { (k : ℕ) → k < length running.old → slice_index_or running.new k false
-        ≡ (slice_index_or running.old k false || list_any (λ row. spec.adds (first + k) day.number (exception_data row)) exceptions.now) }
+        ≡ (slice_index_or running.old k false || list_any (λ row. spec.adds (first + k) day.number (exception_data row))
+        exceptions.now) }
 {
     for row in exceptions {
         if adds(row, day) {

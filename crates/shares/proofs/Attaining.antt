@@ -3,7 +3,9 @@ use Rattle.std.proofs.Math.ListN.{get_or-append}
 use Rattle.std.proofs.Math.Seq.{get_or-append_seam}
 use Rattle.std.proofs.lemmas.Bool.{cases_lt, cases_eq}
 use Rattle.rounds.specs.Table.{Times}
-use Rattle.std.proofs.Common.{List, [], ◌∷◌, ◌++◌, get_or, length, sym, subst, inl, inr, ◌≡◌, ◌≤◌, ◌<◌, ◌+◌, ℕ, zero, suc, Bool, false, Option, Some, None, nat_le, arith, refl, if◌then◌else◌, ◌==◌, unwrap_or, ap, ◌∙◌}
+use Rattle.std.proofs.Common.{List, [], ◌∷◌, ◌++◌, get_or, length, sym, subst, inl, inr, ◌≡◌, ◌≤◌, ◌<◌, ◌+◌, ℕ, zero}
+use Rattle.std.proofs.Common.{suc, Bool, false, Option, Some, None, nat_le, arith, refl, if◌then◌else◌, ◌==◌, unwrap_or}
+use Rattle.std.proofs.Common.{ap, ◌∙◌}
 use Rattle.timetable.specs.declared.least.TheConstants.{NEVER}
 use Rattle.rounds.specs.Table.{known_of, IsLeastOrNone}
 use Rattle.std.proofs.lemmas.Bool.Decides.{nat_tests}
@@ -37,27 +39,34 @@ pub attains_more : (ds : ℕ → Option ℕ) (n share d e : ℕ) → d ≤ e →
 attains_more ds n share d e h a = let m = count_more ds n d e h in omega (arith, m, a)
 
 -- beyond all durations a longer limit adds nothing
-within_top : (x : Option ℕ) (d e : ℕ) → ((s : ℕ) → x ≡ Some s → s ≤ d) → (if is_within e x then 1 else 0) ≤ (if is_within d x then 1 else 0)
+within_top : (x : Option ℕ) (d e : ℕ) → ((s : ℕ) → x ≡ Some s → s ≤ d) →
+    (if is_within e x then 1 else 0) ≤ (if is_within d x then 1 else 0)
 within_top None d e h = omega arith
 within_top (Some x) d e h = let low = h x refl in grind (arith, nat_tests)
 
-pub count_top : (ds : ℕ → Option ℕ) (n d e : ℕ) → ((m s : ℕ) → m < n → ds m ≡ Some s → s ≤ d) → minutes_within ds e n ≤ minutes_within ds d n
+pub count_top : (ds : ℕ → Option ℕ) (n d e : ℕ) → ((m s : ℕ) → m < n → ds m ≡ Some s → s ≤ d) →
+    minutes_within ds e n ≤ minutes_within ds d n
 count_top ds zero d e h = omega arith
 count_top ds (suc n) d e h =
     let rest = count_top ds n d e (λ m s l. h m s (omega (arith, l))) in
     let head = within_top (ds n) d e (λ s. h n s (omega arith)) in
     omega (arith, rest, head)
 
-pub attains_top : (ds : ℕ → Option ℕ) (n share d e : ℕ) → ((m s : ℕ) → m < n → ds m ≡ Some s → s ≤ d) → Attains ds n share e → Attains ds n share d
+pub attains_top : (ds : ℕ → Option ℕ) (n share d e : ℕ) → ((m s : ℕ) → m < n → ds m ≡ Some s → s ≤ d) →
+    Attains ds n share e → Attains ds n share d
 attains_top ds n share d e h a = let m = count_top ds n d e h in omega (arith, m, a)
 
-pub cells_more : (t : Times) (share : ℕ) (cs : List (Option ℕ)) (c : Option ℕ) (n : ℕ) → length cs ≡ n → ((p : ℕ) → p < n → IsCell t share p (get_or cs p None)) → IsCell t share n c → (p : ℕ) → p < n + 1 → IsCell t share p (get_or (cs ++ c ∷ []) p None)
+pub cells_more : (t : Times) (share : ℕ) (cs : List (Option ℕ)) (c : Option ℕ) (n : ℕ) → length cs ≡ n →
+    ((p : ℕ) → p < n → IsCell t share p (get_or cs p None)) → IsCell t share n c → (p : ℕ) → p < n + 1 →
+    IsCell t share p (get_or (cs ++ c ∷ []) p None)
 cells_more t share cs c n same before last p h = elim (cases_lt p n) [
-  | inl l ↦ subst (λ (o : Option ℕ). IsCell t share p o) (sym (get_or-append cs (c ∷ []) None p (let k : p < length cs = omega (arith, l, same) in k))) (before p l)
+  | inl l ↦ subst (λ (o : Option ℕ). IsCell t share p o)
+      (sym (get_or-append cs (c ∷ []) None p (let k : p < length cs = omega (arith, l, same) in k))) (before p l)
   | inr g ↦
       let here : length cs ≡ p = omega (arith, h, g, same) in
       let there : n ≡ p = omega (arith, h, g) in
-      let row : c ≡ get_or (cs ++ c ∷ []) p None = subst (λ (k : ℕ). c ≡ get_or (cs ++ c ∷ []) k None) here (sym (get_or-append_seam cs c [] None)) in
+      let row : c ≡ get_or (cs ++ c ∷ []) p None =
+      subst (λ (k : ℕ). c ≡ get_or (cs ++ c ∷ []) k None) here (sym (get_or-append_seam cs c [] None)) in
       subst (λ (o : Option ℕ). IsCell t share p o) row (subst (λ (k : ℕ). IsCell t share k c) there last)
 ]
 
@@ -65,27 +74,37 @@ inner : (a b : StopNo) → Some a ≡ Some b → a ≡ b
 inner a b e = cc
 
 -- a cell more, of one more destination
-pub cells_at_more : (t : Times) (share : ℕ) (ds : List StopNo) (cs : List (Option ℕ)) (c : Option ℕ) (k : ℕ) (stop : StopNo) → length cs ≡ k
+pub cells_at_more : (t : Times) (share : ℕ) (ds : List StopNo) (cs : List (Option ℕ)) (c : Option ℕ) (k : ℕ)
+    (stop : StopNo) → length cs ≡ k
     → ((j : ℕ) (other : StopNo) → j < k → slice_get ds j ≡ Some other → IsCell t share other.0 (get_or cs j None))
     → slice_get ds k ≡ Some stop → IsCell t share stop.0 c
-    → (j : ℕ) (other : StopNo) → j < k + 1 → slice_get ds j ≡ Some other → IsCell t share other.0 (get_or (cs ++ c ∷ []) j None)
+    → (j : ℕ) (other : StopNo) → j < k + 1 → slice_get ds j ≡ Some other →
+    IsCell t share other.0 (get_or (cs ++ c ∷ []) j None)
 cells_at_more t share ds cs c k stop same before here last j other h at = elim (cases_lt j k) [
   | inl l ↦
-      subst (λ (o : Option ℕ). IsCell t share other.0 o) (sym (get_or-append cs (c ∷ []) None j (let low : j < length cs = omega (arith, l, same) in low))) (before j other l at)
+      subst (λ (o : Option ℕ). IsCell t share other.0 o)
+      (sym (get_or-append cs (c ∷ []) None j (let low : j < length cs = omega (arith, l, same) in
+      low))) (before j other l at)
   | inr g ↦
       let there : k ≡ j = omega (arith, h, g) in
       let end : length cs ≡ j = omega (arith, h, g, same) in
       let is : stop ≡ other = inner stop other (sym here ∙ ap (λ (n : ℕ). slice_get ds n) there ∙ at) in
-      let row : c ≡ get_or (cs ++ c ∷ []) j None = subst (λ (n : ℕ). c ≡ get_or (cs ++ c ∷ []) n None) end (sym (get_or-append_seam cs c [] None)) in
+      let row : c ≡ get_or (cs ++ c ∷ []) j None =
+      subst (λ (n : ℕ). c ≡ get_or (cs ++ c ∷ []) n None) end (sym (get_or-append_seam cs c [] None)) in
       subst (λ (o : Option ℕ). IsCell t share other.0 o) row (subst (λ (p : StopNo). IsCell t share p.0 c) is last)
 ]
 
 -- minutes that are alike count alike
-pub count_alike : (some others : ℕ → Option ℕ) (d n : ℕ) → ((m : ℕ) → m < n → some m ≡ others m) → minutes_within some d n ≡ minutes_within others d n
+pub count_alike : (some others : ℕ → Option ℕ) (d n : ℕ) → ((m : ℕ) → m < n → some m ≡ others m) →
+    minutes_within some d n ≡ minutes_within others d n
 count_alike some others d zero h = refl
-count_alike some others d (suc n) h = rw (h n (omega arith), count_alike some others d n (λ m l. h m (omega (arith, l)))) refl
+count_alike some others d (suc n) h = rw (
+  h n (omega arith),
+  count_alike some others d n (λ m l. h m (omega (arith, l))),
+) refl
 
-pub cell_alike : (some others : ℕ → Option ℕ) (n share : ℕ) (c : Option ℕ) → ((m : ℕ) → m < n → some m ≡ others m) → IsLeastOrNone (Attains some n share) c → IsLeastOrNone (Attains others n share) c
+pub cell_alike : (some others : ℕ → Option ℕ) (n share : ℕ) (c : Option ℕ) → ((m : ℕ) → m < n → some m ≡ others m) →
+    IsLeastOrNone (Attains some n share) c → IsLeastOrNone (Attains others n share) c
 cell_alike some others n share None h is = λ d a. is d (rw (count_alike some others d n h) a)
 cell_alike some others n share (Some c) h is =
     record {
@@ -106,14 +125,16 @@ known_below x s h is = elim (cases_eq x NEVER) [
 -- ---- limits of reach
 
 -- a lower limit lets in as many minutes, where it lets in each duration within the other
-within_reach : (x : Option ℕ) (d e : ℕ) → ((s : ℕ) → x ≡ Some s → s ≤ e → s ≤ d) → (if is_within e x then 1 else 0) ≤ (if is_within d x then 1 else 0)
+within_reach : (x : Option ℕ) (d e : ℕ) → ((s : ℕ) → x ≡ Some s → s ≤ e → s ≤ d) →
+    (if is_within e x then 1 else 0) ≤ (if is_within d x then 1 else 0)
 within_reach None d e h = omega arith
 within_reach (Some x) d e h = elim (cases_lt e x) [
   | inl l ↦ grind (arith, nat_tests, l)
   | inr g ↦ let low = h x refl g in grind (arith, nat_tests, low)
 ]
 
-count_reach : (ds : ℕ → Option ℕ) (n d e : ℕ) → ((m s : ℕ) → m < n → ds m ≡ Some s → s ≤ e → s ≤ d) → minutes_within ds e n ≤ minutes_within ds d n
+count_reach : (ds : ℕ → Option ℕ) (n d e : ℕ) → ((m s : ℕ) → m < n → ds m ≡ Some s → s ≤ e → s ≤ d) →
+    minutes_within ds e n ≤ minutes_within ds d n
 count_reach ds zero d e h = omega arith
 count_reach ds (suc n) d e h =
     let rest = count_reach ds n d e (λ m s l. h m s (omega (arith, l))) in
@@ -121,7 +142,8 @@ count_reach ds (suc n) d e h =
     omega (arith, rest, head)
 
 -- so as many attain it, also of minutes that are alike
-module _ (some others : ℕ → Option ℕ) (n share d within : ℕ) (alike : (m : ℕ) → m < n → some m ≡ others m) (upto : d ≤ within)
+module _ (some others : ℕ → Option ℕ) (n share d within : ℕ) (alike : (m : ℕ) → m < n →
+    some m ≡ others m) (upto : d ≤ within)
     (all : (m s : ℕ) → m < n → some m ≡ Some s → s ≤ within → s ≤ d) where
   pub reached_further : Attains some n share d → Attains others n share within
   reached_further a =
@@ -136,13 +158,15 @@ module _ (some others : ℕ → Option ℕ) (n share d within : ℕ) (alike : (m
       omega (arith, a, fewer, same)
 
 -- a stop whose minutes attain a share within a limit counts, by its cell
-pub counted_in : (ds : ℕ → Option ℕ) (n share within ops : ℕ) (cell : Option ℕ) → IsLeastOrNone (Attains ds n share) cell → Attains ds n share within
+pub counted_in : (ds : ℕ → Option ℕ) (n share within ops : ℕ) (cell : Option ℕ) →
+    IsLeastOrNone (Attains ds n share) cell → Attains ds n share within
     → ops ≡ counted cell ops within
 counted_in ds n share within ops None is a = absurd (is within a)
 counted_in ds n share within ops (Some d) is a = let low = is.least within a in grind (arith, nat_tests, low)
 
 -- and one whose minutes don't counts for nothing
-pub counted_out : (ds : ℕ → Option ℕ) (n share within ops : ℕ) (cell : Option ℕ) → IsLeastOrNone (Attains ds n share) cell → (Attains ds n share within → ⊥)
+pub counted_out : (ds : ℕ → Option ℕ) (n share within ops : ℕ) (cell : Option ℕ) →
+    IsLeastOrNone (Attains ds n share) cell → (Attains ds n share within → ⊥)
     → 0 ≡ counted cell ops within
 counted_out ds n share within ops None is none = refl
 counted_out ds n share within ops (Some d) is none = elim (cases_lt within d) [

@@ -1,5 +1,6 @@
 -- Each stop has a cell for each share: the least duration that attains it lies at or below the greatest of its minutes.
-use Rattle.std.proofs.Common.{◌≡◌, ◌⊎◌, ◌≤◌, ◌<◌, ◌+◌, ◌*◌, ◌++◌, ◌∷◌, [], ℕ, zero, suc, List, Option, Some, None, length, get_or, max, refl, ap, sym, subst, ◌∙◌, unwrap_or, inl, inr, arith}
+use Rattle.std.proofs.Common.{◌≡◌, ◌⊎◌, ◌≤◌, ◌<◌, ◌+◌, ◌*◌, ◌++◌, ◌∷◌, [], ℕ, zero, suc, List, Option, Some, None}
+use Rattle.std.proofs.Common.{length, get_or, max, refl, ap, sym, subst, ◌∙◌, unwrap_or, inl, inr, arith}
 use Rattle.std.proofs.lemmas.Bool.{cases_lt}
 use Rattle.std.proofs.lemmas.List.{length-append}
 use Rattle.timetable.specs.Least.{IsLeast}
@@ -24,7 +25,8 @@ module _ (ds : ℕ → Option ℕ) where
         omega (arith, rest, def)
     | inr high ↦
         let same : m ≡ n = omega (arith, l, high) in
-        let here : unwrap_or (ds n) 0 ≡ s = ap (λ (k : ℕ). unwrap_or (ds k) 0) (sym same) ∙ ap (λ (o : Option ℕ). unwrap_or o 0) is in
+        let here : unwrap_or (ds n) 0 ≡ s = ap (λ (k : ℕ). unwrap_or (ds k) 0) (sym same)
+        ∙ ap (λ (o : Option ℕ). unwrap_or o 0) is in
         let def : top_of (suc n) ≡ max (top_of n) (unwrap_or (ds n) 0) = refl in
         omega (arith, here, def)
   ]
@@ -59,7 +61,11 @@ module _ (ds : ℕ → Option ℕ) where
     pub cell_there : (cell : Option ℕ) × IsLeastOrNone (Attains ds n share) cell
     cell_there = elim (below (suc (top_of n))) [
       | inl found ↦ (Some found.0, found.1)
-      | inr none ↦ (None, λ d a. none (top_of n) (omega arith) (attains_top ds n share (top_of n) d (λ m s. is_top n m s) a))
+      | inr none ↦ (
+        None,
+        λ d a. none (top_of n) (omega arith)
+            (attains_top ds n share (top_of n) d (λ m s. is_top n m s) a),
+      )
     ]
 
 -- the cells of the first stops
@@ -81,4 +87,5 @@ first_cells t share (suc k) =
     }
 
 pub cells_there : CellsAreThere
-cells_there t share = let all = first_cells t share t.stops in (all.cells, record { stops = all.count; each = all.each })
+cells_there t share = let all = first_cells t share t.stops in
+    (all.cells, record { stops = all.count; each = all.each })

@@ -5,11 +5,13 @@ use Rattle.shares.specs.Percentiles.{IsCell, AreCells}
 
 -- a law: a stop has one cell
 abbrev pub CellIsUnique : Type 0
-CellIsUnique = (t : Times) (share p : ℕ) (some other : Option ℕ) → IsCell t share p some → IsCell t share p other → some ≡ other
+CellIsUnique = (t : Times) (share p : ℕ) (some other : Option ℕ) → IsCell t share p some → IsCell t share p other →
+    some ≡ other
 
 -- a law: so all stops have one list of cells
 abbrev pub CellsAreUnique : Type 0
-CellsAreUnique = (t : Times) (share : ℕ) (some others : List (Option ℕ)) → AreCells t share some → AreCells t share others → some ≡ others
+CellsAreUnique = (t : Times) (share : ℕ) (some others : List (Option ℕ)) → AreCells t share some →
+    AreCells t share others → some ≡ others
 
 -- a law: and there is such a list
 abbrev pub CellsAreThere : Type 0

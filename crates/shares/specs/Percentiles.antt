@@ -1,6 +1,8 @@
--- A cell: the least duration that a share of a window's minutes attains (the nearest-rank percentile of their durations,
+-- A cell: the least duration that a share of a window's minutes attains (the nearest-rank percentile of their
+-- durations,
 -- where a minute without a journey has none, and so lies beyond all).
-use Rattle.std.specs.Prelude.{◌≡◌, ◌==◌, ◌<◌, ◌≤◌, ◌+◌, ◌*◌, ℕ, zero, suc, Bool, false, List, Option, Some, None, Vec, length, slice_get, slice_index_or, nat_le, if◌then◌else◌}
+use Rattle.std.specs.Prelude.{◌≡◌, ◌==◌, ◌<◌, ◌≤◌, ◌+◌, ◌*◌, ℕ, zero, suc, Bool, false, List, Option, Some, None, Vec}
+use Rattle.std.specs.Prelude.{length, slice_get, slice_index_or, nat_le, if◌then◌else◌}
 use Rattle.std.specs.Global.{Global}
 use Rattle.timetable.specs.declared.least.TheConstants.{NEVER}
 use Rattle.timetable.specs.declared.trips.StopNo.{StopNo}
@@ -34,12 +36,15 @@ pub record AreCells (t : Times) (share : ℕ) (cells : List (Option ℕ)) : Type
 -- one cell per destination, in the destinations' order
 pub record AreCellsAt (t : Times) (destinations : List StopNo) (share : ℕ) (cells : List (Option ℕ)) : Type 0 where
   pub count : length cells ≡ length destinations
-  pub each : (k : ℕ) (stop : StopNo) → slice_get destinations k ≡ Some stop → IsCell t share stop.0 (slice_index_or cells k None)
+  pub each : (k : ℕ) (stop : StopNo) → slice_get destinations k ≡ Some stop →
+      IsCell t share stop.0 (slice_index_or cells k None)
 
 -- one list of cells per share, in the shares' order
-pub record AreCellsOf (t : Times) (destinations : List StopNo) (shares : List ℕ) (lists : List (Vec (Option ℕ) Global)) : Type 0 where
+pub record AreCellsOf (t : Times) (destinations : List StopNo) (shares : List ℕ)
+    (lists : List (Vec (Option ℕ) Global)) : Type 0 where
   pub count : length lists ≡ length shares
-  pub each : (k share : ℕ) (cells : Vec (Option ℕ) Global) → slice_get shares k ≡ Some share → slice_get lists k ≡ Some cells →
+  pub each : (k share : ℕ) (cells : Vec (Option ℕ) Global) → slice_get shares k ≡ Some share →
+      slice_get lists k ≡ Some cells →
       AreCellsAt t destinations share cells.items
 
 -- the lanes of a stop: as many as its minutes take, and those past the window hold NEVER

@@ -1,11 +1,13 @@
 -- Planes: the labels of a stop, bit by bit. A word has one bit for each lane of four batches.
-use Rattle.std.specs.Prelude.{◌≡◌, ◌<◌, ◌≤◌, ◌+◌, ◌*◌, ◌/◌, ◌^◌, ◌%◌, ◌++◌, ℕ, zero, suc, Bool, List, [], ◌∷◌, cond, bit_and, eqb, leb, ltb, length, map, slice_index, slice_index_or}
+use Rattle.std.specs.Prelude.{◌≡◌, ◌<◌, ◌≤◌, ◌+◌, ◌*◌, ◌/◌, ◌^◌, ◌%◌, ◌++◌, ℕ, zero, suc, Bool, List, [], ◌∷◌, cond}
+use Rattle.std.specs.Prelude.{bit_and, eqb, leb, ltb, length, map, slice_index, slice_index_or}
 use lib.Lanes.{mask_l}
 
 -- the labels of four batches; a batch past the last has none
 unfoldable pub block : List (List ℕ) → ℕ → List ℕ
 block lanes word =
-    slice_index_or lanes (4 * word) [] ++ (slice_index_or lanes (4 * word + 1) [] ++ (slice_index_or lanes (4 * word + 2) [] ++ slice_index_or lanes (4 * word + 3) []))
+    slice_index_or lanes (4 * word) [] ++ (slice_index_or lanes (4 * word + 1)
+    [] ++ (slice_index_or lanes (4 * word + 2) [] ++ slice_index_or lanes (4 * word + 3) []))
 
 -- how many words have a bit for each lane
 abbrev pub words_of : List (List ℕ) → ℕ

@@ -16,7 +16,8 @@ pub record IsLonger (lanes : List (List ℕ)) (minutes share : ℕ) (old new : V
   pub is_cell : IsLeastOrNone (Attains (λ m. known_of (label_in lanes m)) minutes share) cell
 
 -- each list became longer by the cell of its share
-pub record AreLonger (lanes : List (List ℕ)) (minutes : ℕ) (shares : List ℕ) (old new : List (Vec (Option ℕ) Global)) : Type 0 where
+pub record AreLonger (lanes : List (List ℕ)) (minutes : ℕ) (shares : List ℕ)
+    (old new : List (Vec (Option ℕ) Global)) : Type 0 where
   pub count : length new ≡ length old
   pub each : (k share : ℕ) (before after : Vec (Option ℕ) Global) → slice_get shares k ≡ Some share →
       slice_get old k ≡ Some before → slice_get new k ≡ Some after → IsLonger lanes minutes share before after

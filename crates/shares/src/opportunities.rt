@@ -34,7 +34,8 @@ fn count_one(
 ) -> u64
     requires stop { stop.0 < durations.now.stops }
     requires share { share ≤ 100 }
-    ensures value { (cell : Option ℕ) → IsCell durations.now share stop.0 cell → result ≡ counted cell opportunities within }
+    ensures value { (cell : Option ℕ) → IsCell durations.now share stop.0 cell →
+        result ≡ counted cell opportunities within }
     ensures bound { result ≤ 4294967295 }
 {
     if is_reached(durations, stop, share, within) {

@@ -1,7 +1,8 @@
 //! Cells: the least duration that a share of a window's minutes attains.
 ghost use Rattle.std.specs.Prelude.{◌≡◌, ◌≢◌, ◌<◌, ◌≤◌, ◌*◌, ℕ, All, Some, length, max, slice_index, IfOk, IsTrue, ◌↔◌};
 ghost use Rattle.rounds.specs.Table.{at, known_of, label_in, IsLeastOrNone};
-ghost use Rattle.shares.specs.Percentiles.{minutes_within, Attains, IsCell, AreCellsAt, HoldMinutes, IsTop, known_label};
+ghost use Rattle.shares.specs.Percentiles.{minutes_within, Attains, IsCell, AreCellsAt, HoldMinutes, IsTop};
+ghost use Rattle.shares.specs.Percentiles.{known_label};
 ghost use Rattle.trip_lanes.specs.declared.lanes.TheConstants.{LANES};
 
 use rounds::Durations;
@@ -56,7 +57,8 @@ pub(crate) fn is_reached(durations: &Durations, stop: StopNo, share: u32, within
 fn reach_of(lanes: &[Lanes], within: u32) -> u32
     ensures below { result < NEVER }
     ensures upto { result ≤ within }
-    ensures all { (m d : ℕ) → m < LANES * length lanes.now → known_of (label_in lanes.now m) ≡ Some d → d ≤ within → d ≤ result }
+    ensures all { (m d : ℕ) → m < LANES * length lanes.now → known_of (label_in lanes.now m) ≡ Some d → d ≤ within →
+        d ≤ result }
 {
     if within < NEVER {
         within
@@ -103,7 +105,8 @@ pub(crate) fn greatest(lanes: &[Lanes]) -> u32
 
 /// In each lane the greater one, where the label is known.
 fn higher_of(high: Lanes, labels: Lanes) -> Lanes
-    ensures { (l : ℕ) → l < LANES → slice_index result l ≡ max (slice_index high l) (known_label (slice_index labels l)) }
+    ensures { (l : ℕ) → l < LANES → slice_index result l
+        ≡ max (slice_index high l) (known_label (slice_index labels l)) }
 {
     let known = u32x16::from_array(labels)
         .simd_eq(u32x16::splat(NEVER))

@@ -1,6 +1,7 @@
 //! Planes: the labels of a stop, bit by bit. A plane has one bit for each lane, which says whether the lane's label has
 //! the plane's bit; so a rank is found from the highest bit to the lowest, sixty-four lanes at a time.
-ghost use Rattle.std.specs.Prelude.{◌≡◌, ◌≢◌, ◌&&◌, ◌<◌, ◌≤◌, ◌+◌, ◌*◌, ◌^◌, [], ℕ, Bool, List, cond, not, length, slice_index, slice_index_or};
+ghost use Rattle.std.specs.Prelude.{◌≡◌, ◌≢◌, ◌&&◌, ◌<◌, ◌≤◌, ◌+◌, ◌*◌, ◌^◌, [], ℕ, Bool, List, cond, not, length};
+ghost use Rattle.std.specs.Prelude.{slice_index, slice_index_or};
 ghost use Rattle.shares.specs.Planes.{AreMasks, ArePlanes, IsRanked, block, count_of, has, mask, words_of};
 ghost use Rattle.trip_lanes.specs.declared.lanes.TheConstants.{LANES};
 
@@ -46,9 +47,11 @@ fn fill_word(lanes: &[Lanes], word: usize, bits: u32, planes: &mut [Plane])
     requires bits { bits ≤ 32 }
     requires rows { length planes.old ≡ 33 }
     ensures same { length planes.new ≡ 33 }
-    ensures plane { (b : ℕ) → b < bits → slice_index (slice_index_or planes.new b []) word ≡ mask (has (2 ^ b)) (block lanes.now word) }
+    ensures plane { (b : ℕ) → b < bits → slice_index (slice_index_or planes.new b []) word
+        ≡ mask (has (2 ^ b)) (block lanes.now word) }
     ensures all { slice_index (slice_index_or planes.new 32 []) word ≡ mask (has 0) (block lanes.now word) }
-    ensures kept { (b w : ℕ) → w ≢ word → slice_index (slice_index_or planes.new b []) w ≡ slice_index (slice_index_or planes.old b []) w }
+    ensures kept { (b w : ℕ) → w ≢ word → slice_index (slice_index_or planes.new b []) w
+        ≡ slice_index (slice_index_or planes.old b []) w }
 {
     let whole = word_of(lanes, word, 0);
     planes[ALL][word] = whole;
@@ -150,7 +153,8 @@ fn descend(lanes: &[Lanes], planes: &[Plane], bits: u32, rank: u32, words: usize
 #[inline(always)]
 fn count_both(among: &Plane, plane: &Plane, words: usize) -> u32
     requires { words ≤ 23 }
-    ensures { (lanes : List (List ℕ)) (Is Has : ℕ → Bool) → AreMasks Is lanes words among.now → AreMasks Has lanes words plane.now →
+    ensures { (lanes : List (List ℕ)) (Is Has : ℕ → Bool) → AreMasks Is lanes words among.now →
+        AreMasks Has lanes words plane.now →
         result ≡ count_of (λ x. Is x && Has x) lanes words }
 {
     let mut count = 0;
@@ -164,7 +168,8 @@ fn count_both(among: &Plane, plane: &Plane, words: usize) -> u32
 #[inline(always)]
 fn keep(among: &mut Plane, plane: &Plane, words: usize, with: bool)
     requires { words ≤ 23 }
-    ensures { (lanes : List (List ℕ)) (Is Has : ℕ → Bool) → ((i : ℕ) → i < length lanes → length (slice_index_or lanes i []) ≡ LANES) →
+    ensures { (lanes : List (List ℕ)) (Is Has : ℕ → Bool) →
+        ((i : ℕ) → i < length lanes → length (slice_index_or lanes i []) ≡ LANES) →
         AreMasks Is lanes words among.old → AreMasks Has lanes words plane.now →
         AreMasks (λ x. Is x && cond with (Has x) (not (Has x))) lanes words among.new }
 {

@@ -15,7 +15,11 @@ use Rattle.studies.specs.Study.{IsFaultOfRun, Tells, TellsBy}
 module _ (decides : Decides) (was_told : WasTold) where
   module _ (i : InputFiles) (s : SettingsData) where
     any_run : (e : RunFault) → IsFaultOfRun decides was_told e i s → IsFaultOfRun any_decides any_told e i s
-    any_run e h = record { study = h.study; means = h.means; why = any_new decides was_told h.study s.workers s.tries e h.why }
+    any_run e h = record {
+      study = h.study;
+      means = h.means;
+      why = any_new decides was_told h.study s.workers s.tries e h.why;
+    }
 
     pub any_gate : (e : StudyFault) → TellsBy decides was_told e i s → Tells e i s
     any_gate fault.Scenarios h = h
@@ -44,7 +48,8 @@ module _ (decides : Decides) (was_told : WasTold) where
     by_gate (fault.Text e) other h = h
     by_gate fault.Memory other h = h
 
-    pub any_gates : {V : Type 0} (r : Result V StudyFault) → IfErr r (λ e. TellsBy decides was_told e i s) → IfErr r (λ e. Tells e i s)
+    pub any_gates : {V : Type 0} (r : Result V StudyFault) → IfErr r (λ e. TellsBy decides was_told e i s) →
+        IfErr r (λ e. Tells e i s)
     any_gates (Ok v) h = h
     any_gates (Err e) h = any_gate e h
 

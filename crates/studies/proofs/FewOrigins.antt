@@ -30,31 +30,48 @@ nothing_distinct : IsDistinct bytes_eq []
 unfolding IsDistinct
 nothing_distinct = tt
 
-one_more : (stops : List (List ℕ)) (before : List NamedRow) (r : NamedRow) → NameOnce stops before → checks stops before r ≡ [] → NameOnce stops (before ++ r ∷ [])
+one_more : (stops : List (List ℕ)) (before : List NamedRow) (r : NamedRow) → NameOnce stops before →
+    checks stops before r ≡ [] → NameOnce stops (before ++ r ∷ [])
 one_more stops before r once none =
     let (here, new) = found_stop stops (stops_named before) r.stop (number_in stops r.stop) none refl in
-    let there : Contains stops r.stop = (number_in stops r.stop, slice_get_within stops (number_in stops r.stop) r.stop here, get_or_from_slice_get stops (number_in stops r.stop) r.stop r.stop here) in
+    let there : Contains stops r.stop = (
+      number_in stops r.stop,
+      slice_get_within stops (number_in stops r.stop) r.stop here,
+      get_or_from_slice_get stops (number_in stops r.stop) r.stop r.stop here,
+    ) in
     record {
-      distinct = rw (map-append (λ (x : NamedRow). x.stop) before (r ∷ [])) (IsDistinct-push nat_list_eq_equiv (stops_named before) r.stop once.distinct new);
-      known = rw (map-append (λ (x : NamedRow). x.stop) before (r ∷ [])) (All-push (Contains stops) (stops_named before) r.stop once.known there);
+      distinct = rw (map-append (λ (x : NamedRow). x.stop) before (r ∷ []))
+          (IsDistinct-push nat_list_eq_equiv (stops_named before) r.stop once.distinct new);
+      known = rw (map-append (λ (x : NamedRow). x.stop) before (r ∷ []))
+          (All-push (Contains stops) (stops_named before) r.stop once.known there);
     }
 
 equal : (x y : List ℕ) → bytes_eq x y ≡ true → x ≡ y
 equal x y e = grind (arith, bytes_eq-Decides)
 
-few_rows : (stops : List (List ℕ)) (rows : List NamedRow) → NameOnce stops rows → length (stops_named rows) ≤ length stops
+few_rows : (stops : List (List ℕ)) (rows : List NamedRow) → NameOnce stops rows →
+    length (stops_named rows) ≤ length stops
 few_rows stops rows once =
     length-le_from_is_member nat_list_eq_equiv (stops_named rows) stops once.distinct
     (λ q named. list_any-from_Contains nat_list_eq_equiv q stops
-    (All-contains (Contains stops) (stops_named rows) q once.known (Contains-from_any equal q (stops_named rows) named)))
+    (All-contains (Contains stops) (stops_named rows) q once.known
+    (Contains-from_any equal q (stops_named rows) named)))
 
-pub few_origins : (bytes : Option (List ℕ)) (feed : FeedData) (origins : List StopNo) → origins_faults bytes feed ≡ [] → origins ≡ origins_of bytes feed → length origins ≤ length feed.stops
+pub few_origins : (bytes : Option (List ℕ)) (feed : FeedData) (origins : List StopNo) → origins_faults bytes feed ≡ [] →
+    origins ≡ origins_of bytes feed → length origins ≤ length feed.stops
 few_origins None feed origins none are =
     let stop : ℕ → StopNo = λ m. record { 0 = m } in
     rw are (omega (arith, length-map-range_with_len stop 0 (length feed.stops)))
 few_origins (Some bytes) feed origins none are =
     let once : NameOnce feed.stops (named_rows bytes) =
-    kept_rows file.Origins (checks feed.stops) (NameOnce feed.stops) (one_more feed.stops) required row_of (records_of bytes)
+    kept_rows file.Origins (checks feed.stops) (NameOnce feed.stops) (one_more feed.stops) required row_of
+    (records_of bytes)
     (record { distinct = nothing_distinct; known = All-nil (Contains feed.stops) }) none in
-    let few : length (stops_named (named_rows bytes)) ≤ length feed.stops = few_rows feed.stops (named_rows bytes) once in
-    rw are (omega (arith, few, length-map (named_rows bytes) (named_stop feed.stops), length-map (named_rows bytes) (λ (r : NamedRow). r.stop)))
+    let few : length (stops_named (named_rows bytes)) ≤ length feed.stops =
+    few_rows feed.stops (named_rows bytes) once in
+    rw are (omega (
+      arith,
+      few,
+      length-map (named_rows bytes) (named_stop feed.stops),
+      length-map (named_rows bytes) (λ (r : NamedRow). r.stop),
+    ))

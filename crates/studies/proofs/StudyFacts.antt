@@ -1,5 +1,6 @@
 -- What each stage of a study tells is told of the files, and what it makes is made of them.
-use Rattle.std.proofs.Common.{◌≡◌, ◌⊎◌, ◌≤◌, ◌<◌, ◌+◌, ◌*◌, ◌∙◌, ℕ, suc, List, [], ◌∷◌, All, Result, Ok, Err, ap, subst, sym, refl, inl, inr, length, arith}
+use Rattle.std.proofs.Common.{◌≡◌, ◌⊎◌, ◌≤◌, ◌<◌, ◌+◌, ◌*◌, ◌∙◌, ℕ, suc, List, [], ◌∷◌, All, Result, Ok, Err, ap, subst}
+use Rattle.std.proofs.Common.{sym, refl, inl, inr, length, arith}
 use Rattle.std.specs.Prelude.{IfErr, IfOk}
 use Rattle.std.specs.Result.{IsErrAnd}
 use Rattle.std.proofs.lemmas.List.{length-map}
@@ -43,7 +44,9 @@ use Rattle.studies.specs.declared.parts.Tables.{Tables}
 use Rattle.studies.specs.NamedFile.{NamedBytes}
 use Rattle.studies.specs.Names.{name_faults, names_of}
 use Rattle.studies.specs.Settings.{SettingsData, SettingsFit, query_of, window_of}
-use Rattle.studies.specs.Parts.{destination_faults, destinations_in, direct_in, edit_faults, feed_in, labels_in, network_faults, networks_of, opportunities_in, origins_in, own_faults, runs_in, scenarios_in, study_in, table_faults}
+use Rattle.studies.specs.Parts.{destination_faults, destinations_in, direct_in, edit_faults, feed_in, labels_in}
+use Rattle.studies.specs.Parts.{network_faults, networks_of, opportunities_in, origins_in, own_faults, runs_in}
+use Rattle.studies.specs.Parts.{scenarios_in, study_in, table_faults}
 use Rattle.work_book.specs.declared.rule.View.{View}
 use Rattle.work_book.specs.declared.shared.Board.{Board}
 use Rattle.work_book.specs.Views.{first_view}
@@ -51,8 +54,10 @@ use Rattle.workers.specs.Held.{Decides, WasTold}
 use Rattle.workers.specs.Jobs.{jobs_of}
 use Rattle.workers.specs.Outcomes.{IsFaultOf, IsFaultOfNew}
 use Rattle.workers.specs.declared.faults.RunFault.{RunFault}
-use Rattle.studies.specs.Stages.{AreNetworkParts, AreTables, IsFeedOf, TellsEdits, TellsNames, TellsNetworks, TellsTables, TellsText}
-use Rattle.studies.specs.Study.{AreDated, AreEdited, AreNamed, AreNetworks, AreRead, AreWalked, IsFaultOfRun, IsStudyText, Means, Tells, TellsBy}
+use Rattle.studies.specs.Stages.{AreNetworkParts, AreTables, IsFeedOf, TellsEdits, TellsNames, TellsNetworks}
+use Rattle.studies.specs.Stages.{TellsTables, TellsText}
+use Rattle.studies.specs.Study.{AreDated, AreEdited, AreNamed, AreNetworks, AreRead, AreWalked, IsFaultOfRun}
+use Rattle.studies.specs.Study.{IsStudyText, Means, Tells, TellsBy}
 use Rattle.studies.proofs.Firsts.{first_left, first_right, none_of_both}
 
 -- settings, by their fields
@@ -93,12 +98,16 @@ module _ (i : InputFiles) (s : SettingsData) where
   are_named good = record { few = good.0; names = good.1 }
 
   pub feed_told : (e : FeedFault) → AreNamed i → records.Tells e (feed_faults i.feed) → Tells (fault.Feed e) i s
-  feed_told e named h = elim h [ inl m ↦ inl m | inr f ↦ inr (named, first_left e (feed_faults i.feed) (own_faults i (feed_in i)) f) ]
+  feed_told e named h = elim h [
+    | inl m ↦ inl m
+    | inr f ↦ inr (named, first_left e (feed_faults i.feed) (own_faults i (feed_in i)) f)
+  ]
 
   pub is_feed : (feed held : FeedData) → held ≡ feed → feed_faults i.feed ≡ [] → feed ≡ feed_in i → IsFeedOf i held
   is_feed feed held same none is = record { faultless = none; feed_is = same ∙ is }
 
-  pub own_told : (e : FeedFault) (feed : FeedData) → AreNamed i → IsFeedOf i feed → records.Tells e (own_faults i feed) → Tells (fault.Feed e) i s
+  pub own_told : (e : FeedFault) (feed : FeedData) → AreNamed i → IsFeedOf i feed →
+      records.Tells e (own_faults i feed) → Tells (fault.Feed e) i s
   own_told e feed named is h =
       elim h [
         | inl m ↦ inl m
@@ -111,23 +120,30 @@ module _ (i : InputFiles) (s : SettingsData) where
 
   no_table_faults : (feed : FeedData) → IsFeedOf i feed → own_faults i feed ≡ [] → table_faults i ≡ []
   no_table_faults feed is none =
-      none_of_both (feed_faults i.feed) (own_faults i (feed_in i)) is.faultless (subst (λ (d : FeedData). own_faults i d ≡ []) is.feed_is none)
+      none_of_both (feed_faults i.feed) (own_faults i (feed_in i)) is.faultless
+      (subst (λ (d : FeedData). own_faults i d ≡ []) is.feed_is none)
 
-  pub are_read : (feed : FeedData) → AreNamed i → IsFeedOf i feed → own_faults i feed ≡ [] → destination_faults i feed ≡ [] → AreRead i
+  pub are_read : (feed : FeedData) → AreNamed i → IsFeedOf i feed → own_faults i feed ≡ [] →
+      destination_faults i feed ≡ [] → AreRead i
   are_read feed named is none known = record {
     named = named;
     tables = no_table_faults feed is none;
     destinations = subst (λ (d : FeedData). destination_faults i d ≡ []) is.feed_is known;
   }
 
-  pub tables_told : (decides : Decides) (was_told : WasTold) (e : StudyFault) (feed : FeedData) → AreNamed i → IsFeedOf i feed → TellsTables e i feed → TellsBy decides was_told e i s
+  pub tables_told : (decides : Decides) (was_told : WasTold) (e : StudyFault) (feed : FeedData) → AreNamed i →
+      IsFeedOf i feed → TellsTables e i feed → TellsBy decides was_told e i s
   tables_told decides was_told fault.Scenarios feed named is h = absurd h
   tables_told decides was_told (fault.Name k) feed named is h = absurd h
   tables_told decides was_told (fault.Feed e) feed named is h = own_told e feed named is h
   tables_told decides was_told (fault.Destinations e) feed named is h =
       elim h.1 [
         | inl m ↦ inl m
-        | inr f ↦ inr (named, no_table_faults feed is h.0, subst (λ (d : FeedData). IsFirst e (destination_faults i d)) is.feed_is f)
+        | inr f ↦ inr (
+          named,
+          no_table_faults feed is h.0,
+          subst (λ (d : FeedData). IsFirst e (destination_faults i d)) is.feed_is f,
+        )
       ]
   tables_told decides was_told (fault.Scenario k e) feed named is h = absurd h
   tables_told decides was_told (fault.Days e) feed named is h = absurd h
@@ -138,15 +154,25 @@ module _ (i : InputFiles) (s : SettingsData) where
   tables_told decides was_told fault.Memory feed named is h = inl h
 
   pub are_edited : (feed : FeedData) → AreRead i → feed ≡ feed_in i → edit_faults feed 0 i.scenarios ≡ [] → AreEdited i
-  are_edited feed read is none = record { read = read; edits = subst (λ (d : FeedData). edit_faults d 0 i.scenarios ≡ []) is none }
+  are_edited feed read is none = record {
+    read = read;
+    edits = subst (λ (d : FeedData). edit_faults d 0 i.scenarios ≡ []) is none;
+  }
 
-  pub edits_told : (e : StudyFault) (feed : FeedData) → AreRead i → feed ≡ feed_in i → TellsEdits e feed i.scenarios → Tells e i s
+  pub edits_told : (e : StudyFault) (feed : FeedData) → AreRead i → feed ≡ feed_in i → TellsEdits e feed i.scenarios →
+      Tells e i s
   edits_told fault.Scenarios feed read is h = absurd h
   edits_told (fault.Name k) feed read is h = absurd h
   edits_told (fault.Feed e) feed read is h = absurd h
   edits_told (fault.Destinations e) feed read is h = absurd h
   edits_told (fault.Scenario k e) feed read is h =
-      elim h [ inl m ↦ inl m | inr f ↦ inr (read, subst (λ (d : FeedData). IsFirst (k, e) (edit_faults d 0 i.scenarios)) is f) ]
+      elim h [
+        | inl m ↦ inl m
+        | inr f ↦ inr (
+          read,
+          subst (λ (d : FeedData). IsFirst (k, e) (edit_faults d 0 i.scenarios)) is f,
+        )
+      ]
   edits_told (fault.Days e) feed read is h = absurd h
   edits_told (fault.Feet e) feed read is h = absurd h
   edits_told (fault.Net k e) feed read is h = absurd h
@@ -155,27 +181,38 @@ module _ (i : InputFiles) (s : SettingsData) where
   edits_told fault.Memory feed read is h = inl h
 
   pub days_told : (e : DayFault) (feed : FeedData) → AreEdited i → feed ≡ feed_in i
-      → (e ≡ day.Memory) ⊎ IsFirst e (days.day_faults feed (day_number s.date) s.back s.ahead) → Tells (fault.Days e) i s
+      → (e ≡ day.Memory) ⊎ IsFirst e (days.day_faults feed (day_number s.date) s.back s.ahead) →
+      Tells (fault.Days e) i s
   days_told e feed edited is h =
       elim h [
         | inl m ↦ inl m
-        | inr f ↦ inr (edited, subst (λ (d : FeedData). IsFirst e (days.day_faults d (day_number s.date) s.back s.ahead)) is f)
+        | inr f ↦ inr (
+          edited,
+          subst (λ (d : FeedData). IsFirst e
+              (days.day_faults d (day_number s.date) s.back s.ahead)) is f,
+        )
       ]
 
-  pub are_dated : (feed : FeedData) → AreEdited i → feed ≡ feed_in i → days.day_faults feed (day_number s.date) s.back s.ahead ≡ [] → AreDated i s
+  pub are_dated : (feed : FeedData) → AreEdited i → feed ≡ feed_in i →
+      days.day_faults feed (day_number s.date) s.back s.ahead ≡ [] → AreDated i s
   are_dated feed edited is none = record {
     edited = edited;
     days = subst (λ (d : FeedData). days.day_faults d (day_number s.date) s.back s.ahead ≡ []) is none;
   }
 
-  pub feet_told : (e : FootFault) (direct : DirectLists) → AreDated i s → direct ≡ direct_in i → IsFootFault e direct s.walk → Tells (fault.Feet e) i s
-  feet_told foot.TooMany direct dated is h = inr (dated, refl, subst (λ (d : DirectLists). HasTooMany d.pairs s.walk) is h)
+  pub feet_told : (e : FootFault) (direct : DirectLists) → AreDated i s → direct ≡ direct_in i →
+      IsFootFault e direct s.walk → Tells (fault.Feet e) i s
+  feet_told foot.TooMany direct dated is h =
+      inr (dated, refl, subst (λ (d : DirectLists). HasTooMany d.pairs s.walk) is h)
   feet_told foot.Memory direct dated is h = inl refl
 
-  pub are_walked : (direct : DirectLists) (feet : FeetData) → AreDated i s → direct ≡ direct_in i → IsClosure direct s.walk feet → AreWalked i s feet
-  are_walked direct feet dated is closed = record { dated = dated; walks = subst (λ (d : DirectLists). IsClosure d s.walk feet) is closed }
+  pub are_walked : (direct : DirectLists) (feet : FeetData) → AreDated i s → direct ≡ direct_in i →
+      IsClosure direct s.walk feet → AreWalked i s feet
+  are_walked direct feet dated is closed =
+      record { dated = dated; walks = subst (λ (d : DirectLists). IsClosure d s.walk feet) is closed }
 
-  pub text_told : {V : Type 0} (decides : Decides) (was_told : WasTold) (r : Result V StudyFault) → IfErr r TellsText → IfErr r (λ e. TellsBy decides was_told e i s)
+  pub text_told : {V : Type 0} (decides : Decides) (was_told : WasTold) (r : Result V StudyFault) → IfErr r TellsText →
+      IfErr r (λ e. TellsBy decides was_told e i s)
   text_told decides was_told (Ok v) h = h
   text_told decides was_told (Err fault.Scenarios) h = absurd h
   text_told decides was_told (Err (fault.Name k)) h = absurd h
@@ -199,28 +236,34 @@ scenario_count i =
     ap suc (length-map i.scenarios scenario) ∙ one_first (length i.scenarios)
 
 -- networks of these parts, as they are of the files
-module _ (i : InputFiles) (s : SettingsData) (feed : FeedData) (p : NetworkParts) (runs : List Run) (scenarios : List ScenarioData)
-    (feed_is : feed ≡ feed_in i) (parts : AreNetworkParts i s p) (runs_are : runs ≡ p.runs.items) (scenarios_are : scenarios ≡ p.scenarios.items) where
+module _ (i : InputFiles) (s : SettingsData) (feed : FeedData) (p : NetworkParts) (runs : List Run)
+    (scenarios : List ScenarioData)
+    (feed_is : feed ≡ feed_in i) (parts : AreNetworkParts i s p) (runs_are : runs
+    ≡ p.runs.items) (scenarios_are : scenarios ≡ p.scenarios.items) where
   faults_in : network_faults feed runs 0 scenarios ≡ network_faults (feed_in i) (runs_in i s) 0 (scenarios_in i)
   faults_in =
       ap (λ (d : FeedData). network_faults d runs 0 scenarios) feed_is
       ∙ ap (λ (r : List Run). network_faults (feed_in i) r 0 scenarios) (runs_are ∙ parts.runs_are)
-      ∙ ap (λ (x : List ScenarioData). network_faults (feed_in i) (runs_in i s) 0 x) (scenarios_are ∙ parts.scenarios_are)
+      ∙ ap (λ (x : List ScenarioData). network_faults (feed_in i) (runs_in i s) 0 x) (scenarios_are
+      ∙ parts.scenarios_are)
 
   networks_in : networks_of feed runs p.feet scenarios ≡ networks_of (feed_in i) (runs_in i s) p.feet (scenarios_in i)
   networks_in =
       ap (λ (d : FeedData). networks_of d runs p.feet scenarios) feed_is
       ∙ ap (λ (r : List Run). networks_of (feed_in i) r p.feet scenarios) (runs_are ∙ parts.runs_are)
-      ∙ ap (λ (x : List ScenarioData). networks_of (feed_in i) (runs_in i s) p.feet x) (scenarios_are ∙ parts.scenarios_are)
+      ∙ ap (λ (x : List ScenarioData). networks_of (feed_in i) (runs_in i s) p.feet x) (scenarios_are
+      ∙ parts.scenarios_are)
 
   pub few_scenarios : length scenarios ≤ MOST_SCENARIOS
   few_scenarios =
-      let count : length scenarios ≡ length i.scenarios + 1 = ap (λ (l : List ScenarioData). length l) (scenarios_are ∙ parts.scenarios_are) ∙ scenario_count i in
+      let count : length scenarios ≡ length i.scenarios + 1 =
+      ap (λ (l : List ScenarioData). length l) (scenarios_are ∙ parts.scenarios_are) ∙ scenario_count i in
       let few : length i.scenarios < MOST_SCENARIOS = parts.walked.dated.edited.read.named.few in
       omega (arith, count, few)
 
   pub runs_of_feed : All (IsRun feed) runs
-  runs_of_feed = subst (λ (l : List Run). All (IsRun feed) l) (sym runs_are) (subst (λ (d : FeedData). All (IsRun d) p.runs.items) (sym feed_is) parts.of_feed)
+  runs_of_feed = subst (λ (l : List Run). All (IsRun feed) l) (sym runs_are)
+      (subst (λ (d : FeedData). All (IsRun d) p.runs.items) (sym feed_is) parts.of_feed)
 
   pub feet_for_stops : length p.feet.walks ≡ length feed.stops
   feet_for_stops = parts.walked.walks.closed.lists ∙ sym (ap (λ (d : FeedData). length d.stops) feed_is)
@@ -233,13 +276,22 @@ module _ (i : InputFiles) (s : SettingsData) (feed : FeedData) (p : NetworkParts
   networks_told (fault.Scenario k e) h = absurd h
   networks_told (fault.Days e) h = absurd h
   networks_told (fault.Feet e) h = absurd h
-  networks_told (fault.Net k e) h = elim h [ inl m ↦ inl m | inr f ↦ inr (p.feet, parts.walked, subst (λ (l : List (ℕ × NetFault)). IsFirst (k, e) l) faults_in f) ]
+  networks_told (fault.Net k e) h = elim h [
+    | inl m ↦ inl m
+    | inr f ↦ inr (p.feet, parts.walked, subst (λ (l : List (ℕ × NetFault)). IsFirst (k, e) l) faults_in f)
+  ]
   networks_told (fault.Run e) h = absurd h
   networks_told (fault.Text e) h = absurd h
   networks_told fault.Memory h = inl h
 
-  pub networks_made : (networks : List Net) → network_faults feed runs 0 scenarios ≡ [] → networks ≡ networks_of feed runs p.feet scenarios → AreNetworks i s networks
-  networks_made networks none is = record { feet = p.feet; walked = parts.walked; faultless = sym faults_in ∙ none; networks_are = is ∙ networks_in }
+  pub networks_made : (networks : List Net) → network_faults feed runs 0 scenarios ≡ [] →
+      networks ≡ networks_of feed runs p.feet scenarios → AreNetworks i s networks
+  networks_made networks none is = record {
+    feet = p.feet;
+    walked = parts.walked;
+    faultless = sym faults_in ∙ none;
+    networks_are = is ∙ networks_in;
+  }
 
 -- a study of these parts
 abbrev pub study_with : Query → List Net → List StopNo → List ℕ → StudyData
@@ -252,16 +304,20 @@ study_with query networks origins opportunities = record {
 }
 
 -- the study that is computed is the one that the files mean
-study_is : (i : InputFiles) (s : SettingsData) (networks : List Net) (origins : List StopNo) (opportunities : List ℕ) (query : Query)
-    → origins ≡ origins_in i → opportunities ≡ opportunities_in i → query ≡ query_of s (destinations_in i) → study_with query networks origins opportunities ≡ study_in i s networks
+study_is : (i : InputFiles) (s : SettingsData) (networks : List Net) (origins : List StopNo) (opportunities : List ℕ)
+    (query : Query)
+    → origins ≡ origins_in i → opportunities ≡ opportunities_in i → query ≡ query_of s (destinations_in i) →
+    study_with query networks origins opportunities ≡ study_in i s networks
 study_is i s networks origins opportunities query p q asked =
     ap (λ (x : List StopNo). study_with query networks x opportunities) p
     ∙ ap (λ (x : List ℕ). study_with query networks (origins_in i) x) q
     ∙ ap (λ (x : Query). study_with x networks (origins_in i) (opportunities_in i)) asked
 
 -- the files mean the study of these networks
-pub means : (i : InputFiles) (s : SettingsData) (feed : FeedData) (t : Tables) (networks : List Net) (origins : List StopNo) (opportunities : List ℕ) (query : Query)
-    → feed ≡ feed_in i → AreTables i feed t → AreNetworks i s networks → origins ≡ t.origins.items → opportunities ≡ t.opportunities.items → query ≡ query_of s t.destinations.items
+pub means : (i : InputFiles) (s : SettingsData) (feed : FeedData) (t : Tables) (networks : List Net)
+    (origins : List StopNo) (opportunities : List ℕ) (query : Query)
+    → feed ≡ feed_in i → AreTables i feed t → AreNetworks i s networks → origins ≡ t.origins.items →
+    opportunities ≡ t.opportunities.items → query ≡ query_of s t.destinations.items
     → Means i s (study_with query networks origins opportunities)
 means i s feed t networks origins opportunities query is are made p q asked = record {
   networks = networks;
@@ -269,30 +325,37 @@ means i s feed t networks origins opportunities query is are made p q asked = re
   study_is = study_is i s networks origins opportunities query
       (p ∙ are.origins_are ∙ ap (λ (d : FeedData). origins_of i.origins d) is)
       (q ∙ are.opportunities_are ∙ ap (λ (d : FeedData). opportunities_of i.opportunities d) is)
-      (asked ∙ ap (λ (l : List StopNo). query_of s l) (are.destinations_are ∙ ap (λ (d : FeedData). origins_of i.destinations d) is));
+      (asked ∙ ap (λ (l : List StopNo). query_of s l) (are.destinations_are
+      ∙ ap (λ (d : FeedData). origins_of i.destinations d) is));
 }
 
-pub text_made : {V : Type 0} (items : V → List ℕ) (r : Result V StudyFault) (i : InputFiles) (s : SettingsData) (study : StudyData) (matrix : MatrixData)
-    → Means i s study → IsMatrix study matrix → IfOk r (λ v. items v ≡ matrix_text (labels_in i s) matrix) → IfOk r (λ v. IsStudyText i s (items v))
+pub text_made : {V : Type 0} (items : V →
+    List ℕ) (r : Result V StudyFault) (i : InputFiles) (s : SettingsData) (study : StudyData) (matrix : MatrixData)
+    → Means i s study → IsMatrix study matrix → IfOk r (λ v. items v ≡ matrix_text (labels_in i s) matrix) →
+    IfOk r (λ v. IsStudyText i s (items v))
 text_made items (Ok v) i s study matrix means is_matrix text =
     record { study = study; matrix = matrix; means = means; is_matrix = is_matrix; text_is = text }
 text_made items (Err e) i s study matrix means is_matrix text = text
 
 -- there is a network for each scenario
-pub network_count : (i : InputFiles) (s : SettingsData) (networks : List Net) → AreNetworks i s networks → length networks ≡ length i.scenarios + 1
+pub network_count : (i : InputFiles) (s : SettingsData) (networks : List Net) → AreNetworks i s networks →
+    length networks ≡ length i.scenarios + 1
 network_count i s networks made =
     let network : ScenarioData → Net = λ x. net_of (feed_in i) x (runs_in i s) made.feet in
     ap length made.networks_are ∙ length-map (scenarios_in i) network ∙ scenario_count i
 
 -- each network has the feed's stops
-pub network_stops : (i : InputFiles) (s : SettingsData) (networks : List Net) → AreNetworks i s networks → All (λ n. n.stops ≡ length (feed_in i).stops) networks
+pub network_stops : (i : InputFiles) (s : SettingsData) (networks : List Net) → AreNetworks i s networks →
+    All (λ n. n.stops ≡ length (feed_in i).stops) networks
 network_stops i s networks made =
     subst (All (λ (n : Net). n.stops ≡ length (feed_in i).stops)) (sym made.networks_are) (of_all (scenarios_in i))
   where
-    of_all : (xs : List ScenarioData) → All (λ (n : Net). n.stops ≡ length (feed_in i).stops) (networks_of (feed_in i) (runs_in i s) made.feet xs)
+    of_all : (xs : List ScenarioData) → All (λ (n : Net). n.stops
+        ≡ length (feed_in i).stops) (networks_of (feed_in i) (runs_in i s) made.feet xs)
     of_all [] = All-nil (λ (n : Net). n.stops ≡ length (feed_in i).stops)
     of_all (x ∷ xs) =
-        All-cons (λ (n : Net). n.stops ≡ length (feed_in i).stops) (net_of (feed_in i) x (runs_in i s) made.feet) (networks_of (feed_in i) (runs_in i s) made.feet xs) refl (of_all xs)
+        All-cons (λ (n : Net). n.stops ≡ length (feed_in i).stops) (net_of (feed_in i) x (runs_in i s) made.feet)
+        (networks_of (feed_in i) (runs_in i s) made.feet xs) refl (of_all xs)
 
 -- the window of settings that fit is on the axis
 window_fits : (s : SettingsData) → SettingsFit s → Fits (window_of s)
@@ -303,8 +366,10 @@ window_fits s fits = record {
 }
 
 -- the study is within the limits
-pub study_fits : (i : InputFiles) (s : SettingsData) (feed : FeedData) (t : Tables) (networks : List Net) (origins : List StopNo) (opportunities : List ℕ) (query : Query)
-    → SettingsFit s → IsFeed feed → feed ≡ feed_in i → AreTables i feed t → AreNetworks i s networks → origins ≡ t.origins.items → opportunities ≡ t.opportunities.items
+pub study_fits : (i : InputFiles) (s : SettingsData) (feed : FeedData) (t : Tables) (networks : List Net)
+    (origins : List StopNo) (opportunities : List ℕ) (query : Query)
+    → SettingsFit s → IsFeed feed → feed ≡ feed_in i → AreTables i feed t → AreNetworks i s networks →
+    origins ≡ t.origins.items → opportunities ≡ t.opportunities.items
     → query ≡ query_of s t.destinations.items
     → StudyFits (study_with query networks origins opportunities)
 study_fits i s feed t networks origins opportunities query fits is_feed is tables made p q asked =
@@ -324,7 +389,8 @@ study_fits i s feed t networks origins opportunities query fits is_feed is table
       origins = subst (λ (n : ℕ). All (λ (o : StopNo). o.0 < n) origins) (sym stops)
           (subst (λ (l : List StopNo). All (λ (o : StopNo). o.0 < length feed.stops) l) (sym p) tables.in_range);
       few_destinations = omega (arith, few_named, limit);
-      destinations = subst (λ (n : ℕ). All (λ (o : StopNo). o.0 < n) t.destinations.items) (sym stops) tables.destinations_in_range;
+      destinations = subst (λ (n : ℕ). All (λ (o : StopNo). o.0 < n) t.destinations.items) (sym stops)
+          tables.destinations_in_range;
       window = window_fits s fits;
       some_rides = fits.some_rides;
       few_rides = fits.few_rides;
@@ -335,11 +401,20 @@ study_fits i s feed t networks origins opportunities query fits is_feed is table
 -- labels of these parts
 abbrev pub labels_with : List (List ℕ) → List StopNo → List ℕ → List ℕ → List StopNo → List (List ℕ) → LabelData
 labels_with names origins shares limits destinations stops =
-    record { scenarios = names; origins = origins; shares = shares; limits = limits; destinations = destinations; stops = stops }
+    record {
+      scenarios = names;
+      origins = origins;
+      shares = shares;
+      limits = limits;
+      destinations = destinations;
+      stops = stops;
+    }
 
 -- the labels are those of the files and the settings
-pub labels_are : (i : InputFiles) (s : SettingsData) (names : List (List ℕ)) (origins : List StopNo) (shares limits : List ℕ) (destinations : List StopNo) (stops : List (List ℕ))
-    → names ≡ names_of i.scenarios → origins ≡ origins_in i → shares ≡ s.shares → limits ≡ s.withins → destinations ≡ destinations_in i → stops ≡ (feed_in i).stops
+pub labels_are : (i : InputFiles) (s : SettingsData) (names : List (List ℕ)) (origins : List StopNo)
+    (shares limits : List ℕ) (destinations : List StopNo) (stops : List (List ℕ))
+    → names ≡ names_of i.scenarios → origins ≡ origins_in i → shares ≡ s.shares → limits ≡ s.withins →
+    destinations ≡ destinations_in i → stops ≡ (feed_in i).stops
     → labels_with names origins shares limits destinations stops ≡ labels_in i s
 labels_are i s names origins shares limits destinations stops p q r t v u =
     ap (λ (x : List (List ℕ)). labels_with x origins shares limits destinations stops) p
@@ -347,7 +422,8 @@ labels_are i s names origins shares limits destinations stops p q r t v u =
     ∙ ap (λ (x : List ℕ). labels_with (names_of i.scenarios) (origins_in i) x limits destinations stops) r
     ∙ ap (λ (x : List ℕ). labels_with (names_of i.scenarios) (origins_in i) s.shares x destinations stops) t
     ∙ ap (λ (x : List StopNo). labels_with (names_of i.scenarios) (origins_in i) s.shares s.withins x stops) v
-    ∙ ap (λ (x : List (List ℕ)). labels_with (names_of i.scenarios) (origins_in i) s.shares s.withins (destinations_in i) x) u
+    ∙ ap (λ (x : List (List ℕ)). labels_with (names_of i.scenarios) (origins_in i) s.shares s.withins
+    (destinations_in i) x) u
 
 -- there is a name for each scenario
 pub name_count : (files : List NamedBytes) → length (names_of files) ≡ length files + 1
@@ -356,13 +432,17 @@ name_count files =
     ap suc (length-map files name) ∙ one_first (length files)
 
 -- what a run of workers tells
-pub run_told : (decides : Decides) (was_told : WasTold) (i : InputFiles) (s : SettingsData) (study : StudyData) (e : RunFault) → Means i s study
+pub run_told : (decides : Decides) (was_told : WasTold) (i : InputFiles) (s : SettingsData) (study : StudyData)
+    (e : RunFault) → Means i s study
     → IsFaultOfNew study decides was_told s.workers s.tries e → IsFaultOfRun decides was_told e i s
 run_told decides was_told i s study e means h = record { study = study; means = means; why = h }
 
 -- the fault of a run over a new board
-pub run_fault : (r : Result MatrixData RunFault) (s : StudyData) (decides : Decides) (was_told : WasTold) (board : Board) (v : View) (workers tries : ℕ)
-    → board.jobs ≡ jobs_of s → board.tries ≡ tries → IfErr r (λ e. IsFaultOf s decides was_told board workers (first_view (jobs_of s * tries)) v e)
+pub run_fault : (r : Result MatrixData RunFault) (s : StudyData) (decides : Decides) (was_told : WasTold)
+    (board : Board) (v : View) (workers tries : ℕ)
+    → board.jobs ≡ jobs_of s → board.tries ≡ tries →
+    IfErr r (λ e. IsFaultOf s decides was_told board workers (first_view (jobs_of s * tries)) v e)
     → IfErr r (λ e. IsFaultOfNew s decides was_told workers tries e)
 run_fault (Ok m) s decides was_told board v workers tries jobs tries_are h = h
-run_fault (Err e) s decides was_told board v workers tries jobs tries_are h = inr (record { board = board; jobs = jobs; tries_are = tries_are; view = v; why = h })
+run_fault (Err e) s decides was_told board v workers tries jobs tries_are h =
+    inr (record { board = board; jobs = jobs; tries_are = tries_are; view = v; why = h })

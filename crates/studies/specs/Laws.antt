@@ -12,19 +12,24 @@ use Rattle.studies.specs.Study.{IsStudyText, Means, Refuses}
 
 -- a law: the same files and settings have one text
 abbrev pub TextsAreUnique : Type 0
-TextsAreUnique = (i : InputFiles) (s : SettingsData) (text other : List ℕ) → IsStudyText i s text → IsStudyText i s other → text ≡ other
+TextsAreUnique = (i : InputFiles) (s : SettingsData) (text other : List ℕ) → IsStudyText i s text →
+    IsStudyText i s other → text ≡ other
 
 -- a law: no files are both refused and accepted
 abbrev pub RefusedHaveNoMeaning : Type 0
-RefusedHaveNoMeaning = (i : InputFiles) (s : SettingsData) (e : StudyFault) (study : StudyData) → Refuses e i s → Means i s study → ⊥
+RefusedHaveNoMeaning = (i : InputFiles) (s : SettingsData) (e : StudyFault) (study : StudyData) → Refuses e i s →
+    Means i s study → ⊥
 
 -- the same files without one of destinations
 abbrev pub to_all_stops : InputFiles → InputFiles
 to_all_stops i = record i { destinations = None }
 
--- a law: the text of a study with destinations is that of the same study without them, with the other columns left out: there is one
+-- a law: the text of a study with destinations is that of the same study without them, with the other columns left out:
+-- there is one
 -- matrix of which the one has the columns of all stops, and the other those of the destinations
 abbrev pub TextsHaveTheirColumns : Type 0
 TextsHaveTheirColumns =
-    (i : InputFiles) (s : SettingsData) (text whole : List ℕ) → IsStudyText i s text → IsStudyText (to_all_stops i) s whole →
-    (m : MatrixData) × (whole ≡ matrix_text (labels_in (to_all_stops i) s) m) × (text ≡ matrix_text (labels_in i s) (matrix_at (destinations_in i) m))
+    (i : InputFiles) (s : SettingsData) (text whole : List ℕ) → IsStudyText i s text →
+    IsStudyText (to_all_stops i) s whole →
+    (m : MatrixData) × (whole ≡ matrix_text (labels_in (to_all_stops i) s) m)
+    × (text ≡ matrix_text (labels_in i s) (matrix_at (destinations_in i) m))

@@ -13,7 +13,11 @@ use Rattle.studies.specs.declared.fault.StudyFault.TheVariants.{Feed, Memory}
 -- an origin that is no stop of the feed
 abbrev pub origin_faults : FeedData → List ℕ → List FeedFault
 origin_faults feed origin =
-    if is_none (position (bytes_eq origin) feed.stops) then record { file = Origins; at = 0; what = UnknownStop } ∷ [] else []
+    if is_none (position (bytes_eq origin) feed.stops) then record {
+      file = Origins;
+      at = 0;
+      what = UnknownStop;
+    } ∷ [] else []
 
 -- the faults of the tables, and then of the origin
 abbrev pub minute_faults : FeedFiles → List ℕ → List FeedFault

@@ -1,6 +1,7 @@
 -- The line for one minute of the day: the least durations from one stop to all stops, where every trip of the feed
 -- runs once at the feed's own times, nobody walks, and no change takes time.
-use Rattle.std.specs.Prelude.{◌≡◌, ◌+◌, ◌*◌, ◌==◌, ◌++◌, ℕ, List, [], ◌∷◌, length, map, replicate, position, Some, decimal, if◌then◌else◌}
+use Rattle.std.specs.Prelude.{◌≡◌, ◌+◌, ◌*◌, ◌==◌, ◌++◌, ℕ, List, [], ◌∷◌, length, map, replicate, position, Some}
+use Rattle.std.specs.Prelude.{decimal, if◌then◌else◌}
 use Rattle.std.specs.List.{join_with_byte}
 use Rattle.std.specs.Str.{bytes_eq}
 use Rattle.timetable.specs.Networks.{Net}

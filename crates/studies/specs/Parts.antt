@@ -51,16 +51,21 @@ destination_faults i feed = origins_faults i.destinations feed
 
 -- the faults of the analyst's own tables: those of footpaths, of origins, and of opportunities
 abbrev pub own_faults : InputFiles → FeedData → List FeedFault
-own_faults i feed = direct_faults feed i.footpaths ++ (origins_faults i.origins feed ++ opportunities_faults i.opportunities feed)
+own_faults i feed = direct_faults feed i.footpaths ++ (origins_faults i.origins feed ++ opportunities_faults
+    i.opportunities feed)
 
--- the faults of all files but that of destinations and the scenarios: the feed's, and then those of the analyst's own tables
+-- the faults of all files but that of destinations and the scenarios: the feed's, and then those of the analyst's own
+-- tables
 abbrev pub table_faults : InputFiles → List FeedFault
 table_faults i = feed_faults i.feed ++ own_faults i (feed_in i)
 
 -- the faults of scenario files, each with the file's number, of which the first has this one
 abbrev pub edit_faults : FeedData → ℕ → List NamedBytes → List (ℕ × ScenarioFault)
 edit_faults feed number [] = []
-edit_faults feed number (f ∷ files) = map (λ e. (number, e)) (scenario_faults f.bytes feed) ++ edit_faults feed (number + 1) files
+edit_faults feed number (f ∷ files) = map (λ e. (
+  number,
+  e,
+)) (scenario_faults f.bytes feed) ++ edit_faults feed (number + 1) files
 
 -- the scenario without edits
 abbrev pub base_scenario : ScenarioData
@@ -84,7 +89,8 @@ runs_in i s = days.runs_of (feed_in i) (day_number s.date) s.back s.ahead
 -- the faults of networks, each with its scenario's number, of which the first has this one
 abbrev pub network_faults : FeedData → List Run → ℕ → List ScenarioData → List (ℕ × NetFault)
 network_faults feed runs number [] = []
-network_faults feed runs number (x ∷ xs) = map (λ e. (number, e)) (net_faults feed x runs) ++ network_faults feed runs (number + 1) xs
+network_faults feed runs number (x ∷ xs) =
+    map (λ e. (number, e)) (net_faults feed x runs) ++ network_faults feed runs (number + 1) xs
 
 -- one network for each scenario
 abbrev pub networks_of : FeedData → List Run → FeetData → List ScenarioData → List Net

@@ -45,4 +45,10 @@ window_of s = record { first = 86400 * s.back + 60 * s.first; minutes = s.minute
 
 -- what is asked of every network, with these destinations
 abbrev pub query_of : SettingsData → List StopNo → Query
-query_of s destinations = record { window = window_of s; rides = s.rides; shares = s.shares; limits = s.withins; destinations = destinations }
+query_of s destinations = record {
+  window = window_of s;
+  rides = s.rides;
+  shares = s.shares;
+  limits = s.withins;
+  destinations = destinations;
+}

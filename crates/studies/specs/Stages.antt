@@ -20,7 +20,8 @@ use Rattle.studies.specs.declared.parts.Tables.{Tables}
 use Rattle.studies.specs.Inputs.{InputFiles}
 use Rattle.studies.specs.NamedFile.{NamedBytes}
 use Rattle.studies.specs.Names.{name_faults}
-use Rattle.studies.specs.Parts.{destination_faults, feed_in, edit_faults, network_faults, own_faults, runs_in, scenarios_in}
+use Rattle.studies.specs.Parts.{destination_faults, feed_in, edit_faults, network_faults, own_faults, runs_in}
+use Rattle.studies.specs.Parts.{scenarios_in}
 use Rattle.studies.specs.Settings.{SettingsData}
 use Rattle.studies.specs.Study.{AreWalked}
 
@@ -29,7 +30,8 @@ pub record IsFeedOf (i : InputFiles) (feed : FeedData) : Type 0 where
   pub faultless : feed_faults i.feed ≡ []
   pub feed_is : feed ≡ feed_in i
 
--- the analyst's own tables for a feed: the origins and destinations are stops, each once, and each stop has its opportunities
+-- the analyst's own tables for a feed: the origins and destinations are stops, each once, and each stop has its
+-- opportunities
 pub record AreTables (i : InputFiles) (feed : FeedData) (t : Tables) : Type 0 where
   pub direct_is : t.direct ≡ direct_of feed i.footpaths
   pub origins_are : t.origins.items ≡ origins_of i.origins feed

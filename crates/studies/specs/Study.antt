@@ -1,5 +1,6 @@
 -- Which study the files mean, or which part of them is refused first.
--- The parts in their order: the names of the scenarios; the feed, footpaths, origins and opportunities; the destinations; the scenario files;
+-- The parts in their order: the names of the scenarios; the feed, footpaths, origins and opportunities; the
+-- destinations; the scenario files;
 -- the runs of the study's days; the closed footpaths; and the networks.
 use Rattle.std.specs.Prelude.{◌≡◌, ◌⊎◌, ◌<◌, ◌≤◌, ℕ, List, [], length, ⊤}
 use Rattle.table_records.specs.Faults.{IsFirst}
@@ -25,7 +26,8 @@ use Rattle.studies.specs.declared.fault.StudyFault.TheVariants as fault
 use Rattle.studies.specs.Inputs.{InputFiles}
 use Rattle.studies.specs.Names.{name_faults}
 use Rattle.studies.specs.Settings.{SettingsData}
-use Rattle.studies.specs.Parts.{table_faults, destination_faults, edit_faults, day_faults, network_faults, feed_in, direct_in, scenarios_in, runs_in, networks_of, study_in, labels_in}
+use Rattle.studies.specs.Parts.{table_faults, destination_faults, edit_faults, day_faults, network_faults, feed_in}
+use Rattle.studies.specs.Parts.{direct_in, scenarios_in, runs_in, networks_of, study_in, labels_in}
 
 -- there are few enough scenario files, and their names are accepted
 pub record AreNamed (i : InputFiles) : Type 0 where
@@ -76,14 +78,19 @@ Refuses (fault.Scenario k e) i s = AreRead i × IsFirst (k, e) (edit_faults (fee
 Refuses (fault.Days e) i s = AreEdited i × IsFirst e (day_faults i s)
 Refuses (fault.Feet e) i s = AreDated i s × (e ≡ foot.TooMany) × HasTooMany (direct_in i).pairs s.walk
 Refuses (fault.Net k e) i s =
-    (feet : FeetData) × AreWalked i s feet × IsFirst (k, e) (network_faults (feed_in i) (runs_in i s) 0 (scenarios_in i))
+    (feet : FeetData) × AreWalked i s feet × IsFirst (
+      k,
+      e,
+    ) (network_faults (feed_in i) (runs_in i s) 0 (scenarios_in i))
 Refuses (fault.Run e) i s = ⊥
 Refuses (fault.Text e) i s = ⊥
 Refuses fault.Memory i s = ⊥
 
--- why a gate's run of workers gave no matrix of the study that the files mean: by as many workers as the settings say, on a board
+-- why a gate's run of workers gave no matrix of the study that the files mean: by as many workers as the settings say,
+-- on a board
 -- where each row may be begun as often as they say
-pub record IsFaultOfRun (decides : Decides) (was_told : WasTold) (e : RunFault) (i : InputFiles) (s : SettingsData) : Type 0 where
+pub record IsFaultOfRun (decides : Decides) (was_told : WasTold) (e : RunFault) (i : InputFiles)
+    (s : SettingsData) : Type 0 where
   pub study : StudyData
   pub means : Means i s study
   pub why : IsFaultOfNew study decides was_told s.workers s.tries e

@@ -32,9 +32,11 @@ pub(crate) fn matrix_of<G: Gate + Sync, W: Watch, R: Threads + Wait + Sync>(
     ensures matrix { IfOk result (λ matrix. IsMatrix (study_of study.now) matrix.value) }
     ensures shape { IfOk result (λ matrix. HasShape (study_of study.now) matrix.value) }
     ensures fault { IfErr result (λ fault.
-        IsFaultOfNew (study_of study.now) (G.decides gate.now) (G.was_told gate.now) settings.now.workers settings.now.tries fault) }
+        IsFaultOfNew (study_of study.now) (G.decides gate.now) (G.was_told gate.now) settings.now.workers
+        settings.now.tries fault) }
     ensures told { IfOk result (λ matrix. W.saw watch.now (ended (study_of study.now) (Ok matrix.value))) }
-    ensures told_fault { IfErr result (λ fault. (fault ≡ RunFault.Memory) ⊎ W.saw watch.now (ended (study_of study.now) (Err fault))) }
+    ensures told_fault { IfErr result (λ fault. (fault ≡ RunFault.Memory)
+        ⊎ W.saw watch.now (ended (study_of study.now) (Err fault))) }
 {
     let jobs = study.networks.len() as u32 * study.origins.len() as u32;
     let (board, mut seat) = Board::new(alloc, jobs, settings.tries)?;

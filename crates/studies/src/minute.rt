@@ -30,7 +30,8 @@ pub fn minute_line(
     requires minute { minute < 1440 }
     requires rides { (1 ≤ rides) × (rides ≤ 8) }
     ensures good { IfOk result (λ _. minute_faults (files_of files.now) origin.now ≡ []) }
-    ensures line { IfOk result (λ line. IsMinuteLine (feed_of (files_of files.now)) origin.now minute rides line.items) }
+    ensures line { IfOk result (λ line. IsMinuteLine (feed_of (files_of files.now)) origin.now minute rides
+        line.items) }
     ensures fault { IfErr result (λ fault. Tells fault (minute_faults (files_of files.now) origin.now)) }
 {
     let feed = feed_from(alloc, files)?;

@@ -49,7 +49,19 @@ impl Model for Settings {
 
     ghost Value = { SettingsData };
 
-    ghost view = { λ s. record { date = s.date; back = s.back; ahead = s.ahead; first = s.first; minutes = s.minutes; rides = s.rides; walk = s.walk; shares = s.shares.items; withins = s.withins.items; workers = s.workers; tries = s.tries } };
+    ghost view = { λ s. record {
+      date = s.date;
+      back = s.back;
+      ahead = s.ahead;
+      first = s.first;
+      minutes = s.minutes;
+      rides = s.rides;
+      walk = s.walk;
+      shares = s.shares.items;
+      withins = s.withins.items;
+      workers = s.workers;
+      tries = s.tries;
+    } };
 }
 
 impl Settings {

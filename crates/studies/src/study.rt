@@ -46,7 +46,8 @@ pub fn run_study<G: Gate + Sync, R: Threads + Wait + Sync>(
     requires settings { SettingsFit settings.now }
     ensures text { IfOk result (λ text. IsStudyText (inputs_of inputs.now) settings.now text.items) }
     ensures fault { IfErr result (λ e. Tells e (inputs_of inputs.now) settings.now) }
-    ensures run { IfErr result (λ e. TellsBy (G.decides gate.now) (G.was_told gate.now) e (inputs_of inputs.now) settings.now) }
+    ensures run { IfErr result (λ e. TellsBy (G.decides gate.now) (G.was_told gate.now) e (inputs_of inputs.now)
+        settings.now) }
 {
     watch_study(rt, alloc, inputs, settings, gate, &Unwatched)
 }
@@ -70,7 +71,8 @@ pub fn watch_study<G: Gate + Sync, W: Watch, R: Threads + Wait + Sync>(
     ensures text { IfOk result (λ text. IsStudyText (inputs_of inputs.now) settings.now text.items) }
     ensures told { IfOk result (λ _. SawAll (W.saw watch.now) (inputs_of inputs.now) settings.now) }
     ensures fault { IfErr result (λ e. Tells e (inputs_of inputs.now) settings.now) }
-    ensures run { IfErr result (λ e. TellsBy (G.decides gate.now) (G.was_told gate.now) e (inputs_of inputs.now) settings.now) }
+    ensures run { IfErr result (λ e. TellsBy (G.decides gate.now) (G.was_told gate.now) e (inputs_of inputs.now)
+        settings.now) }
 {
     check_names(inputs.scenarios)?;
     let feed = feed_from(alloc, &inputs.feed)?;
@@ -110,7 +112,8 @@ fn text_of_matrix(
     requires width { matrix.now.width ≡ length tables.now.destinations.items }
     requires shares { matrix.now.shares ≡ length settings.now.shares }
     requires limits { matrix.now.limits ≡ length settings.now.withins }
-    ensures text { IfOk result (λ text. text.items ≡ matrix_text (labels_in (inputs_of inputs.now) settings.now) matrix.now) }
+    ensures text { IfOk result (λ text. text.items
+        ≡ matrix_text (labels_in (inputs_of inputs.now) settings.now) matrix.now) }
     ensures fault { IfErr result TellsText }
 {
     let names = names_of(alloc, inputs.scenarios)?;

@@ -20,7 +20,8 @@ is_new b e true h = cc (e, h)
 is_new b e false h = refl
 
 -- identifiers, and one that is none of them
-pub distinct_push : (ids : List (List ℕ)) (id : List ℕ) → IsDistinct bytes_eq ids → list_any (bytes_eq id) ids ≡ false → IsDistinct bytes_eq (ids ++ id ∷ [])
+pub distinct_push : (ids : List (List ℕ)) (id : List ℕ) → IsDistinct bytes_eq ids → list_any (bytes_eq id) ids ≡ false →
+    IsDistinct bytes_eq (ids ++ id ∷ [])
 unfolding IsDistinct
 distinct_push [] id apart new = (tt, tt)
 distinct_push (x ∷ ids) id apart new =
@@ -30,7 +31,8 @@ distinct_push (x ∷ ids) id apart new =
     flipped : (a b : List ℕ) → bytes_eq a b ≡ false → bytes_eq b a ≡ false
     flipped a b e = grind (arith, bytes_eq-Decides)
 
-    differs_push : (y : List ℕ) (xs : List (List ℕ)) (z : List ℕ) → AllByRecursion (λ k. bytes_eq y k ≡ false) xs → bytes_eq y z ≡ false
+    differs_push : (y : List ℕ) (xs : List (List ℕ)) (z : List ℕ) → AllByRecursion (λ k. bytes_eq y k ≡ false) xs →
+        bytes_eq y z ≡ false
         → AllByRecursion (λ k. bytes_eq y k ≡ false) (xs ++ z ∷ [])
     differs_push y [] z h e = (e, tt)
     differs_push y (x ∷ xs) z h e = (h.0, differs_push y xs z h.1 e)

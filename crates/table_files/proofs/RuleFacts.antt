@@ -1,5 +1,6 @@
 -- What a reader's definition refuses, the rule of its check refuses.
-use Rattle.std.proofs.Common.{◌≡◌, ◌==◌, ◌&&◌, ℕ, zero, suc, Bool, true, false, List, [], ◌∷◌, Option, Some, None, nat_le, arith, refl, if◌then◌else◌}
+use Rattle.std.proofs.Common.{◌≡◌, ◌==◌, ◌&&◌, ℕ, zero, suc, Bool, true, false, List, [], ◌∷◌, Option, Some, None}
+use Rattle.std.proofs.Common.{nat_le, arith, refl, if◌then◌else◌}
 use Rattle.std.specs.Prelude.{is_none, not, option_and_then, option_map}
 use Rattle.std.proofs.lemmas.Bool.{le-leb}
 use Rattle.table_records.specs.Checks.{is_neither, is_no_headway}
@@ -30,7 +31,8 @@ pub no_choice : (off on : ℕ) (o : Option ℕ) → is_none (choice off on o) �
 no_choice off on None h = refl
 no_choice off on (Some n) h = by (n == off) (n == on) h
   where
-    by : (a b : Bool) → is_none (if a then Some false else if b then Some true else None) ≡ true → (not a && not b) ≡ true
+    by : (a b : Bool) → is_none (if a then Some false else if b then Some true else None) ≡ true →
+        (not a && not b) ≡ true
     by true b k = cc k
     by false true k = cc k
     by false false k = refl
@@ -39,7 +41,8 @@ no_choice off on (Some n) h = by (n == off) (n == on) h
 pub no_headway : (text : List ℕ) → is_none (headway_of text) ≡ true → is_no_headway (number_of text) ≡ true
 no_headway text bad = by (number_of text) bad
   where
-    by : (o : Option ℕ) → is_none (option_and_then (λ n. if nat_le 1 n then Some n else None) o) ≡ true → is_no_headway o ≡ true
+    by : (o : Option ℕ) → is_none (option_and_then (λ n. if nat_le 1 n then Some n else None) o) ≡ true →
+        is_no_headway o ≡ true
     by None h = refl
     by (Some zero) h = refl
     by (Some (suc m)) h = let some : nat_le 1 (suc m) ≡ true = le-leb 1 (suc m) (omega arith) in cc (rw some at h)
@@ -49,10 +52,13 @@ pub record HasNoFlag (texts : List (List ℕ)) : Type 0 where
   pub bad : is_none (days_of texts) ≡ true
 
 -- it is the first of them, or one of the rest
-pub one_flag : {P : Type 0} {text : List ℕ} {rest : List (List ℕ)} → HasNoFlag (text ∷ rest) → (is_neither 0 1 (number_of text) ≡ true → P) → (HasNoFlag rest → P) → P
-one_flag {P = P} {text = text} {rest = rest} days here there = by (flag_of text) (λ bad. here (no_choice 0 1 (number_of text) bad)) days.bad
+pub one_flag : {P : Type 0} {text : List ℕ} {rest : List (List ℕ)} → HasNoFlag (text ∷ rest) →
+    (is_neither 0 1 (number_of text) ≡ true → P) → (HasNoFlag rest → P) → P
+one_flag {P = P} {text = text} {rest = rest} days here there =
+    by (flag_of text) (λ bad. here (no_choice 0 1 (number_of text) bad)) days.bad
   where
-    by : (o : Option Bool) → (is_none o ≡ true → P) → is_none (option_and_then (λ day. option_map (λ days. day ∷ days) (days_of rest)) o) ≡ true → P
+    by : (o : Option Bool) → (is_none o ≡ true → P) →
+        is_none (option_and_then (λ day. option_map (λ days. day ∷ days) (days_of rest)) o) ≡ true → P
     by None first b = first refl
     by (Some day) first b = there (record { bad = none_of _ (days_of rest) b })
 

@@ -1,5 +1,6 @@
 -- One more record of `transfers.txt`.
-use Rattle.std.proofs.Common.{◌≡◌, ◌+◌, ◌∙◌, ◌++◌, ℕ, Bool, true, false, List, [], ◌∷◌, length, Option, Some, None, position, arith, refl, sym, ap, subst, if◌then◌else◌, map, ◌≤◌}
+use Rattle.std.proofs.Common.{◌≡◌, ◌+◌, ◌∙◌, ◌++◌, ℕ, Bool, true, false, List, [], ◌∷◌, length, Option, Some, None}
+use Rattle.std.proofs.Common.{position, arith, refl, sym, ap, subst, if◌then◌else◌, map, ◌≤◌}
 use Rattle.std.specs.Prelude.{◌&&◌, ◌==◌, All, nat_le, option_and_then, slice_get, unwrap_or}
 use Rattle.std.specs.List.{cons_option, enumerate_from, filter_map}
 use Rattle.std.specs.Str.{bytes_eq}
@@ -16,12 +17,15 @@ use Rattle.table_files.specs.declared.place.Place.{Place}
 use Rattle.table_files.specs.declared.place.Place.TheVariants.{Other}
 use Rattle.table_files.specs.Children.{IsPlace}
 use Rattle.table_files.specs.Locations.{AreLocations, LocationData, kind_of}
-use Rattle.table_files.specs.Transfers.{AreTransfers, IsLink, Takes, TransferRow, checks, end_of, gives_any, is_change, is_general, is_used, is_whole, link_at, link_of, links_of, row_of, unused_of, used_checks}
+use Rattle.table_files.specs.Transfers.{AreTransfers, IsLink, Takes, TransferRow, checks, end_of, gives_any, is_change}
+use Rattle.table_files.specs.Transfers.{is_general, is_used, is_whole, link_at, link_of, links_of, row_of, unused_of}
+use Rattle.table_files.specs.Transfers.{used_checks}
 use Rattle.table_files.proofs.ChildrenFacts.{enumerate_from-append}
 
 -- the links with one more row
 links_push : (locations : LocationData) (before : List TransferRow) (r : TransferRow) (at : ℕ) → at ≡ length before + 2
-    → links_of locations (before ++ r ∷ []) ≡ links_of locations before ++ filter_map (λ (x : ℕ × TransferRow). link_of locations x.0 x.1) ((at, r) ∷ [])
+    → links_of locations (before ++ r ∷ []) ≡ links_of locations before ++ filter_map
+    (λ (x : ℕ × TransferRow). link_of locations x.0 x.1) ((at, r) ∷ [])
 links_push locations before r at is =
     let here : 2 + length before ≡ at = omega (arith, is) in
     let link : ℕ × TransferRow → Option Link = λ x. link_of locations x.0 x.1 in
@@ -29,63 +33,89 @@ links_push locations before r at is =
     ∙ filter_map-append link (enumerate_from 2 before) ((2 + length before, r) ∷ [])
     ∙ (λ k. links_of locations before ++ filter_map link ((here k, r) ∷ []))
 
-pub transfers_more : (locations : LocationData) (a b : Transfers) (before : List TransferRow) (r : TransferRow) (at : ℕ) (link : Option Link) → at ≡ length before + 2 → link ≡ link_of locations at r
+pub transfers_more : (locations : LocationData) (a b : Transfers) (before : List TransferRow) (r : TransferRow) (at : ℕ)
+    (link : Option Link) → at ≡ length before + 2 → link ≡ link_of locations at r
     → Takes link a b → AreTransfers locations a before → AreTransfers locations b (before ++ r ∷ [])
 transfers_more locations a b before r at (Some link) number is (links, unused) are = record {
-  links = links ∙ ap (λ (l : List Link). l ++ link ∷ []) are.links ∙ sym (links_push locations before r at number ∙ rw (← is) refl);
-  unused = omega (arith, links, unused, are.unused, ap length links, length-append a.links.items (link ∷ []), length-append before (r ∷ []));
+  links = links ∙ ap (λ (l : List Link). l ++ link ∷ []) are.links
+      ∙ sym (links_push locations before r at number ∙ rw (← is) refl);
+  unused = omega (
+    arith,
+    links,
+    unused,
+    are.unused,
+    ap length links,
+    length-append a.links.items (link ∷ []),
+    length-append before (r ∷ []),
+  );
 }
 transfers_more locations a b before r at None number is (links, unused) are = record {
-  links = links ∙ are.links ∙ sym (links_push locations before r at number ∙ rw (← is) (append-nil (links_of locations before)));
+  links = links ∙ are.links ∙ sym (links_push locations before r at number
+      ∙ rw (← is) (append-nil (links_of locations before)));
   unused = omega (arith, unused, are.unused, ap length links, length-append before (r ∷ []));
 }
 
 -- the rows that give no link
-pub count_unused : (locations : LocationData) (t : Transfers) (rows : List TransferRow) → AreTransfers locations t rows → t.unused ≡ unused_of locations rows
+pub count_unused : (locations : LocationData) (t : Transfers) (rows : List TransferRow) →
+    AreTransfers locations t rows → t.unused ≡ unused_of locations rows
 count_unused locations t rows are = omega (arith, are.unused, ap length are.links)
 
 -- an end is a place of the feed, or stands for no stop
-end_in_range : (locations : LocationData) (id : List ℕ) → AreLocations locations → IsPlace (length locations.stops) (length locations.stations) (end_of locations.names locations.locations id)
+end_in_range : (locations : LocationData) (id : List ℕ) → AreLocations locations →
+    IsPlace (length locations.stops) (length locations.stations) (end_of locations.names locations.locations id)
 end_in_range locations id are = by (position (bytes_eq id) locations.names)
   where
-    at : (o : Option Place) (n : ℕ) → slice_get locations.locations n ≡ o → IsPlace (length locations.stops) (length locations.stations) (unwrap_or o Other)
+    at : (o : Option Place) (n : ℕ) → slice_get locations.locations n ≡ o →
+        IsPlace (length locations.stops) (length locations.stations) (unwrap_or o Other)
     at None n e = tt
     at (Some place) n e =
         let in_range : Place → Type 0 = IsPlace (length locations.stops) (length locations.stations) in
-        subst in_range (get_or_from_slice_get locations.locations n place Other e) (are.in_range n Other (slice_get_within locations.locations n place e))
+        subst in_range (get_or_from_slice_get locations.locations n place Other e)
+        (are.in_range n Other (slice_get_within locations.locations n place e))
 
-    by : (o : Option ℕ) → IsPlace (length locations.stops) (length locations.stations) (unwrap_or (option_and_then (slice_get locations.locations) o) Other)
+    by : (o : Option ℕ) → IsPlace (length locations.stops) (length locations.stations)
+        (unwrap_or (option_and_then (slice_get locations.locations) o) Other)
     by None = tt
     by (Some n) = at (slice_get locations.locations n) n refl
 
 links_from : (locations : LocationData) → AreLocations locations → (rows : List (ℕ × TransferRow))
-    → All (IsLink (length locations.stops) (length locations.stations)) (filter_map (λ (x : ℕ × TransferRow). link_of locations x.0 x.1) rows)
+    → All (IsLink (length locations.stops) (length locations.stations))
+    (filter_map (λ (x : ℕ × TransferRow). link_of locations x.0 x.1) rows)
 links_from locations are [] = All-nil (IsLink (length locations.stops) (length locations.stations))
-links_from locations are ((at, r) ∷ rows) = by (is_used r && gives_any locations.children (link_at locations at r)) (links_from locations are rows)
+links_from locations are ((at, r) ∷ rows) =
+    by (is_used r && gives_any locations.children (link_at locations at r)) (links_from locations are rows)
   where
-    by : (b : Bool) → All (IsLink (length locations.stops) (length locations.stations)) (filter_map (λ (x : ℕ × TransferRow). link_of locations x.0 x.1) rows)
-        → All (IsLink (length locations.stops) (length locations.stations)) (cons_option (if b then Some (link_at locations at r) else None) (filter_map (λ (x : ℕ × TransferRow). link_of locations x.0 x.1) rows))
+    by : (b : Bool) → All (IsLink (length locations.stops) (length locations.stations))
+        (filter_map (λ (x : ℕ × TransferRow). link_of locations x.0 x.1) rows)
+        → All (IsLink (length locations.stops) (length locations.stations))
+        (cons_option (if b then Some (link_at locations at r) else None)
+        (filter_map (λ (x : ℕ × TransferRow). link_of locations x.0 x.1) rows))
     by true rest =
-        All-cons (IsLink (length locations.stops) (length locations.stations)) (link_at locations at r) _ (record { origin = end_in_range locations r.from are; target = end_in_range locations r.to are }) rest
+        All-cons (IsLink (length locations.stops) (length locations.stations)) (link_at locations at r) _
+        (record { origin = end_in_range locations r.from are; target = end_in_range locations r.to are }) rest
     by false rest = rest
 
 -- the ends of all links are locations of the feed
-pub links_in_range : (locations : LocationData) (rows : List TransferRow) (links : List Link) → AreLocations locations → links ≡ links_of locations rows
+pub links_in_range : (locations : LocationData) (rows : List TransferRow) (links : List Link) → AreLocations locations →
+    links ≡ links_of locations rows
     → All (IsLink (length locations.stops) (length locations.stations)) links
 links_in_range locations rows links are is = rw is (links_from locations are (enumerate_from 2 rows))
 
 -- the rows behind a header, or none where there is no header
-pub rows_after : (records rest : List (List (List ℕ))) (found : Bool) (fields : List (List ℕ)) → Gives records found fields rest → table_rows row_of records ≡ map (row_of fields) rest
+pub rows_after : (records rest : List (List (List ℕ))) (found : Bool) (fields : List (List ℕ)) →
+    Gives records found fields rest → table_rows row_of records ≡ map (row_of fields) rest
 rows_after [] rest found fields g = rw (g.1) refl
 rows_after (r ∷ rs) rest found fields g = λ k. map (row_of (sym g.1 k)) (sym g.2 k)
 
-pub few_after : (bytes : List ℕ) (records rest : List (List (List ℕ))) (found : Bool) (fields : List (List ℕ)) → records ≡ records_of bytes → length bytes ≤ MOST_BYTES → Gives records found fields rest
+pub few_after : (bytes : List ℕ) (records rest : List (List (List ℕ))) (found : Bool) (fields : List (List ℕ)) →
+    records ≡ records_of bytes → length bytes ≤ MOST_BYTES → Gives records found fields rest
     → length rest ≤ MOST_BYTES
 few_after bytes [] rest found fields is few g = rw (g.1) (omega arith)
 few_after bytes (r ∷ rs) rest found fields is few g = rw (g.2) (few_records bytes r rs (sym is) few)
 
 -- what a row of a type gives
-module _ (locations : LocationData) (names : List (List ℕ)) (at : ℕ) (r : TransferRow) (kind : ℕ) (of : Some kind ≡ kind_of r.kind) where
+module _ (locations : LocationData) (names : List (List ℕ)) (at : ℕ) (r : TransferRow) (kind : ℕ) (of : Some kind
+    ≡ kind_of r.kind) where
   pub used_by : is_used r ≡ (nat_le kind 2 && is_general r && is_whole r)
   used_by = rw (← of) refl
 
@@ -101,8 +131,10 @@ module _ (locations : LocationData) (names : List (List ℕ)) (at : ℕ) (r : Tr
     pub checks_used : checks names [] r ≡ used_checks names r
     checks_used = rw (used, ← of) refl
 
-    pub gives : (link : Link) (b : Bool) → used_checks names r ≡ [] → link ≡ link_at locations at r → b ≡ gives_any locations.children link
+    pub gives : (link : Link) (b : Bool) → used_checks names r ≡ [] → link ≡ link_at locations at r →
+        b ≡ gives_any locations.children link
         → (checks names [] r ≡ []) × ((if b then Some link else None) ≡ link_of locations at r)
     gives link b none is pair =
-        let here : gives_any locations.children (link_at locations at r) ≡ b = ap (gives_any locations.children) (sym is) ∙ sym pair in
+        let here : gives_any locations.children (link_at locations at r) ≡ b =
+        ap (gives_any locations.children) (sym is) ∙ sym pair in
         (checks_used ∙ none, rw (used, here) (ap (λ (x : Link). if b then Some x else None) is))

@@ -1,6 +1,7 @@
 -- What `calendar.txt` says: on which weekdays of which dates a service runs.
 -- GTFS Schedule reference, calendar.txt.
-use Rattle.std.specs.Prelude.{◌≡◌, ℕ, Bool, List, [], ◌∷◌, ◌++◌, Option, Some, codes, is_none, map, option_and_then, option_map, unwrap_or}
+use Rattle.std.specs.Prelude.{◌≡◌, ℕ, Bool, List, [], ◌∷◌, ◌++◌, Option, Some, codes, is_none, map, option_and_then}
+use Rattle.std.specs.Prelude.{option_map, unwrap_or}
 use Rattle.std.specs.List.{list_any}
 use Rattle.std.specs.Str.{bytes_eq}
 use Rattle.table_records.specs.Columns.{column, field}
@@ -27,7 +28,8 @@ pub record ServiceRow : Type 0 where
 
 abbrev pub required : List (List ℕ)
 required =
-    codes "service_id" ∷ codes "monday" ∷ codes "tuesday" ∷ codes "wednesday" ∷ codes "thursday" ∷ codes "friday" ∷ codes "saturday" ∷ codes "sunday"
+    codes "service_id" ∷ codes "monday" ∷ codes "tuesday" ∷ codes "wednesday" ∷ codes "thursday" ∷ codes
+    "friday" ∷ codes "saturday" ∷ codes "sunday"
     ∷ codes "start_date" ∷ codes "end_date" ∷ []
 
 abbrev pub columns_of : List (List ℕ) → CalendarColumns

@@ -11,7 +11,8 @@ use Rattle.table_files.specs.declared.place.Place.TheVariants.{Stop, Station, Ot
 -- the stops, by their parents in the order of their numbers, whose parent is the station with this number
 abbrev pub children_at : List (List ℕ) → List (List ℕ) → ℕ → List StopNo
 children_at stations parents station =
-    map (λ x. record { 0 = x.0 }) (filter (λ x. is_number station (position (bytes_eq x.1) stations)) (enumerate_from 0 parents))
+    map (λ x. record { 0 = x.0 }) (filter (λ x. is_number station (position (bytes_eq x.1) stations))
+    (enumerate_from 0 parents))
 
 -- the stops of each station
 abbrev pub children_of : List (List ℕ) → List (List ℕ) → List (List StopNo)

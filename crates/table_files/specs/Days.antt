@@ -1,5 +1,6 @@
 -- Dates as numbers, and fields that choose one of two values.
-use Rattle.std.specs.Prelude.{◌==◌, ℕ, Bool, true, false, List, Option, Some, None, option_map, pos, unsigned_abs, ◌+ℤ◌, if◌then◌else◌}
+use Rattle.std.specs.Prelude.{◌==◌, ℕ, Bool, true, false, List, Option, Some, None, option_map, pos, unsigned_abs, ◌+ℤ◌}
+use Rattle.std.specs.Prelude.{if◌then◌else◌}
 use Rattle.jiff.specs.Words.{epoch_day}
 use Rattle.jiff_core.specs.declared.civil.date.Date.{Date}
 use Rattle.table_records.specs.Fields.{day_of, number_of}

@@ -1,6 +1,7 @@
 -- What `frequencies.txt` says: the trips that run at a headway.
 -- GTFS Schedule reference, frequencies.txt.
-use Rattle.std.specs.Prelude.{◌≡◌, ◌<◌, ◌+◌, ◌==◌, ℕ, List, [], ◌∷◌, ◌++◌, Option, Some, None, codes, filter, is_none, length, map, nat_le, option_and_then, position, slice_index_or, unwrap_or, if◌then◌else◌}
+use Rattle.std.specs.Prelude.{◌≡◌, ◌<◌, ◌+◌, ◌==◌, ℕ, List, [], ◌∷◌, ◌++◌, Option, Some, None, codes, filter, is_none}
+use Rattle.std.specs.Prelude.{length, map, nat_le, option_and_then, position, slice_index_or, unwrap_or, if◌then◌else◌}
 use Rattle.std.specs.Str.{bytes_eq}
 use Rattle.std.specs.declared.vec.Vec.{Vec}
 use Rattle.std.specs.declared.alloc.Global.{Global}
@@ -89,4 +90,5 @@ departures_by_trip trips rows = departures_from trips rows 0 trips
 
 -- each trip has its rows
 abbrev pub AreDepartures : List (List ℕ) → List (Vec Departures Global) → List FrequencyRow → Type 0
-AreDepartures trips items rows = (t : ℕ) (d : Vec Departures Global) → t < length items → (slice_index_or items t d).items ≡ of_trip trips rows t
+AreDepartures trips items rows = (t : ℕ) (d : Vec Departures Global) → t < length items →
+    (slice_index_or items t d).items ≡ of_trip trips rows t

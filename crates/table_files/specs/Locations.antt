@@ -1,7 +1,8 @@
 -- What stops.txt says: the locations of a feed, the stops and stations among them, and the stops of each station.
 -- A stop's number is how many stops stand before it, a station's how many stations.
 -- (GTFS Schedule reference, stops.txt: stop_id is unique; location_type 0 or empty is a stop or platform, 1 a station.)
-use Rattle.std.specs.Prelude.{◌≡◌, ◌==◌, ◌≤◌, ◌+◌, ℕ, Bool, List, [], ◌∷◌, ◌++◌, All, Option, Some, codes, filter, is_none, length, map, nat_le, option_and_then, position, slice_get, if◌then◌else◌}
+use Rattle.std.specs.Prelude.{◌≡◌, ◌==◌, ◌≤◌, ◌+◌, ℕ, Bool, List, [], ◌∷◌, ◌++◌, All, Option, Some, codes, filter}
+use Rattle.std.specs.Prelude.{is_none, length, map, nat_le, option_and_then, position, slice_get, if◌then◌else◌}
 use Rattle.std.specs.List.{IsDistinct, list_any}
 use Rattle.std.specs.Str.{bytes_eq}
 use Rattle.timetable.specs.declared.limits.TheConstants.{MOST_STOPS}
@@ -39,7 +40,11 @@ columns_of header = record {
 }
 
 abbrev pub row_at : LocationColumns → List (List ℕ) → LocationRecord
-row_at c fields = record { id = field fields c.id; kind = trimmed (field fields c.kind); parent = field fields c.parent }
+row_at c fields = record {
+  id = field fields c.id;
+  kind = trimmed (field fields c.kind);
+  parent = field fields c.parent;
+}
 
 abbrev pub row_of : List (List ℕ) → List (List ℕ) → LocationRecord
 row_of header = row_at (columns_of header)
@@ -90,7 +95,8 @@ parents_of rows = map (λ r. r.parent) (filter is_stop rows)
 -- what a record after others is
 abbrev pub location_at : List LocationRecord → LocationRecord → Place
 location_at before r =
-    if is_stop r then Stop (record { 0 = length (stops_of before) }) else if is_station r then Station (length (stations_of before)) else Other
+    if is_stop r then Stop (record { 0 = length (stops_of before) }) else if is_station r then Station
+    (length (stations_of before)) else Other
 
 abbrev pub locations_after : List LocationRecord → List LocationRecord → List Place
 locations_after before [] = []
@@ -159,5 +165,7 @@ pub record IsLocated (kind : ℕ) (id parent : List ℕ) (old new : LocationList
   pub stops : new.stops ≡ (if kind == 0 then with_id old.stops id else old.stops)
   pub stations : new.stations ≡ (if kind == 1 then with_id old.stations id else old.stations)
   pub locations : new.locations.items ≡ old.locations.items
-      ++ (if kind == 0 then Stop (record { 0 = length old.stops }) else if kind == 1 then Station (length old.stations) else Other) ∷ []
-  pub parents : map (λ v. v.items) new.parents.items ≡ map (λ v. v.items) old.parents.items ++ (if kind == 0 then parent ∷ [] else [])
+      ++ (if kind == 0 then Stop (record { 0 = length old.stops }) else if kind == 1 then Station (length old.stations)
+      else Other) ∷ []
+  pub parents : map (λ v. v.items) new.parents.items
+      ≡ map (λ v. v.items) old.parents.items ++ (if kind == 0 then parent ∷ [] else [])

@@ -1,10 +1,14 @@
 -- What transfers.txt says: walks between stops and stations, and change times of stops.
 -- A row counts where it says how long a walk takes, of any vehicle to any other; all other rows are unused.
--- A row of type 2 from a stop to itself states how long a change between two vehicles at the stop takes at least, and one from
+-- A row of type 2 from a stop to itself states how long a change between two vehicles at the stop takes at least, and
+-- one from
 -- a station to itself states that for each of its stops, beside the walks between these.
--- (GTFS Schedule reference, transfers.txt: types 0 to 2 are recommended, timed and minimum times of a change; type 3 forbids a change,
+-- (GTFS Schedule reference, transfers.txt: types 0 to 2 are recommended, timed and minimum times of a change; type 3
+-- forbids a change,
 -- 4 and 5 are changes without leaving the vehicle.)
-use Rattle.std.specs.Prelude.{◌≡◌, ◌+◌, ◌-◌, ◌&&◌, ◌||◌, ◌==◌, ℕ, Bool, false, List, [], ◌∷◌, ◌++◌, Option, Some, None, codes, is_none, is_some, length, nat_le, not, position, slice_get, unwrap_or, if◌then◌else◌}
+use Rattle.std.specs.Prelude.{◌≡◌, ◌+◌, ◌-◌, ◌&&◌, ◌||◌, ◌==◌, ℕ, Bool, false, List, [], ◌∷◌, ◌++◌, Option, Some, None}
+use Rattle.std.specs.Prelude.{codes, is_none, is_some, length, nat_le, not, position, slice_get, unwrap_or}
+use Rattle.std.specs.Prelude.{if◌then◌else◌}
 use Rattle.std.specs.List.{enumerate_from, filter_map}
 use Rattle.std.specs.Str.{bytes_eq}
 use Rattle.table_records.specs.Columns.{column, field}
@@ -99,7 +103,8 @@ used_checks names r =
 
 -- what is wrong with a record: of a row that isn't used only the type is looked at
 abbrev pub checks : List (List ℕ) → List TransferRow → TransferRow → List What
-checks names before r = when (is_none (kind_of r.kind)) what.BadNumber ++ (if is_used r then used_checks names r else [])
+checks names before r = when (is_none (kind_of r.kind))
+    what.BadNumber ++ (if is_used r then used_checks names r else [])
 
 -- the records after the header, which needs no column
 abbrev pub transfer_rows : List ℕ → List TransferRow
@@ -145,7 +150,8 @@ gives_any children link = gives_pair children link || gives_change children link
 
 -- the link of a row that is used and gives a pair or a change time
 abbrev pub link_of : LocationData → ℕ → TransferRow → Option Link
-link_of locations at r = if is_used r && gives_any locations.children (link_at locations at r) then Some (link_at locations at r) else None
+link_of locations at r = if is_used r && gives_any locations.children (link_at locations at r) then Some
+    (link_at locations at r) else None
 
 -- the links of the rows, each with the number of its record
 abbrev pub links_of : LocationData → List TransferRow → List Link

@@ -127,7 +127,8 @@ pub fn read_calendar_dates(
 ) -> Result<CalendarDates, FeedFault>
     requires size { length bytes.now ≤ MOST_BYTES }
     requires known { length services ≤ MOST_BYTES }
-    ensures good { IfOk result (λ d. (exception_faults bytes.now ≡ []) × AreExceptions services d (date_rows bytes.now)) }
+    ensures good { IfOk result (λ d. (exception_faults bytes.now ≡ [])
+        × AreExceptions services d (date_rows bytes.now)) }
     ensures few { IfOk result (λ d. length d.services ≤ 2147483650) }
     ensures fault { IfErr result (λ e. Tells e (exception_faults bytes.now)) }
 {

@@ -159,7 +159,8 @@ pub fn read_feed_trips(
     requires size { length bytes.now ≤ MOST_BYTES }
     requires routes { length routes.now ≤ MOST_BYTES }
     requires known { length services ≤ 2147483650 }
-    ensures good { IfOk result (λ t. (trip_faults routes.now bytes.now ≡ []) × AreTrips routes.now services t (trip_rows bytes.now)) }
+    ensures good { IfOk result (λ t. (trip_faults routes.now bytes.now ≡ [])
+        × AreTrips routes.now services t (trip_rows bytes.now)) }
     ensures fault { IfErr result (λ e. Tells e (trip_faults routes.now bytes.now)) }
 {
     let mut file = open_table(alloc, bytes, FileName::Trips, CHECKS.required)?;

@@ -1,6 +1,7 @@
 //! The trips that run at a headway: `frequencies.txt`.
 
-ghost use Rattle.std.specs.Prelude.{◌≡◌, ◌≤◌, ◌<◌, ◌∷◌, ◌++◌, ℕ, List, [], length, map, slice_index_or, slice_set, IfOk, IfErr};
+ghost use Rattle.std.specs.Prelude.{◌≡◌, ◌≤◌, ◌<◌, ◌∷◌, ◌++◌, ℕ, List, [], length, map, slice_index_or, slice_set};
+ghost use Rattle.std.specs.Prelude.{IfOk, IfErr};
 ghost use Rattle.std.specs.declared.vec.Vec.{Vec};
 ghost use Rattle.std.specs.declared.alloc.Global.{Global};
 ghost use Rattle.csv.specs.Records.{fields_of};
@@ -10,7 +11,8 @@ ghost use Rattle.table_records.specs.Fields.{trimmed};
 ghost use Rattle.table_records.specs.declared.limits.TheConstants.{MOST_BYTES};
 ghost use Rattle.table_files.specs.declared.frequencies.Departures.{Departures};
 ghost use Rattle.table_files.specs.Frequencies as spec;
-ghost use Rattle.table_files.specs.Frequencies.{columns_of, departures_by_trip, frequency_faults, frequency_rows, headway_of};
+ghost use Rattle.table_files.specs.Frequencies.{columns_of, departures_by_trip, frequency_faults, frequency_rows};
+ghost use Rattle.table_files.specs.Frequencies.{headway_of};
 
 use csv::ByteRecord;
 use std::alloc::{AllocError, Global};
@@ -80,7 +82,8 @@ fn read_headway(text: &[u8]) -> Option<u32>
 fn add_row(table: &mut Vec<Vec<Departures>>, trip: usize, row: Departures) -> Result<(), AllocError>
     requires { trip < length table.old.items }
     ensures added { IfOk result (λ _. (v : Vec Departures Global) × (v ≡ slice_index_or table.old.items trip v)
-        × ((w : Vec Departures Global) × (w.items ≡ v.items ++ row ∷ []) × (table.new.items ≡ slice_set table.old.items trip w))) }
+        × ((w : Vec Departures Global) × (w.items ≡ v.items ++ row ∷ [])
+        × (table.new.items ≡ slice_set table.old.items trip w))) }
 {
     let departures = &mut table[trip];
     departures.push(row)?;
@@ -158,7 +161,8 @@ fn columns_in(header: &ByteRecord) -> FrequencyColumns
 /// No departures yet, for each of the trips.
 pub fn no_departures(alloc: Global, count: usize) -> Result<Vec<Vec<Departures>>, AllocError>
     ensures size { IfOk result (λ v. length v.items ≡ count) }
-    ensures empty { IfOk result (λ v. (t : ℕ) (d : Vec Departures Global) → t < count → (slice_index_or v.items t d).items ≡ []) }
+    ensures empty { IfOk result (λ v. (t : ℕ) (d : Vec Departures Global) → t < count →
+        (slice_index_or v.items t d).items ≡ []) }
 {
     let mut trips = Vec::new(alloc);
     for _ in 0..count {

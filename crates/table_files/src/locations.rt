@@ -1,6 +1,7 @@
 //! The locations of a feed: stops, stations and others, as `stops.txt` names them.
 
-ghost use Rattle.std.specs.Prelude.{◌<◌, Some, slice_get, ◌≡◌, ◌≤◌, [], length, map, is_none, position, IfOk, IfErr, IfSome};
+ghost use Rattle.std.specs.Prelude.{◌<◌, Some, slice_get, ◌≡◌, ◌≤◌, [], length, map, is_none, position, IfOk, IfErr};
+ghost use Rattle.std.specs.Prelude.{IfSome};
 ghost use Rattle.timetable.specs.declared.limits.TheConstants.{MOST_STOPS};
 ghost use Rattle.std.specs.Str.{bytes_eq};
 ghost use Rattle.csv.specs.Records.{fields_of};
@@ -38,9 +39,21 @@ impl Model for Locations {
 
     ghost Value = { LocationData };
 
-    ghost view = { λ p. record { names = p.names; stops = p.stops; stations = p.stations; locations = p.locations.items; children = p.children } };
+    ghost view = { λ p. record {
+      names = p.names;
+      stops = p.stops;
+      stations = p.stations;
+      locations = p.locations.items;
+      children = p.children;
+    } };
 
-    ghost invariant = { λ p. AreLocations (record { names = p.names; stops = p.stops; stations = p.stations; locations = p.locations.items; children = p.children }) };
+    ghost invariant = { λ p. AreLocations (record {
+      names = p.names;
+      stops = p.stops;
+      stations = p.stations;
+      locations = p.locations.items;
+      children = p.children;
+    }) };
 }
 
 impl Locations {
@@ -270,7 +283,8 @@ fn columns_in(header: &ByteRecord) -> LocationColumns
 /// names a station. The bytes are at most 2^30, the limit of an input file.
 pub fn read_locations(alloc: Global, bytes: &[u8]) -> Result<Locations, FeedFault>
     requires { length bytes.now ≤ MOST_BYTES }
-    ensures good { IfOk result (λ p. (spec.stop_faults bytes.now ≡ []) × (p ≡ spec.locations_in (spec.location_records bytes.now))) }
+    ensures good { IfOk result (λ p. (spec.stop_faults bytes.now ≡ [])
+        × (p ≡ spec.locations_in (spec.location_records bytes.now))) }
     ensures fault { IfErr result (λ e. Tells e (spec.stop_faults bytes.now)) }
 {
     let mut file = open_table(alloc, bytes, FileName::Stops, CHECKS.required)?;

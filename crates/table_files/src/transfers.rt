@@ -1,6 +1,7 @@
 //! Walks between stops and stations, and change times: `transfers.txt`.
 
-ghost use Rattle.std.specs.Prelude.{◌≡◌, ◌≤◌, ◌<◌, ◌+◌, ◌^◌, ◌∷◌, ◌++◌, ℕ, List, [], All, Some, length, map, IfOk, IfErr};
+ghost use Rattle.std.specs.Prelude.{◌≡◌, ◌≤◌, ◌<◌, ◌+◌, ◌^◌, ◌∷◌, ◌++◌, ℕ, List, [], All, Some, length, map, IfOk};
+ghost use Rattle.std.specs.Prelude.{IfErr};
 ghost use Rattle.csv.specs.Records.{fields_of};
 ghost use Rattle.table_records.specs.Checks.{Explains};
 ghost use Rattle.table_records.specs.Columns as columns_spec;
@@ -104,14 +105,16 @@ impl TransferColumns {
 
     // Whether a row with this type says how long a walk takes.
     fn is_used(&self, kind: u32, row: &ByteRecord) -> bool
-        ensures { result ≡ (nat_le kind 2 && is_general (row_at self.now (fields_of row.now)) && is_whole (row_at self.now (fields_of row.now))) }
+        ensures { result ≡ (nat_le kind 2 && is_general (row_at self.now (fields_of row.now)) && is_whole
+            (row_at self.now (fields_of row.now))) }
     {
         kind <= 2 && self.is_general(row) && self.is_whole(row)
     }
 
     // Whether a row with this type states a change time.
     fn is_change(&self, kind: u32, row: &ByteRecord) -> bool
-        ensures { result ≡ ((kind == 2) && bytes_eq (row_at self.now (fields_of row.now)).from (row_at self.now (fields_of row.now)).to) }
+        ensures { result ≡ ((kind == 2) && bytes_eq (row_at self.now (fields_of row.now)).from
+            (row_at self.now (fields_of row.now)).to) }
     {
         kind == 2 && field(row, self.from) == field(row, self.to)
     }
@@ -131,10 +134,13 @@ impl<'a> TransferReader<'a> {
     // The values of a row that is used, and states a change time or none.
     fn link(&self, at: u64, changes: bool, row: &ByteRecord) -> Result<Link, FeedFault>
         requires { changes ≡ is_change (row_at self.now.columns (fields_of row.now)) }
-        ensures good { IfOk result (λ link. (used_checks self.now.locations.now.names (row_at self.now.columns (fields_of row.now)) ≡ [])
+        ensures good { IfOk result (λ link. (used_checks self.now.locations.now.names
+            (row_at self.now.columns (fields_of row.now)) ≡ [])
             × (link ≡ link_at self.now.locations.now at (row_at self.now.columns (fields_of row.now)))) }
-        ensures in_range { IfOk result (λ link. IsLink (length self.now.locations.now.stops) (length self.now.locations.now.stations) link) }
-        ensures fault { IfErr result (λ e. IsFirst e (map (λ w. record { file = file_name.Transfers; at = at; what = w })
+        ensures in_range { IfOk result (λ link. IsLink (length self.now.locations.now.stops)
+            (length self.now.locations.now.stations) link) }
+        ensures fault { IfErr result (λ e. IsFirst e
+            (map (λ w. record { file = file_name.Transfers; at = at; what = w })
             (used_checks self.now.locations.now.names (row_at self.now.columns (fields_of row.now))))) }
     {
         let Some(origin) = self.locations.place(field(row, self.columns.from)) else {
@@ -157,9 +163,11 @@ impl<'a> TransferReader<'a> {
 
     // The link of a row, if it gives a walk or a change time.
     fn link_in(&self, at: u64, row: &ByteRecord) -> Result<Option<Link>, FeedFault>
-        ensures good { IfOk result (λ link. (checks self.now.locations.now.names [] (row_at self.now.columns (fields_of row.now)) ≡ [])
+        ensures good { IfOk result (λ link. (checks self.now.locations.now.names []
+            (row_at self.now.columns (fields_of row.now)) ≡ [])
             × (link ≡ link_of self.now.locations.now at (row_at self.now.columns (fields_of row.now)))) }
-        ensures fault { IfErr result (λ e. IsFirst e (map (λ w. record { file = file_name.Transfers; at = at; what = w })
+        ensures fault { IfErr result (λ e. IsFirst e
+            (map (λ w. record { file = file_name.Transfers; at = at; what = w })
             (checks self.now.locations.now.names [] (row_at self.now.columns (fields_of row.now))))) }
     {
         let Some(kind) = kind_number(trim(field(row, self.columns.kind))) else {
@@ -292,7 +300,8 @@ pub fn read_transfers(
     ensures good { IfOk result (λ t. (spec.transfer_faults locations.now.names bytes.now ≡ [])
         × (t.links.items ≡ spec.links_of locations.now (spec.transfer_rows bytes.now))
         × (t.unused ≡ spec.unused_of locations.now (spec.transfer_rows bytes.now))) }
-    ensures in_range { IfOk result (λ t. All (spec.IsLink (length locations.now.stops) (length locations.now.stations)) t.links.items) }
+    ensures in_range { IfOk result (λ t. All (spec.IsLink (length locations.now.stops) (length locations.now.stations))
+        t.links.items) }
     ensures fault { IfErr result (λ e. Tells e (spec.transfer_faults locations.now.names bytes.now)) }
 {
     let mut file = open_file(alloc, bytes)?;

@@ -1,5 +1,6 @@
 -- What eight digits write, and the days of the calendar.
-use Rattle.std.proofs.Common.{◌≡◌, ◌<◌, ◌≤◌, ◌+◌, ◌*◌, ◌-◌, ◌^◌, ◌&&◌, ◌↔◌, nat_le, ℕ, suc, List, [], ◌∷◌, length, arith, sym, subst, Bool, true, false, refl, Some, None, if◌then◌else◌, ℤ, pos, not}
+use Rattle.std.proofs.Common.{◌≡◌, ◌<◌, ◌≤◌, ◌+◌, ◌*◌, ◌-◌, ◌^◌, ◌&&◌, ◌↔◌, nat_le, ℕ, suc, List, [], ◌∷◌, length}
+use Rattle.std.proofs.Common.{arith, sym, subst, Bool, true, false, refl, Some, None, if◌then◌else◌, ℤ, pos, not}
 use Rattle.std.proofs.Math.Nat.{pow-suc}
 use Rattle.std.proofs.lemmas.Bool.Decides.{nat_tests}
 use Rattle.std.proofs.lemmas.Int.{ints}
@@ -26,7 +27,8 @@ value_below : (xs : List ℕ) (n m : ℕ) → list_all is_digit xs ≡ true → 
 value_below [] n m h lt = omega arith
 value_below (x ∷ xs) n m h lt =
     let small : x ≤ 57 = digit_bound x (and_left (is_digit x) (list_all is_digit xs) h) in
-    let more = value_below xs (n * 10 + (x - 48)) (m * 10) (and_right (is_digit x) (list_all is_digit xs) h) (omega (arith, small)) in
+    let more = value_below xs (n * 10 + (x - 48)) (m * 10) (and_right (is_digit x) (list_all is_digit xs) h)
+    (omega (arith, small)) in
     let same : m * 10 ^ suc (length xs) ≡ m * 10 * 10 ^ length xs = rw pow-suc (grind arith) in
     omega (arith, more, same)
 
@@ -37,8 +39,10 @@ some_value false v w h = cc h
 -- eight digits write a number of eight digits
 pub eight_digits : (text : List ℕ) (v : ℕ) → length text ≡ 8 → Some v ≡ number_of text → v < 100000000
 eight_digits text v eight e =
-    let (tests, is) = some_value (not (is_empty text) && list_all is_digit text && nat_le (value_after 0 text) 4294967295) (value_after 0 text) v (sym e) in
-    let digits = and_right (not (is_empty text)) (list_all is_digit text) (and_left _ (nat_le (value_after 0 text) 4294967295) tests) in
+    let (tests, is) = some_value (not (is_empty text) && list_all is_digit text && nat_le (value_after 0 text)
+    4294967295) (value_after 0 text) v (sym e) in
+    let digits = and_right (not (is_empty text)) (list_all is_digit text)
+    (and_left _ (nat_le (value_after 0 text) 4294967295) tests) in
     let small = rw eight at (value_below text 0 1 digits (omega arith)) in
     omega (arith, small, is)
 
@@ -63,11 +67,16 @@ true_day y m d small h =
     let a = true_le 1 m (and_left (nat_le 1 m) (nat_le m 12) ab) in
     let b = true_le m 12 (and_right (nat_le 1 m) (nat_le m 12) ab) in
     let e = true_le 1 d (and_right (nat_le 1 m && nat_le m 12) (nat_le 1 d) abc) in
-    let f = true_le d (days_in_month (pos y) m) (and_right (nat_le 1 m && nat_le m 12 && nat_le 1 d) (nat_le d (days_in_month (pos y) m)) h) in
-    ((omega (arith, ints), omega (arith, ints)), (omega (arith, ints, a), omega (arith, ints, b)), (omega (arith, ints, e), omega (arith, ints, f)))
+    let f = true_le d (days_in_month (pos y) m)
+    (and_right (nat_le 1 m && nat_le m 12 && nat_le 1 d) (nat_le d (days_in_month (pos y) m)) h) in (
+      (omega (arith, ints), omega (arith, ints)),
+      (omega (arith, ints, a), omega (arith, ints, b)),
+      (omega (arith, ints, e), omega (arith, ints, f)),
+    )
 
 -- the day number of what `Date::new` makes
-pub civil : {E : Type 0} (y m d : ℕ) → y ≤ 9999 → (r : Result Date E) → (IsOk r ↔ IsDate (pos y) (pos m) (pos d)) → IfOk r (IsYmd (pos y) (pos m) (pos d))
+pub civil : {E : Type 0} (y m d : ℕ) → y ≤ 9999 → (r : Result Date E) → (IsOk r ↔ IsDate (pos y) (pos m) (pos d)) →
+    IfOk r (IsYmd (pos y) (pos m) (pos d))
     → option_map epoch_day (result_ok r) ≡ day_number y m d
 civil y m d small (Ok x) ok ymd =
     let yes = day_true y m d (ok.0 refl) in
@@ -81,8 +90,12 @@ civil y m d small (Err e) ok ymd = by (is_day y m d) refl
     by false h = refl
 
 -- the same, of the signed numbers that the code casts to
-pub civil_cast : {E : Type 0} (y m d : ℕ) (Y M D : ℤ) → Y ≡ pos y → M ≡ pos m → D ≡ pos d → y ≤ 9999 → (r : Result Date E)
+pub civil_cast : {E : Type 0} (y m d : ℕ) (Y M D : ℤ) → Y ≡ pos y → M ≡ pos m → D ≡ pos d → y ≤ 9999 →
+    (r : Result Date E)
     → (IsOk r ↔ IsDate Y M D) → IfOk r (IsYmd Y M D) → option_map epoch_day (result_ok r) ≡ day_number y m d
 civil_cast y m d Y M D ey em ed small r ok ymd =
-    civil y m d small r (subst (λ (z : ℤ). IsOk r ↔ IsDate z (pos m) (pos d)) ey (subst (λ (z : ℤ). IsOk r ↔ IsDate Y z (pos d)) em (subst (λ (z : ℤ). IsOk r ↔ IsDate Y M z) ed ok)))
-    (subst (λ (z : ℤ). IfOk r (IsYmd z (pos m) (pos d))) ey (subst (λ (z : ℤ). IfOk r (IsYmd Y z (pos d))) em (subst (λ (z : ℤ). IfOk r (IsYmd Y M z)) ed ymd)))
+    civil y m d small r (subst (λ (z : ℤ). IsOk r
+    ↔ IsDate z (pos m) (pos d)) ey (subst (λ (z : ℤ). IsOk r
+    ↔ IsDate Y z (pos d)) em (subst (λ (z : ℤ). IsOk r ↔ IsDate Y M z) ed ok)))
+    (subst (λ (z : ℤ). IfOk r (IsYmd z (pos m) (pos d))) ey
+    (subst (λ (z : ℤ). IfOk r (IsYmd Y z (pos d))) em (subst (λ (z : ℤ). IfOk r (IsYmd Y M z)) ed ymd)))

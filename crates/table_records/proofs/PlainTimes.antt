@@ -1,5 +1,6 @@
 -- Times of two digits of hours, as nearly all are written.
-use Rattle.std.proofs.Common.{◌≡◌, ◌+◌, ◌*◌, ◌-◌, ◌≤◌, ◌==◌, ◌&&◌, ℕ, Bool, true, false, List, [], ◌∷◌, length, Some, None, nat_le, arith, refl, if◌then◌else◌}
+use Rattle.std.proofs.Common.{◌≡◌, ◌+◌, ◌*◌, ◌-◌, ◌≤◌, ◌==◌, ◌&&◌, ℕ, Bool, true, false, List, [], ◌∷◌, length, Some}
+use Rattle.std.proofs.Common.{None, nat_le, arith, refl, if◌then◌else◌}
 use Rattle.std.proofs.lemmas.Bool.Decides.{nat_tests}
 use Rattle.std.specs.Prelude.{slice_index}
 use Rattle.table_records.proofs.Trims.{end_other}
@@ -17,7 +18,8 @@ record Pair (a b n : ℕ) : Type 0 where
 pair : (a b n : ℕ) → sixty a b ≡ Some n → Pair a b n
 pair a b n e = by (nat_le 48 a && nat_le a 53 && is_digit b) refl e
   where
-    by : (t : Bool) → (nat_le 48 a && nat_le a 53 && is_digit b) ≡ t → (if t then Some (10 * (a - 48) + (b - 48)) else None) ≡ Some n → Pair a b n
+    by : (t : Bool) → (nat_le 48 a && nat_le a 53 && is_digit b) ≡ t →
+        (if t then Some (10 * (a - 48) + (b - 48)) else None) ≡ Some n → Pair a b n
     by true h s =
         let is : 10 * (a - 48) + (b - 48) ≡ n = cc s in
         record {
@@ -48,8 +50,10 @@ written a b c d e f h m s hour minute second =
     rw (front.starts, end_other (a ∷ b ∷ 58 ∷ c ∷ d ∷ 58 ∷ e ∷ []) f back.ends, hours a b h front, minute, second) refl
 
 -- the time that a text of eight bytes shows
-pub plain : (t : List ℕ) (h m s : ℕ) → length t ≡ 8 → slice_index t 2 ≡ 58 → slice_index t 5 ≡ 58 → sixty (slice_index t 0) (slice_index t 1) ≡ Some h
-    → sixty (slice_index t 3) (slice_index t 4) ≡ Some m → sixty (slice_index t 6) (slice_index t 7) ≡ Some s → time_of (trimmed t) ≡ Some (3600 * h + 60 * m + s)
+pub plain : (t : List ℕ) (h m s : ℕ) → length t ≡ 8 → slice_index t 2 ≡ 58 → slice_index t 5 ≡ 58 →
+    sixty (slice_index t 0) (slice_index t 1) ≡ Some h
+    → sixty (slice_index t 3) (slice_index t 4) ≡ Some m → sixty (slice_index t 6) (slice_index t 7) ≡ Some s →
+    time_of (trimmed t) ≡ Some (3600 * h + 60 * m + s)
 plain [] h m s size one two hour minute second = absurd (omega arith)
 plain (a ∷ []) h m s size one two hour minute second = absurd (omega arith)
 plain (a ∷ b ∷ []) h m s size one two hour minute second = absurd (omega arith)
@@ -58,5 +62,6 @@ plain (a ∷ b ∷ x ∷ c ∷ []) h m s size one two hour minute second = absur
 plain (a ∷ b ∷ x ∷ c ∷ d ∷ []) h m s size one two hour minute second = absurd (omega arith)
 plain (a ∷ b ∷ x ∷ c ∷ d ∷ y ∷ []) h m s size one two hour minute second = absurd (omega arith)
 plain (a ∷ b ∷ x ∷ c ∷ d ∷ y ∷ e ∷ []) h m s size one two hour minute second = absurd (omega arith)
-plain (a ∷ b ∷ x ∷ c ∷ d ∷ y ∷ e ∷ f ∷ []) h m s size one two hour minute second = rw (one, two) (written a b c d e f h m s hour minute second)
+plain (a ∷ b ∷ x ∷ c ∷ d ∷ y ∷ e ∷ f ∷ []) h m s size one two hour minute second =
+    rw (one, two) (written a b c d e f h m s hour minute second)
 plain (a ∷ b ∷ x ∷ c ∷ d ∷ y ∷ e ∷ f ∷ g ∷ rest) h m s size one two hour minute second = absurd (omega arith)

@@ -1,6 +1,8 @@
 -- What a read of one record does to the list of those that are left.
-use Rattle.std.proofs.Common.{Bor, ◌≡◌, ◌≤◌, ◌<◌, ◌+◌, ◌∷◌, ◌++◌, ◌==◌, ◌||◌, ◌&&◌, ℕ, zero, suc, Bool, true, false, List, [], length, Option, Some, None, refl, ap, subst, arith, inl, inr, if◌then◌else◌}
-use Rattle.csv.specs.Machine.{Read, after_end, ends_at_end, fields_after, field_after, in_field, start_field, start_record, is_end, next_record, step}
+use Rattle.std.proofs.Common.{Bor, ◌≡◌, ◌≤◌, ◌<◌, ◌+◌, ◌∷◌, ◌++◌, ◌==◌, ◌||◌, ◌&&◌, ℕ, zero, suc, Bool, true, false}
+use Rattle.std.proofs.Common.{List, [], length, Option, Some, None, refl, ap, subst, arith, inl, inr, if◌then◌else◌}
+use Rattle.csv.specs.Machine.{Read, after_end, ends_at_end, fields_after, field_after, in_field, start_field}
+use Rattle.csv.specs.Machine.{start_record, is_end, next_record, step}
 use Rattle.csv.specs.declared.parser.Action.{Action}
 use Rattle.csv.specs.declared.parser.Action.TheVariants as act
 use Rattle.csv.specs.declared.parser.State.{State}
@@ -62,14 +64,20 @@ unfolding next_record Sound
 next_leaves [] s fields field p e = by (ends_at_end s) e
   where
     by : (b : Bool) → (if b then Some (fields ++ (field ∷ []), st.StartRecord, []) else None) ≡ Some p → Leaves [] p
-    by true h = let q : (fields ++ (field ∷ []), st.StartRecord, []) ≡ p = cc h in subst (Leaves []) q (record { shorter = omega arith; between = inl refl })
+    by true h = let q : (fields ++ (field ∷ []), st.StartRecord, []) ≡ p = cc h in
+        subst (Leaves []) q (record { shorter = omega arith; between = inl refl })
     by false h = cc h
-next_leaves (c ∷ rest) s fields field p e = by (is_end (step default_config s c).1) refl e (next_leaves rest (step default_config s c).0 _ _ p)
+next_leaves (c ∷ rest) s fields field p e =
+    by (is_end (step default_config s c).1) refl e (next_leaves rest (step default_config s c).0 _ _ p)
   where
     by : (b : Bool) → is_end (step default_config s c).1 ≡ b
         → (if b then Some (fields_after (step default_config s c).1 fields field, (step default_config s c).0, rest)
-        else next_record default_config (step default_config s c).0 (fields_after (step default_config s c).1 fields field) (field_after (step default_config s c).1 c field) rest) ≡ Some p
-        → (next_record default_config (step default_config s c).0 (fields_after (step default_config s c).1 fields field) (field_after (step default_config s c).1 c field) rest ≡ Some p → Leaves rest p)
+        else next_record default_config (step default_config s c).0
+        (fields_after (step default_config s c).1 fields field)
+        (field_after (step default_config s c).1 c field) rest) ≡ Some p
+        → (next_record default_config (step default_config s c).0
+        (fields_after (step default_config s c).1 fields field)
+        (field_after (step default_config s c).1 c field) rest ≡ Some p → Leaves rest p)
         → Leaves (c ∷ rest) p
     by true ends h again =
         let q : (fields_after (step default_config s c).1 fields field, (step default_config s c).0, rest) ≡ p = cc h in
@@ -79,14 +87,16 @@ next_leaves (c ∷ rest) s fields field p e = by (is_end (step default_config s 
         record { shorter = omega (arith, more.shorter); between = more.between }
 
 -- a read that starts between two records takes at least a byte
-pub next_shorter : (xs : List ℕ) (s : State) (p : Read) → IsBetween s → next_record default_config s [] [] xs ≡ Some p → (length p.2 < length xs) × IsBetween p.1
+pub next_shorter : (xs : List ℕ) (s : State) (p : Read) → IsBetween s → next_record default_config s [] [] xs ≡ Some p →
+    (length p.2 < length xs) × IsBetween p.1
 unfolding next_record Sound
 next_shorter [] s p between e = elim between [ inl start ↦ cc (rw start at e) | inr cr ↦ cc (rw cr at e) ]
 next_shorter (c ∷ rest) s p between e = by (is_end (step default_config s c).1) refl e
   where
     by : (b : Bool) → is_end (step default_config s c).1 ≡ b
         → (if b then Some (fields_after (step default_config s c).1 [] [], (step default_config s c).0, rest)
-        else next_record default_config (step default_config s c).0 (fields_after (step default_config s c).1 [] []) (field_after (step default_config s c).1 c []) rest) ≡ Some p
+        else next_record default_config (step default_config s c).0 (fields_after (step default_config s c).1 [] [])
+        (field_after (step default_config s c).1 c []) rest) ≡ Some p
         → (length p.2 < length (c ∷ rest)) × IsBetween p.1
     by true ends h =
         let q : (fields_after (step default_config s c).1 [] [], (step default_config s c).0, rest) ≡ p = cc h in
@@ -101,10 +111,12 @@ records_same : (n m : ℕ) (s : State) (xs : List ℕ) → IsBetween s → lengt
 unfolding records_from
 records_same zero m s xs b h k = absurd (omega arith)
 records_same (suc n) zero s xs b h k = absurd (omega arith)
-records_same (suc n) (suc m) s xs b h k = by (next_record default_config s [] [] xs) refl (λ s2 ys. records_same n m s2 ys)
+records_same (suc n) (suc m) s xs b h k =
+    by (next_record default_config s [] [] xs) refl (λ s2 ys. records_same n m s2 ys)
   where
     by : (o : Option Read) → next_record default_config s [] [] xs ≡ o
-        → ((s2 : State) (ys : List ℕ) → IsBetween s2 → length ys < n → length ys < m → records_from default_config n s2 ys ≡ records_from default_config m s2 ys)
+        → ((s2 : State) (ys : List ℕ) → IsBetween s2 → length ys < n → length ys < m →
+        records_from default_config n s2 ys ≡ records_from default_config m s2 ys)
         → records_next (records_from default_config n) o ≡ records_next (records_from default_config m) o
     by None e again = refl
     by (Some p) e again =
@@ -118,9 +130,11 @@ unfolding records_from
 records_step s xs p b e =
     let (shorter, between) = next_shorter xs s p b e in
     let one : length xs + 1 ≡ suc (length xs) = omega arith in
-    rw (one, e) (ap (λ (rs : List (List (List ℕ))). p.0 ∷ rs) (records_same (length xs) (length p.2 + 1) p.1 p.2 between (omega arith) (omega arith)))
+    rw (one, e) (ap (λ (rs : List (List (List ℕ))). p.0 ∷ rs)
+    (records_same (length xs) (length p.2 + 1) p.1 p.2 between (omega arith) (omega arith)))
 
-pub records_end : (s : State) (xs : List ℕ) → next_record default_config s [] [] xs ≡ None → records_after s (Some xs) ≡ []
+pub records_end : (s : State) (xs : List ℕ) → next_record default_config s [] [] xs ≡ None →
+    records_after s (Some xs) ≡ []
 unfolding records_from
 records_end s xs e =
     let one : length xs + 1 ≡ suc (length xs) = omega arith in
@@ -145,7 +159,8 @@ pub no_record : (s s2 : State) (fields : List (List ℕ)) (xs : List ℕ) (k : O
 no_record s s2 fields xs None h = absurd h
 no_record s s2 fields xs (Some ys) h = by (next_record default_config s [] [] xs) refl h
   where
-    by : (o : Option Read) → next_record default_config s [] [] xs ≡ o → NextIs o false fields s2 ys → records_after s (Some xs) ≡ []
+    by : (o : Option Read) → next_record default_config s [] [] xs ≡ o → NextIs o false fields s2 ys →
+        records_after s (Some xs) ≡ []
     by None e n = records_end s xs e
     by (Some p) e n = cc n.0
 
@@ -153,13 +168,16 @@ no_record s s2 fields xs (Some ys) h = by (next_record default_config s [] [] xs
 known_bytes : (a : Reader (Bor (List ℕ))) → a.failed ≡ false → (xs : List ℕ) × (bytes_left a ≡ Some xs)
 known_bytes a goes = rw goes (by (not a.bom_checked && (a.at == 0) && (a.filled == 0)))
   where
-    by : (b : Bool) → (xs : List ℕ) × ((if b then option_map strip_bom (Some a.rdr.now) else buffered_of (Some a.rdr.now) a) ≡ Some xs)
+    by : (b : Bool) → (xs : List ℕ) × ((if b then option_map strip_bom (Some a.rdr.now) else buffered_of
+        (Some a.rdr.now) a) ≡ Some xs)
     by true = (_, refl)
     by false = (_, refl)
 
 -- what a read of a plain reader does
-pub read_step : (a b : Reader (Bor (List ℕ))) (found : Bool) (fields : List (List ℕ)) → IsPlain a → ReadRecord (λ s. Some s.now) a b found fields
-    → Gives (records_after a.state (bytes_left a)) found fields (if not found then [] else records_after b.state (bytes_left b)) × (found ≡ true → IsBetween b.state)
+pub read_step : (a b : Reader (Bor (List ℕ))) (found : Bool) (fields : List (List ℕ)) → IsPlain a →
+    ReadRecord (λ s. Some s.now) a b found fields
+    → Gives (records_after a.state (bytes_left a)) found fields
+    (if not found then [] else records_after b.state (bytes_left b)) × (found ≡ true → IsBetween b.state)
 read_step a b true fields plain r =
     let (xs, here) = known_bytes a plain.goes in
     let h = found_record a.state b.state fields xs _ plain.between (rw (plain.config, here) at r.0) in

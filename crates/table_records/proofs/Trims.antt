@@ -1,5 +1,6 @@
 -- Spaces at the end of a text.
-use Rattle.std.proofs.Common.{◌≡◌, ◌<◌, ◌≤◌, ◌&&◌, ◌==◌, ℕ, zero, suc, List, [], ◌∷◌, ◌++◌, take, length, get_or, arith, ap, sym, Bool, true, false, refl}
+use Rattle.std.proofs.Common.{◌≡◌, ◌<◌, ◌≤◌, ◌&&◌, ◌==◌, ℕ, zero, suc, List, [], ◌∷◌, ◌++◌, take, length, get_or, arith}
+use Rattle.std.proofs.Common.{ap, sym, Bool, true, false, refl}
 use Rattle.table_records.specs.Fields.{trim_end, is_empty}
 
 pub end_space : (xs : List ℕ) → trim_end (xs ++ 32 ∷ []) ≡ trim_end xs
@@ -29,8 +30,10 @@ take_last (suc n) (x ∷ xs) h = ap (λ (l : List ℕ). x ∷ l) (take_last n xs
 pub take_before : (n m : ℕ) (xs : List ℕ) → n ≡ suc m → n ≤ length xs → take n xs ≡ take m xs ++ get_or xs m 0 ∷ []
 take_before n m xs e h = rw e (take_last m xs (omega arith))
 
-pub shorter_by_space : (n m : ℕ) (xs : List ℕ) → n ≡ suc m → n ≤ length xs → get_or xs m 0 ≡ 32 → trim_end (take m xs) ≡ trim_end (take n xs)
+pub shorter_by_space : (n m : ℕ) (xs : List ℕ) → n ≡ suc m → n ≤ length xs → get_or xs m 0 ≡ 32 →
+    trim_end (take m xs) ≡ trim_end (take n xs)
 shorter_by_space n m xs e h space = rw (take_before n m xs e h, space) (sym (end_space (take m xs)))
 
-pub ends_here : (n m : ℕ) (xs : List ℕ) → n ≡ suc m → n ≤ length xs → (get_or xs m 0 == 32) ≡ false → trim_end (take n xs) ≡ take n xs
+pub ends_here : (n m : ℕ) (xs : List ℕ) → n ≡ suc m → n ≤ length xs → (get_or xs m 0 == 32) ≡ false →
+    trim_end (take n xs) ≡ take n xs
 ends_here n m xs e h other = rw (take_before n m xs e h) (end_other (take m xs) (get_or xs m 0) other)

@@ -1,6 +1,7 @@
 -- Which check of a file explains a fault: it names the fault, and the column whose field its rule refuses.
 -- "Every fault of a record but that there are too many is one of a field, or of the record's trip as a whole."
-use Rattle.std.specs.Prelude.{◌≡◌, ◌⊎◌, ◌&&◌, ◌==◌, ℕ, Bool, true, List, Option, Some, None, All, is_none, not, slice_get}
+use Rattle.std.specs.Prelude.{◌≡◌, ◌⊎◌, ◌&&◌, ◌==◌, ℕ, Bool, true, List, Option, Some, None, All, is_none, not}
+use Rattle.std.specs.Prelude.{slice_get}
 use Rattle.table_records.specs.Columns.{column, field}
 use Rattle.table_records.specs.Fields.{day_of, is_empty, number_of, time_of, trimmed}
 use Rattle.table_records.specs.declared.checks.Check.{Check}
@@ -55,4 +56,5 @@ pub record AreExplained (table : List Check) (header fields : List (List ℕ)) (
 abbrev pub Explains : {R : Type 0} → List Check → (List (List ℕ) → List (List ℕ) → R) → (List R → R → List What)
     → Type 0
 Explains {R = R} table row_of checks =
-    (before : List R) (header fields : List (List ℕ)) → AreExplained table header fields (checks before (row_of header fields))
+    (before : List R) (header fields : List (List ℕ)) →
+    AreExplained table header fields (checks before (row_of header fields))

@@ -18,7 +18,8 @@ faults_at file checks before r = map (λ w. record { file = file; at = length be
 -- the faults of the records that follow `before`, record by record
 abbrev pub faults_after : {R : Type 0} → FileName → (List R → R → List What) → List R → List R → List FeedFault
 faults_after file checks before [] = []
-faults_after file checks before (r ∷ rs) = faults_at file checks before r ++ faults_after file checks (before ++ r ∷ []) rs
+faults_after file checks before (r ∷ rs) =
+    faults_at file checks before r ++ faults_after file checks (before ++ r ∷ []) rs
 
 -- a fault is the first of all
 abbrev pub IsFirst : {F : Type 0} → F → List F → Type 0

@@ -1,9 +1,12 @@
 -- The grammars of fields: which texts are numbers, times and dates, and what they say.
 -- "A number is one or more digits, its value at most 4,294,967,295. A time is H:MM:SS, HH:MM:SS or HHH:MM:SS,
--- its hours at most 167, its minutes and seconds 00 to 59. A date is YYYYMMDD and names a day of the Gregorian calendar."
+-- its hours at most 167, its minutes and seconds 00 to 59. A date is YYYYMMDD and names a day of the Gregorian
+-- calendar."
 -- (GTFS reference, field types: Time counts on past 24:00:00 for trips that run into the next day; Date.)
 -- Bytes are ASCII: 32 is a space, 48 to 57 are the digits, 58 is a colon.
-use Rattle.std.specs.Prelude.{◌+◌, ◌*◌, ◌-◌, ◌/◌, ◌%◌, ◌==◌, ◌&&◌, nat_le, not, ℕ, ℤ, pos, Bool, true, false, List, [], ◌∷◌, length, take, slice_index, Option, Some, None, option_map, option_and_then, if◌then◌else◌}
+use Rattle.std.specs.Prelude.{◌+◌, ◌*◌, ◌-◌, ◌/◌, ◌%◌, ◌==◌, ◌&&◌, nat_le, not, ℕ, ℤ, pos, Bool, true, false, List, []}
+use Rattle.std.specs.Prelude.{◌∷◌, length, take, slice_index, Option, Some, None, option_map, option_and_then}
+use Rattle.std.specs.Prelude.{if◌then◌else◌}
 use Rattle.std.specs.List.{list_all}
 use Rattle.jiff.specs.Words.{days_in_month}
 use Rattle.jiff_core.specs.Calendar.{days_from_civil}
@@ -43,7 +46,8 @@ value_after n (b ∷ bs) = value_after (n * 10 + (b - 48)) bs
 -- a number: one or more digits, leading zeros allowed, whose value is at most 4,294,967,295
 abbrev pub number_of : List ℕ → Option ℕ
 number_of text =
-    if not (is_empty text) && list_all is_digit text && nat_le (value_after 0 text) 4294967295 then Some (value_after 0 text) else None
+    if not (is_empty text) && list_all is_digit text && nat_le (value_after 0 text) 4294967295 then Some
+    (value_after 0 text) else None
 
 -- a number that is there, and is this one
 abbrev pub is_number : ℕ → Option ℕ → Bool
@@ -74,7 +78,8 @@ clock hours minutes seconds =
 -- n digits of hours, a colon, the minutes, a colon, the seconds
 abbrev pub time_after : ℕ → List ℕ → Option ℕ
 time_after n text =
-    if is_colon n text && is_colon (n + 3) text then clock (hours_of (take n text)) (sixty_at (n + 1) text) (sixty_at (n + 4) text) else None
+    if is_colon n text && is_colon (n + 3) text then clock (hours_of (take n text)) (sixty_at (n + 1) text)
+    (sixty_at (n + 4) text) else None
 
 -- the seconds since the service day's midnight that a time of one to three digits of hours shows
 abbrev pub time_of : List ℕ → Option ℕ
@@ -91,4 +96,5 @@ day_number y m d = if is_day y m d then Some (days_from_civil (pos y) m d) else 
 -- the day that a date of eight digits names: four of the year, two of the month, two of the day
 abbrev pub day_of : List ℕ → Option ℤ
 day_of text =
-    if length text == 8 then option_and_then (λ v. day_number (v / 10000) (v / 100 % 100) (v % 100)) (number_of text) else None
+    if length text == 8 then option_and_then (λ v. day_number (v / 10000) (v / 100 % 100) (v % 100)) (number_of text)
+    else None

@@ -28,7 +28,9 @@ abbrev pub missing_column : FileName → FeedFault
 missing_column file = record { file = file; at = 1; what = what.MissingColumn }
 
 -- all faults of a file, in order: its header's, or those of its rows
-abbrev pub table_faults : {R : Type 0} → FileName → List (List ℕ) → (List (List ℕ) → List (List ℕ) → R) → (List R → R → List What)
+abbrev pub table_faults : {R : Type 0} → FileName → List (List ℕ) → (List (List ℕ) → List (List ℕ) → R) →
+    (List R → R → List What)
     → List (List (List ℕ)) → List FeedFault
 table_faults file required row checks records =
-    if lacks_column required records then missing_column file ∷ [] else faults_after file checks [] (table_rows row records)
+    if lacks_column required records then missing_column file ∷ [] else faults_after file checks []
+    (table_rows row records)

@@ -1,6 +1,7 @@
 //! Identifiers, numbered from 0 in the order in which they first came.
 
-ghost use Rattle.std.specs.Prelude.{◌≡◌, ◌<◌, ◌^◌, ◌∷◌, ◌++◌, ◌↔◌, ◌-◌, ◌+◌, ◌≤◌, [], Some, drop, false, not, length, position, slice_get, option_map, IfOk, IsTrue, OnErr, if◌then◌else◌};
+ghost use Rattle.std.specs.Prelude.{◌≡◌, ◌<◌, ◌^◌, ◌∷◌, ◌++◌, ◌↔◌, ◌-◌, ◌+◌, ◌≤◌, [], Some, drop, false, not, length};
+ghost use Rattle.std.specs.Prelude.{position, slice_get, option_map, IfOk, IsTrue, OnErr, if◌then◌else◌};
 ghost use Rattle.std.specs.List.{list_any};
 ghost use Rattle.std.specs.Str.{bytes_eq};
 

@@ -1,6 +1,7 @@
 //! How each file of a feed is read: its header, and then record by record.
 
-ghost use Rattle.std.specs.Prelude.{◌≡◌, ◌⊎◌, ◌+◌, ◌<◌, ◌≤◌, ◌^◌, ◌∷◌, ◌++◌, [], ℕ, List, true, false, length, map, is_none, IfOk, IfErr, OnOk};
+ghost use Rattle.std.specs.Prelude.{◌≡◌, ◌⊎◌, ◌+◌, ◌<◌, ◌≤◌, ◌^◌, ◌∷◌, ◌++◌, [], ℕ, List, true, false, length, map};
+ghost use Rattle.std.specs.Prelude.{is_none, IfOk, IfErr, OnOk};
 ghost use Rattle.std.specs.List.{list_any};
 ghost use Rattle.table_records.specs.Columns as spec;
 ghost use Rattle.csv.specs.Records.{fields_of};
@@ -51,11 +52,13 @@ pub trait RecordReader {
     ) -> Result<(), FeedFault>
         requires few { at < 2 ^ 31 }
         requires room { HasRoom self.now table.old at }
-        ensures good { IfOk result (λ _. (start : Self.Table) (before : List Row) → at ≡ length before + 2 → After self.now start before table.old
+        ensures good { IfOk result (λ _. (start : Self.Table) (before : List Row) → at ≡ length before + 2 →
+            After self.now start before table.old
             → (checks self.now before (row_of self.now (fields_of row.now)) ≡ [])
             × After self.now start (before ++ row_of self.now (fields_of row.now) ∷ []) table.new) }
         ensures room { IfOk result (λ _. HasRoom self.now table.new (at + 1)) }
-        ensures fault { IfErr result (λ e. (start : Self.Table) (before : List Row) → at ≡ length before + 2 → After self.now start before table.old
+        ensures fault { IfErr result (λ e. (start : Self.Table) (before : List Row) → at ≡ length before + 2 →
+            After self.now start before table.old
             → Tells e (faults_at file (checks self.now) before (row_of self.now (fields_of row.now)))) };
 }
 
@@ -86,10 +89,12 @@ pub trait RecordTaker {
     ) -> Result<(), Self::Fault>
         requires few { at < 2 ^ 31 }
         requires room { HasRoom self.now table.old at }
-        ensures good { IfOk result (λ _. (start : Self.Table) (before : List (List (List ℕ))) → at ≡ length before + 2 → Makes self.now start before table.old
+        ensures good { IfOk result (λ _. (start : Self.Table) (before : List (List (List ℕ))) → at ≡ length before + 2 →
+            Makes self.now start before table.old
             → Makes self.now start (before ++ fields_of row.now ∷ []) table.new) }
         ensures room { IfOk result (λ _. HasRoom self.now table.new (at + 1)) }
-        ensures fault { IfErr result (λ e. (start : Self.Table) (before after : List (List (List ℕ))) → at ≡ length before + 2 → Makes self.now start before table.old
+        ensures fault { IfErr result (λ e. (start : Self.Table) (before after : List (List (List ℕ))) →
+            at ≡ length before + 2 → Makes self.now start before table.old
             → Refuses self.now start (before ++ fields_of row.now ∷ after) e) };
 
     /// The error when memory runs out, which may be told of any records.
@@ -127,7 +132,8 @@ fn next_of<T: RecordTaker>(
     row: &mut ByteRecord,
 ) -> Result<bool, T::Fault>
     ensures given { IfOk result (λ found. Gives rows.old found (fields_of row.new) rows.new) }
-    ensures memory { IfErr result (λ e. (start : T.Table) (records : List (List (List ℕ))) → T.Refuses taker.now start records e) }
+    ensures memory { IfErr result (λ e. (start : T.Table) (records : List (List (List ℕ))) →
+        T.Refuses taker.now start records e) }
 {
     match rows.next(row) {
         Ok(found) => Ok(found),
@@ -145,10 +151,12 @@ pub fn read_records<R: RecordReader>(
     requires few { length rows.old ≤ MOST_BYTES }
     requires room { R.HasRoom reader.now table.old 2 }
     requires empty { R.After reader.now table.old [] table.old }
-    ensures good { IfOk result (λ _. (faults_after R.file (R.checks reader.now) [] (map (R.row_of reader.now) rows.old) ≡ [])
+    ensures good { IfOk result (λ _. (faults_after R.file (R.checks reader.now) [] (map (R.row_of reader.now) rows.old)
+        ≡ [])
         × R.After reader.now table.old (map (R.row_of reader.now) rows.old) table.new) }
     ensures room { IfOk result (λ _. R.HasRoom reader.now table.new (length rows.old + 2)) }
-    ensures fault { IfErr result (λ e. Tells e (faults_after R.file (R.checks reader.now) [] (map (R.row_of reader.now) rows.old))) }
+    ensures fault { IfErr result (λ e. Tells e
+        (faults_after R.file (R.checks reader.now) [] (map (R.row_of reader.now) rows.old))) }
 {
     take_records(alloc, &FeedRecords { reader }, table, rows)
 }
@@ -164,10 +172,12 @@ impl<'a, R: RecordReader> RecordTaker for FeedRecords<'a, R> {
 
     type Fault = FeedFault;
 
-    ghost Makes = { λ s start records table. (faults_after R.file (R.checks s.reader.now) [] (map (R.row_of s.reader.now) records) ≡ [])
+    ghost Makes = { λ s start records table.
+        (faults_after R.file (R.checks s.reader.now) [] (map (R.row_of s.reader.now) records) ≡ [])
         × R.After s.reader.now start (map (R.row_of s.reader.now) records) table };
 
-    ghost Refuses = { λ s _ records e. Tells e (faults_after R.file (R.checks s.reader.now) [] (map (R.row_of s.reader.now) records)) };
+    ghost Refuses = { λ s _ records e. Tells e
+        (faults_after R.file (R.checks s.reader.now) [] (map (R.row_of s.reader.now) records)) };
 
     ghost HasRoom = { λ s. R.HasRoom s.reader.now };
 
@@ -208,11 +218,13 @@ pub fn open_table<'a>(
     required: &[&[u8]],
 ) -> Result<OpenTable<'a>, FeedFault>
     requires { length bytes.now ≤ MOST_BYTES }
-    ensures columns { IfOk result (λ _. lacks_column (map (λ name. name.now) required.now) (records_of bytes.now) ≡ false) }
+    ensures columns { IfOk result (λ _. lacks_column (map (λ name. name.now) required.now) (records_of bytes.now)
+        ≡ false) }
     ensures records { IfOk result (λ t. records_of bytes.now ≡ fields_of t.header ∷ t.rows) }
     ensures few { IfOk result (λ t. length t.rows ≤ MOST_BYTES) }
     ensures fault { IfErr result (λ e. (e.what ≡ Memory)
-        ⊎ ((lacks_column (map (λ name. name.now) required.now) (records_of bytes.now) ≡ true) × (e ≡ missing_column file))) }
+        ⊎ ((lacks_column (map (λ name. name.now) required.now) (records_of bytes.now) ≡ true)
+        × (e ≡ missing_column file))) }
 {
     match open_records(alloc, bytes, required) {
         Ok(table) => Ok(table),
@@ -228,11 +240,13 @@ pub fn open_records<'a>(
     required: &[&[u8]],
 ) -> Result<OpenTable<'a>, HeaderFault>
     requires { length bytes.now ≤ MOST_BYTES }
-    ensures columns { IfOk result (λ _. lacks_column (map (λ name. name.now) required.now) (records_of bytes.now) ≡ false) }
+    ensures columns { IfOk result (λ _. lacks_column (map (λ name. name.now) required.now) (records_of bytes.now)
+        ≡ false) }
     ensures records { IfOk result (λ t. records_of bytes.now ≡ fields_of t.header ∷ t.rows) }
     ensures few { IfOk result (λ t. length t.rows ≤ MOST_BYTES) }
     ensures fault { IfErr result (λ e. (e ≡ header_fault.Memory)
-        ⊎ ((lacks_column (map (λ name. name.now) required.now) (records_of bytes.now) ≡ true) × (e ≡ header_fault.MissingColumn))) }
+        ⊎ ((lacks_column (map (λ name. name.now) required.now) (records_of bytes.now) ≡ true)
+        × (e ≡ header_fault.MissingColumn))) }
 {
     let mut rows = Rows::new(alloc, bytes);
     let mut header = ByteRecord::new(alloc);

@@ -5,6 +5,7 @@ pub mod FlatLists
 pub mod LineViews
 pub mod Lines
 pub mod Serving
+pub mod LastArrivals
 pub mod Indexes
 pub mod Faults
 pub mod Least

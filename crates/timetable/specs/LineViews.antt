@@ -1,6 +1,7 @@
 -- The events of a line's trips, laid out for a scan: what travellers may do at each position, and the times of its
 -- trips, one trip after another. (The RAPTOR paper lays out its routes so: Delling, Pajor, Werneck, ALENEX 2012.)
-use Rattle.std.specs.Prelude.{◌≡◌, ℕ, ◌+◌, ◌*◌, ◌<◌, List, [], map, length, slice_get, slice_index, slice_index_or, Some}
+use Rattle.std.specs.Prelude.{◌≡◌, ℕ, ◌+◌, ◌*◌, ◌<◌, List, [], map, length, slice_get, slice_index, slice_index_or}
+use Rattle.std.specs.Prelude.{Some}
 use Rattle.timetable.specs.declared.trips.Event.{Event}
 use Rattle.timetable.specs.declared.trips.Trip.{Trip}
 use Rattle.timetable.specs.declared.views.Call.{Call}
@@ -27,7 +28,8 @@ arrivals_in times = map (λ t. t.arrive) times
 abbrev pub departures_in : List Times → List ℕ
 departures_in times = map (λ t. t.depart) times
 
--- calls and times show these trips: the stop and the flags of each position, and the times of one trip after another, each as it is
+-- calls and times show these trips: the stop and the flags of each position, and the times of one trip after another,
+-- each as it is
 -- told
 pub record IsToldView (told : ℕ → ℕ) (rows : List (List Event)) (calls : List Call) (times : List Times) : Type 0 where
   pub places : (r : ℕ) (row : List Event) → slice_get rows r ≡ Some row → length row ≡ length calls
@@ -35,8 +37,10 @@ pub record IsToldView (told : ℕ → ℕ) (rows : List (List Event)) (calls : L
   pub stop : (r j : ℕ) (e : Event) (c : Call) → IsAt rows r j e → slice_get calls j ≡ Some c → c.stop.0 ≡ e.stop.0
   pub board : (r j : ℕ) (e : Event) (c : Call) → IsAt rows r j e → slice_get calls j ≡ Some c → c.board ≡ e.board
   pub alight : (r j : ℕ) (e : Event) (c : Call) → IsAt rows r j e → slice_get calls j ≡ Some c → c.alight ≡ e.alight
-  pub arrival : (r j : ℕ) (e : Event) → IsAt rows r j e → told (slice_index (arrivals_in times) (r * length calls + j)) ≡ e.arrive
-  pub departure : (r j : ℕ) (e : Event) → IsAt rows r j e → told (slice_index (departures_in times) (r * length calls + j)) ≡ e.depart
+  pub arrival : (r j : ℕ) (e : Event) → IsAt rows r j e →
+      told (slice_index (arrivals_in times) (r * length calls + j)) ≡ e.arrive
+  pub departure : (r j : ℕ) (e : Event) → IsAt rows r j e →
+      told (slice_index (departures_in times) (r * length calls + j)) ≡ e.depart
 
 -- the times as they stand
 abbrev pub IsViewOf : List (List Event) → List Call → List Times → Type 0
@@ -63,7 +67,8 @@ pub record IsGrid (m n : ℕ) (F : ℕ → ℕ → ℕ) (numbers : List ℕ) : T
   pub at : (a b : ℕ) → a < m → b < n → slice_index numbers (a * n + b) ≡ F a b
 
 -- for each of the first n lines something that fits it
-pub record AreFor {X : Type 0} (Fits : List ℕ → X → Type 0) (n : ℕ) (lines : List (List ℕ)) (made : List X) : Type 0 where
+pub record AreFor {X : Type 0} (Fits : List ℕ → X →
+    Type 0) (n : ℕ) (lines : List (List ℕ)) (made : List X) : Type 0 where
   pub size : length made ≡ n
   pub each : (k : ℕ) (line : List ℕ) (x : X) → slice_get lines k ≡ Some line → slice_get made k ≡ Some x → Fits line x
 
@@ -77,4 +82,5 @@ abbrev pub IsCalls : List Trip → List ℕ → List Call → Type 0
 IsCalls trips line calls = calls ≡ map call_of (events_of trips (slice_index line 0))
 
 abbrev pub IsTimes : List Trip → List ℕ → List Times → Type 0
-IsTimes trips line times = AreTimes (length line) (length (events_of trips (slice_index line 0))) (rows_of_line trips line) times
+IsTimes trips line times = AreTimes (length line) (length (events_of trips (slice_index line 0)))
+    (rows_of_line trips line) times

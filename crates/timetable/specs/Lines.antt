@@ -85,7 +85,8 @@ pub record AreViews (trips : List Trip) (table : LineTable) : Type 0 where
   pub calls_size : length table.calls ≡ length table.lines
   pub times_size : length table.times ≡ length table.lines
   pub view : (line : ℕ) (row : Line) (calls : List Call) (times : List Times) →
-      slice_get table.lines line ≡ Some row → slice_get table.calls line ≡ Some calls → slice_get table.times line ≡ Some times →
+      slice_get table.lines line ≡ Some row → slice_get table.calls line ≡ Some calls →
+      slice_get table.times line ≡ Some times →
       IsViewOf (rows_of_line trips row) calls times
 
 -- what is true of the lines of a network

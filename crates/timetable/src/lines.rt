@@ -1,11 +1,13 @@
 //! Lines: trips with the same stops in the same order, where one may board and alight alike, and none overtakes
 //! another. (The RAPTOR paper has them as routes: Delling, Pajor, Werneck, ALENEX 2012.)
-ghost use Rattle.std.specs.Prelude.{◌≡◌, ◌<◌, ◌≤◌, ◌+◌, ◌↔◌, ℕ, IsTrue, IfOk, OnOk, IfSome, All, [], map, length, slice_get, slice_index_or, Some};
+ghost use Rattle.std.specs.Prelude.{◌≡◌, ◌<◌, ◌≤◌, ◌+◌, ◌↔◌, ℕ, IsTrue, IfOk, OnOk, IfSome, All, [], map, length};
+ghost use Rattle.std.specs.Prelude.{slice_get, slice_index_or, Some};
 ghost use Rattle.std.specs.Bool.{OnTrue};
 ghost use Rattle.std.specs.List.{Contains};
 ghost use Rattle.timetable.specs.FlatLists.{lists_of, Adds};
 ghost use Rattle.timetable.specs.Networks.{NetWithin};
-ghost use Rattle.timetable.specs.Lines.{IsNoEarlier, Follows, Joins, IsLine, IsInLine, AreLines, BoardsBefore, AreBoarded, AreLinesOf};
+ghost use Rattle.timetable.specs.Lines.{IsNoEarlier, Follows, Joins, IsLine, IsInLine, AreLines, BoardsBefore};
+ghost use Rattle.timetable.specs.Lines.{AreBoarded, AreLinesOf};
 
 use crate::flat_lists::{FlatLists, add, no_lists};
 use crate::limits::{MOST_EVENTS, MOST_TRIPS};
@@ -105,7 +107,8 @@ fn order_of(alloc: Global, trips: &[Trip]) -> Result<Vec<(u64, u32, u32)>, Alloc
     requires { length trips.now ≤ MOST_TRIPS }
     ensures size { IfOk result (λ order. length order.items ≡ length trips.now) }
     ensures in_range { IfOk result (λ order. All (λ turn. turn.2 < length trips.now) order.items) }
-    ensures all { IfOk result (λ order. (trip : ℕ) → trip < length trips.now → Contains (map (λ turn. turn.2) order.items) trip) }
+    ensures all { IfOk result (λ order. (trip : ℕ) → trip < length trips.now →
+        Contains (map (λ turn. turn.2) order.items) trip) }
 {
     let mut order = Vec::with_capacity(alloc, trips.len())?;
     for trip in 0..trips.len() {
@@ -165,9 +168,11 @@ fn add_trip(
     requires lines { All (IsLine trips.now) (lists_of lines.old.items) }
     requires trip { trip < length trips.now }
     ensures few { OnOk result (length lines.new.items ≤ length lines.old.items + 1) }
-    ensures short { OnOk result ((most : ℕ) → All (λ line. length line ≤ most) (lists_of lines.old.items) → All (λ line. length line ≤ most + 1) (lists_of lines.new.items)) }
+    ensures short { OnOk result ((most : ℕ) → All (λ line. length line ≤ most) (lists_of lines.old.items) →
+        All (λ line. length line ≤ most + 1) (lists_of lines.new.items)) }
     ensures lines { OnOk result (All (IsLine trips.now) (lists_of lines.new.items)) }
-    ensures kept { OnOk result ((i : ℕ) → IsInLine (lists_of lines.old.items) i → IsInLine (lists_of lines.new.items) i) }
+    ensures kept { OnOk result ((i : ℕ) → IsInLine (lists_of lines.old.items) i →
+        IsInLine (lists_of lines.new.items) i) }
     ensures added { OnOk result (IsInLine (lists_of lines.new.items) trip) }
 {
     match open_line(trips, lines, trip) {
@@ -188,7 +193,8 @@ fn open_line(trips: &[Trip], lines: &[Vec<u32>], trip: u32) -> Option<usize>
     requires lines { All (IsLine trips.now) (lists_of lines.now) }
     requires trip { trip < length trips.now }
     ensures within { IfSome result (λ line. line < length lines.now) }
-    ensures joins { IfSome result (λ line. (t : Trip) → slice_get trips.now trip ≡ Some t → Joins trips.now (slice_index_or (lists_of lines.now) line []) t.events) }
+    ensures joins { IfSome result (λ line. (t : Trip) → slice_get trips.now trip ≡ Some t →
+        Joins trips.now (slice_index_or (lists_of lines.now) line []) t.events) }
 {
     let events = trips[trip as usize].events.as_slice();
     for line in lines.len().saturating_sub(OPEN_LINES)..lines.len() {
@@ -267,7 +273,8 @@ fn add_places(
 ) -> Result<(), AllocError>
     requires stops { All (λ e. e.stop.0 < length boarded.old.items) events.now }
     requires few { length events.now ≤ MOST_EVENTS }
-    ensures { OnOk result (Adds (BoardsBefore (length events.now) line events.now) (lists_of boarded.old.items) (lists_of boarded.new.items)) }
+    ensures { OnOk result (Adds (BoardsBefore (length events.now) line events.now) (lists_of boarded.old.items)
+        (lists_of boarded.new.items)) }
 {
     for k in 0..events.len() {
         let event = events[k];

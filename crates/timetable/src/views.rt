@@ -32,8 +32,10 @@ pub(crate) fn views_of(
     lines: &FlatLists<u32>,
 ) -> Result<(Vec<Vec<Call>>, Vec<Vec<Times>>), AllocError>
     requires lines { All (IsLine trips.now) lines.now }
-    ensures calls { IfOk result (λ views. AreFor (IsCalls trips.now) (length lines.now) lines.now (lists_of views.0.items)) }
-    ensures times { IfOk result (λ views. AreFor (IsTimes trips.now) (length lines.now) lines.now (lists_of views.1.items)) }
+    ensures calls { IfOk result (λ views. AreFor (IsCalls trips.now) (length lines.now) lines.now
+        (lists_of views.0.items)) }
+    ensures times { IfOk result (λ views. AreFor (IsTimes trips.now) (length lines.now) lines.now
+        (lists_of views.1.items)) }
 {
     let mut calls = Vec::with_capacity(alloc, lines.count())?;
     let mut times = Vec::with_capacity(alloc, lines.count())?;

@@ -1,5 +1,7 @@
 -- The events of a trip: each at its own times or at those between its neighbours.
-use Rattle.std.proofs.Common.{◌≡◌, ◌<◌, ◌≤◌, ◌+◌, ◌-◌, ◌*◌, ◌/◌, ◌||◌, ◌++◌, ◌∙◌, ℕ, zero, suc, Bool, true, false, List, [], ◌∷◌, length, drop, length-drop, Option, Some, None, get_or, unwrap_or, arith, refl, sym, ap, subst}
+use Rattle.std.proofs.Common.{◌≡◌, ◌<◌, ◌≤◌, ◌+◌, ◌-◌, ◌*◌, ◌/◌, ◌||◌, ◌++◌, ◌∙◌, ℕ, zero, suc, Bool, true, false, List}
+use Rattle.std.proofs.Common.{[], ◌∷◌, length, drop, length-drop, Option, Some, None, get_or, unwrap_or, arith, refl}
+use Rattle.std.proofs.Common.{sym, ap, subst}
 use Rattle.std.proofs.Math.Seq.{drop-cons}
 use Rattle.std.proofs.Math.Nat.{div-mul-le_self, div-le_self, mul-le-mul_left, mul-div_left}
 use Rattle.std.proofs.lemmas.List.{append_assoc}
@@ -18,17 +20,21 @@ use Rattle.trip_events.specs.declared.trip_times.Times.{Times}
 -- the events of records that follow a neighbour
 abbrev pub filled_on : Option Neighbour → List StopTime → List Event
 filled_on before [] = []
-filled_on before (s ∷ rest) = event_at s (unwrap_or s.times (between before (nearest rest))) ∷ filled_on (nearer s.times before) rest
+filled_on before (s ∷ rest) = event_at s (unwrap_or s.times (between before (nearest rest))) ∷ filled_on
+    (nearer s.times before) rest
 
-filled_after : (before trip_times : List StopTime) → filled_on (nearest before) trip_times ≡ events_after before trip_times
+filled_after : (before trip_times : List StopTime) →
+    filled_on (nearest before) trip_times ≡ events_after before trip_times
 filled_after before [] = refl
 filled_after before (s ∷ rest) =
-    ap (λ (l : List Event). event_at s (unwrap_or s.times (between (nearest before) (nearest rest))) ∷ l) (filled_after (s ∷ before) rest)
+    ap (λ (l : List Event). event_at s (unwrap_or s.times (between (nearest before) (nearest rest))) ∷ l)
+    (filled_after (s ∷ before) rest)
 
 pub filled_is : (trip_times : List StopTime) → filled_on None trip_times ≡ filled trip_times
 filled_is trip_times = filled_after [] trip_times
 
-pub length-filled_on : (before : Option Neighbour) (trip_times : List StopTime) → length (filled_on before trip_times) ≡ length trip_times
+pub length-filled_on : (before : Option Neighbour) (trip_times : List StopTime) →
+    length (filled_on before trip_times) ≡ length trip_times
 length-filled_on before [] = refl
 length-filled_on before (s ∷ rest) = omega (arith, length-filled_on (nearer s.times before) rest)
 
@@ -105,7 +111,8 @@ OneIs (Some x) o = Unit {0}
 onward : (low : ℕ) (t : Times) → goes_back low (Some t) ≡ false → (low ≤ t.arrive) × (t.arrive ≤ t.depart)
 onward low t h = by (nat_lt t.arrive low) (nat_lt t.depart t.arrive) refl refl h
   where
-    by : (b c : Bool) → nat_lt t.arrive low ≡ b → nat_lt t.depart t.arrive ≡ c → (b || c) ≡ false → (low ≤ t.arrive) × (t.arrive ≤ t.depart)
+    by : (b c : Bool) → nat_lt t.arrive low ≡ b → nat_lt t.depart t.arrive ≡ c → (b || c) ≡ false →
+        (low ≤ t.arrive) × (t.arrive ≤ t.depart)
     by true c e f g = cc g
     by false true e f g = cc g
     by false false e f g = (grind (arith, nat_tests), grind (arith, nat_tests))
@@ -118,24 +125,33 @@ after_timed : (t : Times) (before after : Option Neighbour) → departure_before
 after_timed t before after = after_first t after
 
 -- one event goes on from those before it
-pub step : (s : StopTime) (times : Option Times) (before after : Option Neighbour) (xs : List Event) → OneIs times before → OneIs times after → goes_back (left_at before) times ≡ false
-    → Climbs (departure_before (nearer times before) after) xs → Climbs (departure_before before (nearer times after)) (event_at s (unwrap_or times (between before after)) ∷ xs)
+pub step : (s : StopTime) (times : Option Times) (before after : Option Neighbour) (xs : List Event) →
+    OneIs times before → OneIs times after → goes_back (left_at before) times ≡ false
+    → Climbs (departure_before (nearer times before) after) xs →
+    Climbs (departure_before before (nearer times after)) (event_at s (unwrap_or times (between before after)) ∷ xs)
 step s (Some t) None after xs b a on up =
     let (first, second) = onward 0 t on in
     (omega arith, second, subst (λ (n : ℕ). Climbs n xs) (after_timed t None after) up)
 step s (Some t) (Some n) after xs b a on up =
     let (first, second) = onward n.times.depart t on in
-    let most = gap_within n.times.depart t.arrive n.untimed (n.untimed + 0 + 1) t.arrive (omega arith) (omega arith) first (omega arith) in
+    let most = gap_within n.times.depart t.arrive n.untimed (n.untimed + 0 + 1) t.arrive (omega arith) (omega arith)
+    first (omega arith) in
     (most, second, subst (λ (n : ℕ). Climbs n xs) (after_timed t (Some n) after) up)
 step s None None after xs b a on up = cc b
 step s None (Some n) None xs b a on up = cc a
 step s None (Some n) (Some m) xs b a on up =
     let gaps : n.untimed + (m.untimed + 1) + 1 ≡ n.untimed + m.untimed + 2 = omega arith in
     let same : n.untimed + 1 + m.untimed + 1 ≡ n.untimed + m.untimed + 2 = omega arith in
-    let more = later_gap n.times.depart m.times.arrive n.untimed (n.untimed + 1) (n.untimed + m.untimed + 2) (omega arith) (omega arith) in
-    let le : time_at_gap n.times.depart m.times.arrive n.untimed (n.untimed + (m.untimed + 1) + 1) ≤ time_at_gap n.times.depart m.times.arrive (n.untimed + 1) (n.untimed + m.untimed + 2) =
-    rw gaps more in
-    (le, omega arith, subst (λ (k : ℕ). Climbs (time_at_gap n.times.depart m.times.arrive (n.untimed + 1) k) xs) same up)
+    let more = later_gap n.times.depart m.times.arrive n.untimed (n.untimed + 1) (n.untimed + m.untimed + 2)
+    (omega arith) (omega arith) in
+    let le : time_at_gap n.times.depart m.times.arrive n.untimed (n.untimed + (m.untimed + 1) + 1)
+    ≤ time_at_gap n.times.depart m.times.arrive (n.untimed + 1) (n.untimed + m.untimed + 2) =
+    rw gaps more in (
+      le,
+      omega arith,
+      subst (λ (k : ℕ). Climbs (time_at_gap n.times.depart m.times.arrive (n.untimed + 1) k) xs) same
+          up,
+    )
 
 -- a neighbour is at most as far as there are events
 abbrev pub IsNear : Option Neighbour → ℕ → Type 0
@@ -145,7 +161,8 @@ pub nearest_near : (trip_times : List StopTime) → IsNear (nearest trip_times) 
 nearest_near [] = tt
 nearest_near (s ∷ rest) = by s.times (nearest rest) (nearest_near rest)
   where
-    by : (times : Option Times) (o : Option Neighbour) → IsNear o (length rest) → IsNear (nearer times o) (suc (length rest))
+    by : (times : Option Times) (o : Option Neighbour) → IsNear o (length rest) →
+        IsNear (nearer times o) (suc (length rest))
     by None None h = tt
     by None (Some n) h = omega (arith, h)
     by (Some t) o h = omega arith
@@ -154,16 +171,20 @@ pub near_within : (o : Option Neighbour) (n most : ℕ) → n ≤ most → IsNea
 near_within None n most le h = tt
 near_within (Some x) n most le h = omega (arith, h, le)
 
-pub approached_near : (o : Option Neighbour) (most : ℕ) → IsNear o most → IsNear (option_map (λ (n : Neighbour). record { times = n.times; untimed = n.untimed - 1 }) o) most
+pub approached_near : (o : Option Neighbour) (most : ℕ) → IsNear o most →
+    IsNear (option_map (λ (n : Neighbour). record { times = n.times; untimed = n.untimed - 1 }) o) most
 approached_near None most h = tt
 approached_near (Some x) most h = omega (arith, h)
 
 -- a record with times goes on from those before it, whatever these are
-pub one_timed : (before : Option Neighbour) (xs : List StopTime) (i : ℕ) (d : StopTime) (t : Times) (done all : List Event) → i < length xs
+pub one_timed : (before : Option Neighbour) (xs : List StopTime) (i : ℕ) (d : StopTime) (t : Times)
+    (done all : List Event) → i < length xs
     → (get_or xs i d).times ≡ Some t → done ++ filled_on before (drop i xs) ≡ all
-    → (done ++ event_at (get_or xs i d) t ∷ []) ++ filled_on (Some (record { times = t; untimed = 0 })) (drop (i + 1) xs) ≡ all
+    → (done ++ event_at (get_or xs i d) t ∷ []) ++ filled_on (Some (record { times = t; untimed = 0 }))
+    (drop (i + 1) xs) ≡ all
 one_timed before xs i d t done all within timed is =
-    append_assoc done (event_at (get_or xs i d) t ∷ []) (after (i + 1)) ∙ ap (λ (l : List Event). done ++ l) (sym goes_on) ∙ is
+    append_assoc done (event_at (get_or xs i d) t ∷ []) (after (i + 1))
+    ∙ ap (λ (l : List Event). done ++ l) (sym goes_on) ∙ is
   where
     after : ℕ → List Event
     after k = filled_on (Some (record { times = t; untimed = 0 })) (drop k xs)
@@ -181,7 +202,8 @@ one_timed before xs i d t done all within timed is =
         ∙ ap (λ (k : ℕ). event_at (get_or xs i d) t ∷ after k) next
 
 -- no event is left after the last
-pub none_left : (before : Option Neighbour) (i : ℕ) (trip_times : List StopTime) → length trip_times ≤ i → filled_on before (drop i trip_times) ≡ []
+pub none_left : (before : Option Neighbour) (i : ℕ) (trip_times : List StopTime) → length trip_times ≤ i →
+    filled_on before (drop i trip_times) ≡ []
 none_left before i trip_times le = by (drop i trip_times) (omega (arith, length-drop i trip_times))
   where
     by : (xs : List StopTime) → length xs ≡ 0 → filled_on before xs ≡ []

@@ -1,7 +1,9 @@
 -- What stop_times.txt says: the records of each trip, in ascending order of stop_sequence, give its events.
 -- A trip with a record that names no stop is set aside.
 -- (GTFS Schedule reference, stop_times.txt.)
-use Rattle.std.specs.Prelude.{◌≡◌, ◌≤◌, ◌+◌, ◌==◌, ◌&&◌, ℕ, Bool, List, [], ◌∷◌, ◌++◌, Option, Some, None, codes, count_by, filter, length, map, not, sum_by, All, is_none, nat_le, position, unwrap_or, if◌then◌else◌}
+use Rattle.std.specs.Prelude.{◌≡◌, ◌≤◌, ◌+◌, ◌==◌, ◌&&◌, ℕ, Bool, List, [], ◌∷◌, ◌++◌, Option, Some, None, codes}
+use Rattle.std.specs.Prelude.{count_by, filter, length, map, not, sum_by, All, is_none, nat_le, position, unwrap_or}
+use Rattle.std.specs.Prelude.{if◌then◌else◌}
 use Rattle.std.specs.List.{list_any}
 use Rattle.std.specs.Str.{bytes_eq}
 use Rattle.timetable.specs.declared.limits.TheConstants.{MOST_EVENTS}
@@ -98,7 +100,8 @@ stop_time_of stops at r = record {
 -- the records from a number on, each with the number of its trip
 abbrev pub stop_times_from : List (List ℕ) → List (List ℕ) → ℕ → List TimeRow → List (ℕ × StopTime)
 stop_times_from trips stops at [] = []
-stop_times_from trips stops at (r ∷ rest) = (trip_of trips r, stop_time_of stops at r) ∷ stop_times_from trips stops (at + 1) rest
+stop_times_from trips stops at (r ∷ rest) =
+    (trip_of trips r, stop_time_of stops at r) ∷ stop_times_from trips stops (at + 1) rest
 
 -- all records, the header being record 1
 abbrev pub stop_times_of : List (List ℕ) → List (List ℕ) → List TimeRow → List (ℕ × StopTime)
@@ -149,10 +152,12 @@ sorted_trips trips stops rows = sorted_from (stop_times_of trips stops rows) 0 t
 abbrev pub time_rows : List ℕ → List TimeRow
 time_rows bytes = table_rows row_of (records_of bytes)
 
--- all faults of the bytes of stop_times.txt, by the identifiers of the trips and of the stops: after those of the records come those of whole trips
+-- all faults of the bytes of stop_times.txt, by the identifiers of the trips and of the stops: after those of the
+-- records come those of whole trips
 abbrev pub time_faults : List (List ℕ) → List (List ℕ) → List ℕ → List FeedFault
 time_faults trips stops bytes =
-    table_faults file.StopTimes required row_of (checks trips stops) (records_of bytes) ++ whole_trip_faults (sorted_trips trips stops (time_rows bytes))
+    table_faults file.StopTimes required row_of (checks trips stops) (records_of bytes) ++ whole_trip_faults
+    (sorted_trips trips stops (time_rows bytes))
 
 -- the events of each trip
 abbrev pub trip_events : List (List ℕ) → List (List ℕ) → List TimeRow → List (List Event)
@@ -168,8 +173,9 @@ abbrev pub trips_aside : List (List ℕ) → List TimeRow → ℕ
 trips_aside trips rows = count_by (list_any (λ r. is_empty r.stop)) (rows_from trips rows 0 trips)
 
 -- the lists have the records of each trip
-pub record AreStopTimes (trips stops : List (List ℕ)) (trip_times : List (List StopTime)) (rows : List TimeRow) : Type 0 where
-  pub few : length rows ≤ MOST_EVENTS
-  pub sorted : trip_times ≡ sorted_trips trips stops rows
-  pub total : sum_by length trip_times ≡ length rows
-  pub sound : All (All (IsSound (length stops))) trip_times
+pub record AreStopTimes (trips stops : List (List ℕ)) (trip_times : List (List StopTime)) (rows : List TimeRow) : Type 0
+  where
+    pub few : length rows ≤ MOST_EVENTS
+    pub sorted : trip_times ≡ sorted_trips trips stops rows
+    pub total : sum_by length trip_times ≡ length rows
+    pub sound : All (All (IsSound (length stops))) trip_times

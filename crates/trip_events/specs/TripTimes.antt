@@ -1,6 +1,8 @@
 -- The records of one trip of stop_times.txt, in ascending order of their sequence numbers.
--- (GTFS Schedule reference, stop_times.txt: "The values must increase along the trip but do not need to be consecutive.")
-use Rattle.std.specs.Prelude.{◌≡◌, ◌<◌, ◌≤◌, ◌+◌, ◌==◌, ℕ, Bool, false, List, [], ◌∷◌, length, insert, IfSome, nat_lt, ⊤, if◌then◌else◌}
+-- (GTFS Schedule reference, stop_times.txt: "The values must increase along the trip but do not need to be
+-- consecutive.")
+use Rattle.std.specs.Prelude.{◌≡◌, ◌<◌, ◌≤◌, ◌+◌, ◌==◌, ℕ, Bool, false, List, [], ◌∷◌, length, insert, IfSome, nat_lt}
+use Rattle.std.specs.Prelude.{⊤, if◌then◌else◌}
 use Rattle.std.specs.List.{list_any}
 use Rattle.trip_events.specs.declared.trip_times.StopTime.{StopTime}
 use Rattle.trip_events.specs.declared.trip_times.Times.{Times}

@@ -2,7 +2,8 @@
 -- The first and the last event need a time. A trip goes back at a timed event that departs before it arrives,
 -- or arrives before the timed event before it departs. A trip that is set aside isn't checked and has no events.
 -- (GTFS Schedule reference, stop_times.txt: arrival_time, departure_time.)
-use Rattle.std.specs.Prelude.{◌≤◌, ◌<◌, ◌-◌, ◌||◌, ℕ, Bool, false, List, [], ◌∷◌, ◌++◌, length, map, slice_get, sum_by, All, Option, Some, None, is_none, nat_lt, if◌then◌else◌}
+use Rattle.std.specs.Prelude.{◌≤◌, ◌<◌, ◌-◌, ◌||◌, ℕ, Bool, false, List, [], ◌∷◌, ◌++◌, length, map, slice_get, sum_by}
+use Rattle.std.specs.Prelude.{All, Option, Some, None, is_none, nat_lt, if◌then◌else◌}
 use Rattle.std.specs.List.{list_any}
 use Rattle.timetable.specs.declared.limits.TheConstants.{MOST_EVENTS}
 use Rattle.timetable.specs.Trips.{EventsRise}
@@ -41,7 +42,8 @@ departed last (Some t) = t.depart
 -- the records at which a trip goes back
 abbrev pub records_back : ℕ → List StopTime → List ℕ
 records_back last [] = []
-records_back last (s ∷ rest) = (if goes_back last s.times then s.at ∷ [] else []) ++ records_back (departed last s.times) rest
+records_back last (s ∷ rest) = (if goes_back last s.times then s.at ∷ [] else []) ++ records_back
+    (departed last s.times) rest
 
 -- a fault at each of some records
 abbrev pub faults_of : What → List ℕ → List FeedFault
@@ -49,7 +51,8 @@ faults_of w records = map (λ at. record { file = StopTimes; at = at; what = w }
 
 -- the faults of a whole trip
 abbrev pub trip_faults : List StopTime → List FeedFault
-trip_faults trip_times = if is_aside trip_times then [] else faults_of NoTime (untimed_ends trip_times) ++ faults_of TimesGoBack (records_back 0 trip_times)
+trip_faults trip_times = if is_aside trip_times then [] else faults_of NoTime (untimed_ends trip_times) ++ faults_of
+    TimesGoBack (records_back 0 trip_times)
 
 -- the faults of whole trips, trip by trip
 abbrev pub whole_trip_faults : List (List StopTime) → List FeedFault

@@ -1,6 +1,7 @@
 //! The events of each trip: `stop_times.txt`.
 
-ghost use Rattle.std.specs.Prelude.{◌≡◌, ◌≤◌, ◌<◌, ℕ, List, [], true, false, length, map, position, replicate, slice_get, IfOk, IfErr, IfSome, IsTrue, if◌then◌else◌};
+ghost use Rattle.std.specs.Prelude.{◌≡◌, ◌≤◌, ◌<◌, ℕ, List, [], true, false, length, map, position, replicate};
+ghost use Rattle.std.specs.Prelude.{slice_get, IfOk, IfErr, IfSome, IsTrue, if◌then◌else◌};
 ghost use Rattle.timetable.specs.declared.limits.TheConstants.{MOST_STOPS, MOST_TRIPS};
 ghost use Rattle.std.specs.Str.{bytes_eq};
 ghost use Rattle.csv.specs.Records.{fields_of};
@@ -45,7 +46,8 @@ const CHECKS: Checks = Checks {
 /// of a whole trip, which is looked at after all records.
 pub fn stop_time_checks() -> Checks
     ensures required { map (λ name. name.now) result.required.now ≡ spec.required }
-    ensures explains { (trips stops : List (List ℕ)) → Explains result.fields.now spec.row_of (spec.checks trips stops) }
+    ensures explains { (trips stops : List (List ℕ)) →
+        Explains result.fields.now spec.row_of (spec.checks trips stops) }
 {
     CHECKS
 }
@@ -110,7 +112,8 @@ impl<'a> RecordReader for TimeReader<'a> {
 
     ghost After = { λ s _ rows now. AreStopTimes s.trips.now s.stops.now now.trips.items rows };
 
-    ghost HasRoom = { λ s table _. (length s.stops.now ≤ MOST_STOPS) × (length table.trips.items ≡ length s.trips.now) };
+    ghost HasRoom = { λ s table _. (length s.stops.now ≤ MOST_STOPS)
+        × (length table.trips.items ≡ length s.trips.now) };
 
     fn add(
         &self,
@@ -154,9 +157,11 @@ impl<'a> TimeReader<'a> {
     fn trip_stop(&self, row: &ByteRecord, likely: &Likely) -> Result<TripStop, What>
         requires { length self.now.stops.now ≤ MOST_STOPS }
         ensures good { let r = spec.row_at self.now.columns (fields_of row.now) in
-            IfOk result (λ p. (spec.trip_stop_checks self.now.trips.now self.now.stops.now r ≡ []) × (p.trip ≡ spec.trip_of self.now.trips.now r)
+            IfOk result (λ p. (spec.trip_stop_checks self.now.trips.now self.now.stops.now r ≡ [])
+            × (p.trip ≡ spec.trip_of self.now.trips.now r)
             × (p.stop ≡ spec.stop_of self.now.stops.now r) × (p.sequence ≡ spec.sequence_of r)) }
-        ensures inside { IfOk result (λ p. (p.trip < length self.now.trips.now) × IfSome p.stop (λ n. n < length self.now.stops.now)) }
+        ensures inside { IfOk result (λ p. (p.trip < length self.now.trips.now)
+            × IfSome p.stop (λ n. n < length self.now.stops.now)) }
         ensures fault { let r = spec.row_at self.now.columns (fields_of row.now) in
             IfErr result (λ e. slice_get (spec.trip_stop_checks self.now.trips.now self.now.stops.now r) 0 ≡ Some e) }
     {
@@ -181,9 +186,11 @@ impl<'a> TimeReader<'a> {
     // What a record says of its visit to the stop.
     fn visit(&self, row: &ByteRecord) -> Result<Visit, What>
         ensures good { let r = spec.row_at self.now.columns (fields_of row.now) in
-            IfOk result (λ v. (spec.visit_checks r ≡ []) × (v.times ≡ spec.times_of (time_of r.arrive) (time_of r.depart))
+            IfOk result (λ v. (spec.visit_checks r ≡ [])
+            × (v.times ≡ spec.times_of (time_of r.arrive) (time_of r.depart))
             × (v.board ≡ spec.allows r.pickup) × (v.alight ≡ spec.allows r.drop_off)) }
-        ensures fault { let r = spec.row_at self.now.columns (fields_of row.now) in IfErr result (λ e. slice_get (spec.visit_checks r) 0 ≡ Some e) }
+        ensures fault { let r = spec.row_at self.now.columns (fields_of row.now) in
+            IfErr result (λ e. slice_get (spec.visit_checks r) 0 ≡ Some e) }
     {
         let arrive_text = field(row, self.columns.arrive);
         let depart_text = field(row, self.columns.depart);
@@ -209,7 +216,8 @@ fn read_stop(text: &[u8], stops: &Identifiers, likely: usize) -> Result<Option<u
     ensures good { IfOk result (λ stop. (is_wrong (λ id. position (bytes_eq id) stops.now) text.now ≡ false)
         × (stop ≡ (if is_empty text.now then None else Some (number_in stops.now text.now)))) }
     ensures inside { IfOk result (λ stop. IfSome stop (λ n. n < length stops.now)) }
-    ensures fault { IfErr result (λ e. (is_wrong (λ id. position (bytes_eq id) stops.now) text.now ≡ true) × (e ≡ UnknownStop)) }
+    ensures fault { IfErr result (λ e. (is_wrong (λ id. position (bytes_eq id) stops.now) text.now ≡ true)
+        × (e ≡ UnknownStop)) }
 {
     if text.is_empty() {
         return Ok(None);
@@ -222,7 +230,8 @@ fn read_stop(text: &[u8], stops: &Identifiers, likely: usize) -> Result<Option<u
 
 // A time that may be left open: none where the text is empty.
 fn read_open_time(text: &[u8]) -> Result<Option<u32>, What>
-    ensures good { IfOk result (λ time. (is_wrong time_of (trimmed text.now) ≡ false) × (time ≡ time_of (trimmed text.now))) }
+    ensures good { IfOk result (λ time. (is_wrong time_of (trimmed text.now) ≡ false)
+        × (time ≡ time_of (trimmed text.now))) }
     ensures fault { IfErr result (λ e. (is_wrong time_of (trimmed text.now) ≡ true) × (e ≡ BadTime)) }
 {
     let time = read_time(text);
@@ -247,7 +256,8 @@ fn are_equal_times(a: &[u8], b: &[u8]) -> bool
 
 // Whether a pickup or drop-off type allows what it speaks of. Only 1 forbids it.
 fn read_allowed(text: &[u8]) -> Result<bool, What>
-    ensures good { IfOk result (λ allowed. (is_wrong number_of (trimmed text.now) ≡ false) × (allowed ≡ spec.allows (trimmed text.now))) }
+    ensures good { IfOk result (λ allowed. (is_wrong number_of (trimmed text.now) ≡ false)
+        × (allowed ≡ spec.allows (trimmed text.now))) }
     ensures fault { IfErr result (λ e. (is_wrong number_of (trimmed text.now) ≡ true) × (e ≡ BadNumber)) }
 {
     // Nearly all are one digit.

@@ -1,6 +1,7 @@
 //! The records of one trip: when it calls at which stop, in ascending order of `stop_sequence`.
 
-ghost use Rattle.std.specs.Prelude.{◌≡◌, ◌<◌, ◌≤◌, ℕ, [], true, false, length, slice_index_or, IfNone, IfSome, IsTrue, OnErr, OnOk};
+ghost use Rattle.std.specs.Prelude.{◌≡◌, ◌<◌, ◌≤◌, ℕ, [], true, false, length, slice_index_or, IfNone, IfSome, IsTrue};
+ghost use Rattle.std.specs.Prelude.{OnErr, OnOk};
 ghost use Rattle.trip_events.specs.declared.trip_times.StopTime.{StopTime};
 ghost use Rattle.trip_events.specs.TripTimes.{FitsAt, IsAscending, has_number, insert_in_order};
 
@@ -139,8 +140,10 @@ fn position_of(trip_times: &VecDeque<StopTime>, sequence: u32) -> Option<usize>
 fn count_below(trip_times: &VecDeque<StopTime>, sequence: u32) -> usize
     requires { IsAscending 0 trip_times.now.items }
     ensures within { result ≤ length trip_times.now.items }
-    ensures below { (k : ℕ) (d : StopTime) → k < result → (slice_index_or trip_times.now.items k d).sequence < sequence }
-    ensures from { (k : ℕ) (d : StopTime) → result ≤ k → k < length trip_times.now.items → sequence ≤ (slice_index_or trip_times.now.items k d).sequence }
+    ensures below { (k : ℕ) (d : StopTime) → k < result →
+        (slice_index_or trip_times.now.items k d).sequence < sequence }
+    ensures from { (k : ℕ) (d : StopTime) → result ≤ k → k < length trip_times.now.items →
+        sequence ≤ (slice_index_or trip_times.now.items k d).sequence }
 {
     trip_times.partition_point(|stop_time| stop_time.sequence < sequence)
 }
@@ -149,7 +152,8 @@ fn count_below(trip_times: &VecDeque<StopTime>, sequence: u32) -> usize
 fn is_past_all(trip_times: &VecDeque<StopTime>, sequence: u32) -> bool
     requires { IsAscending 0 trip_times.now.items }
     ensures last { IsTrue result → FitsAt (length trip_times.now.items) sequence trip_times.now.items }
-    ensures past { IsTrue result → (k : ℕ) (d : StopTime) → k < length trip_times.now.items → (slice_index_or trip_times.now.items k d).sequence < sequence }
+    ensures past { IsTrue result → (k : ℕ) (d : StopTime) → k < length trip_times.now.items →
+        (slice_index_or trip_times.now.items k d).sequence < sequence }
 {
     let count = trip_times.len();
     count == 0 || trip_times[count - 1].sequence < sequence

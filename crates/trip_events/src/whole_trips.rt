@@ -24,7 +24,8 @@ pub struct StopTimes {
 pub fn events_of_trips(alloc: Global, trips: Vec<TripTimes>) -> Result<StopTimes, FeedFault>
     requires trips { length trips.items ≤ MOST_TRIPS }
     requires records { sum_by length trips.items ≤ MOST_EVENTS }
-    ensures good { IfOk result (λ t. (spec.whole_trip_faults trips.items ≡ []) × (t.trips.items ≡ map spec.events_of trips.items)
+    ensures good { IfOk result (λ t. (spec.whole_trip_faults trips.items ≡ [])
+        × (t.trips.items ≡ map spec.events_of trips.items)
         × (t.aside ≡ count_by spec.is_aside trips.items)) }
     ensures fault { IfErr result (λ e. Tells e (spec.whole_trip_faults trips.items)) }
 {
@@ -55,7 +56,8 @@ fn events_of_trip(
 ) -> Result<Events, FeedFault>
     requires few { length trip_times.now ≤ MOST_EVENTS }
     requires aside { is_aside ≡ spec.is_aside trip_times.now }
-    ensures good { IfOk result (λ events. (spec.trip_faults trip_times.now ≡ []) × (events ≡ spec.events_of trip_times.now)) }
+    ensures good { IfOk result (λ events. (spec.trip_faults trip_times.now ≡ [])
+        × (events ≡ spec.events_of trip_times.now)) }
     ensures fault { IfErr result (λ e. Tells e (spec.trip_faults trip_times.now)) }
 {
     if is_aside {

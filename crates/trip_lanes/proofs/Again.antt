@@ -20,7 +20,10 @@ pub nothing_lowers : {C : ℕ → ℕ → Type 0} (labels : List ℕ) → Nothin
 nothing_lowers labels none =
     record {
       same_length = refl;
-      label = λ p l. record { holds = inl refl; least = λ m o. elim o [ inl s ↦ omega (arith, s) | inr c ↦ none p m l c ] };
+      label = λ p l. record {
+        holds = inl refl;
+        least = λ m o. elim o [ inl s ↦ omega (arith, s) | inr c ↦ none p m l c ];
+      };
     }
 
 -- and nothing else may come of them
@@ -33,16 +36,31 @@ nothing_changes old new none h =
     elim e.holds [ inl s ↦ s | inr c ↦ let back = none p (slice_index new p) l' c in omega arith ])
 
 -- a trip that was carried has nothing lower to offer, while its stops keep their labels
-pub carried_already : (t : Trip) (ready again old mid now : List ℕ) → Lowers (Carries ready t) old mid → length now ≡ length mid → ((p : ℕ) → p < length now → slice_index now p ≤ slice_index mid p) → SameAtStops t ready again → NothingLower (Carries again t) now
+pub carried_already : (t : Trip) (ready again old mid now : List ℕ) → Lowers (Carries ready t) old mid →
+    length now ≡ length mid → ((p : ℕ) → p < length now → slice_index now p ≤ slice_index mid p) →
+    SameAtStops t ready again → NothingLower (Carries again t) now
 carried_already t ready again old mid now h same falls stops p x l c =
     let e = stops c.j c.on c.ride.from in
     let before : slice_index ready c.on.stop.0 ≤ c.on.depart = omega (arith, e, c.in_time) in
-    let low = (h.label p (omega (arith, same, h.same_length))).least x (inr (record { j = c.j; i = c.i; on = c.on; off = c.off; ride = c.ride; in_time = before; stop = c.stop; time = c.time })) in
+    let low = (h.label p (omega (arith, same, h.same_length))).least x
+    (inr (record {
+      j = c.j;
+      i = c.i;
+      on = c.on;
+      off = c.off;
+      ride = c.ride;
+      in_time = before;
+      stop = c.stop;
+      time = c.time;
+    })) in
     let fall = falls p l in
     omega arith
 
 -- a trip whose stops are not reached has nothing to offer
-pub carried_from_nowhere : (t : Trip) (ready now : List ℕ) → ((k : ℕ) (e : Event) → slice_get t.events k ≡ Some e → e.depart < NEVER) → ((k : ℕ) (e : Event) → slice_get t.events k ≡ Some e → slice_index ready e.stop.0 ≡ NEVER) → NothingLower (Carries ready t) now
+pub carried_from_nowhere : (t : Trip) (ready now : List ℕ) →
+    ((k : ℕ) (e : Event) → slice_get t.events k ≡ Some e → e.depart < NEVER) →
+    ((k : ℕ) (e : Event) → slice_get t.events k ≡ Some e → slice_index ready e.stop.0 ≡ NEVER) →
+    NothingLower (Carries ready t) now
 carried_from_nowhere t ready now axis never p x l c =
     let e = never c.j c.on c.ride.from in
     let a = axis c.j c.on c.ride.from in

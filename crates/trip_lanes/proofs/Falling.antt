@@ -8,7 +8,8 @@ pub falls_none : {C : ℕ → ℕ → Type 0} (a : List ℕ) → FallsTo C a a
 falls_none a = record { same_length = refl; falls = λ p. omega arith; offered = λ p l. inl refl }
 
 -- one change after another
-pub falls_then : {C D : ℕ → ℕ → Type 0} {a b c : List ℕ} → FallsTo C a b → Lowers D b c → ((p x : ℕ) → D p x → C p x) → FallsTo C a c
+pub falls_then : {C D : ℕ → ℕ → Type 0} {a b c : List ℕ} → FallsTo C a b → Lowers D b c → ((p x : ℕ) → D p x → C p x) →
+    FallsTo C a c
 falls_then {C} {D} {a} {b} {c} h k into =
     record {
       same_length = k.same_length ∙ h.same_length;
@@ -36,7 +37,11 @@ falls_both {C} {a} {b} {c} h k =
 
 pub falls_alike : {C D : ℕ → ℕ → Type 0} {a b : List ℕ} → ((p x : ℕ) → C p x → D p x) → FallsTo C a b → FallsTo D a b
 falls_alike into h =
-    record { same_length = h.same_length; falls = h.falls; offered = λ p l. elim (h.offered p l) [ inl e ↦ inl e | inr o ↦ inr (into p _ o) ] }
+    record {
+      same_length = h.same_length;
+      falls = h.falls;
+      offered = λ p l. elim (h.offered p l) [ inl e ↦ inl e | inr o ↦ inr (into p _ o) ];
+    }
 
 -- labels that fell as far as anything is offered
 pub lowers_of : {C : ℕ → ℕ → Type 0} {a b : List ℕ} → FallsTo C a b → NothingLower C b → Lowers C a b

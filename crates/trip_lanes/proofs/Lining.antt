@@ -1,5 +1,6 @@
 -- The trips of a line, place by place, in one lane.
-use Rattle.std.proofs.Common.{◌≡◌, ℕ, ◌+◌, ◌<◌, ◌≤◌, ◌⊎◌, inl, inr, false, List, [], length, get_or, slice_index, slice_get, Some, IsTrue, refl, sym, ◌∙◌, arith}
+use Rattle.std.proofs.Common.{◌≡◌, ℕ, ◌+◌, ◌<◌, ◌≤◌, ◌⊎◌, inl, inr, false, List, [], length, get_or, slice_index}
+use Rattle.std.proofs.Common.{slice_get, Some, IsTrue, refl, sym, ◌∙◌, arith}
 use Rattle.std.proofs.lemmas.Bool.{cases_lt}
 use Rattle.std.proofs.lemmas.Option.{same_Some, slice_get_within, slice_get-get_or}
 use Rattle.timetable.specs.declared.trips.Event.{Event}
@@ -26,7 +27,9 @@ pub slice_get_row : (rows : List (List Event)) (r j : ℕ) (e : Event) → IsAt 
 slice_get_row rows r j e at = slice_get_within rows r at.row at.trip
 
 -- each trip of the line makes an event at each place
-pub at_place : (base cap : ℕ) (rows : List (List Event)) (calls : List Call) (times : List Times) → IsCutViewOf base cap rows calls times → (r j : ℕ) → r < length rows → j < length calls → (e : Event) × IsAt rows r j e
+pub at_place : (base cap : ℕ) (rows : List (List Event)) (calls : List Call) (times : List Times) →
+    IsCutViewOf base cap rows calls times → (r j : ℕ) → r < length rows → j < length calls →
+    (e : Event) × IsAt rows r j e
 at_place base cap rows calls times view r j below inside =
     let row = get_or rows r [] in
     let trip : slice_get rows r ≡ Some row = slice_get-get_or rows r [] below in
@@ -45,17 +48,20 @@ pub record BoardsRow (ready : List ℕ) (rows : List (List Event)) (r x : ℕ) :
 
 -- as IsPast, of the places below y
 pub record PastTo (rows : List (List Event)) (ride : List ℕ) (r j y : ℕ) : Type 0 where
-  pub label : (i : ℕ) (e : Event) → j < i → i < y → IsAt rows r i e → IsTrue e.alight → slice_index ride e.stop.0 ≤ e.arrive
+  pub label : (i : ℕ) (e : Event) → j < i → i < y → IsAt rows r i e → IsTrue e.alight →
+      slice_index ride e.stop.0 ≤ e.arrive
 
 -- a lane after boarding at the places below x, and alighting at those below y
-pub record LineAt (before ready : List ℕ) (rows : List (List Event)) (from x y : ℕ) (old now : List ℕ) (On : ℕ → Type 0) : Type 0 where
+pub record LineAt (before ready : List ℕ) (rows : List (List Event)) (from x y : ℕ) (old now : List ℕ) (On : ℕ →
+    Type 0) : Type 0 where
   pub falls : FallsTo (CarriesRow ready rows) old now
   pub aboard : (r : ℕ) → On r → BoardsRow ready rows r x
   pub past : (r j : ℕ) → from ≤ j → j < x → IsCaught before ready rows r j → PastTo rows now r j y
   pub rides : (r j : ℕ) → from ≤ j → j < x → IsCaught before ready rows r j → (q : ℕ) × (q ≤ r) × On q
 
 module _ (before ready : List ℕ) (rows : List (List Event)) (from : ℕ) where
-  pub line_start : {On : ℕ → Type 0} (old : List ℕ) → ((r : ℕ) → On r → ⊥) → LineAt before ready rows from from from old old On
+  pub line_start : {On : ℕ → Type 0} (old : List ℕ) → ((r : ℕ) → On r → ⊥) →
+      LineAt before ready rows from from from old old On
   line_start old none =
       record {
         falls = falls_none old;
@@ -65,13 +71,20 @@ module _ (before ready : List ℕ) (rows : List (List Event)) (from : ℕ) where
       }
 
   -- who is aboard gets off
-  pub line_alight : {On : ℕ → Type 0} (never x stop best : ℕ) {old mid new : List ℕ} → NoneOvertakes rows → ((r : ℕ) (e : Event) → IsAt rows r x e → e.stop.0 ≡ stop) → ((r : ℕ) (e : Event) → IsAt rows r x e → IsTrue e.alight) → stop < length mid → ((r : ℕ) → On r → (e : Event) × IsAt rows r x e × (best ≤ e.arrive)) → (best ≡ never) ⊎ ((r : ℕ) × On r × ((e : Event) → IsAt rows r x e → best ≡ e.arrive)) → ((p : ℕ) → slice_index mid p ≤ never) → LineAt before ready rows from x x old mid On → Lowers (λ p t. (p ≡ stop) × (t ≡ best)) mid new → LineAt before ready rows from x (x + 1) old new On
+  pub line_alight : {On : ℕ → Type 0} (never x stop best : ℕ) {old mid new : List ℕ} → NoneOvertakes rows →
+      ((r : ℕ) (e : Event) → IsAt rows r x e → e.stop.0 ≡ stop) →
+      ((r : ℕ) (e : Event) → IsAt rows r x e → IsTrue e.alight) → stop < length mid →
+      ((r : ℕ) → On r → (e : Event) × IsAt rows r x e × (best ≤ e.arrive)) →
+      (best ≡ never) ⊎ ((r : ℕ) × On r × ((e : Event) → IsAt rows r x e → best ≡ e.arrive)) →
+      ((p : ℕ) → slice_index mid p ≤ never) → LineAt before ready rows from x x old mid On →
+      Lowers (λ p t. (p ≡ stop) × (t ≡ best)) mid new → LineAt before ready rows from x (x + 1) old new On
   line_alight {On} never x stop best {old} {mid} {new} order stops alights within there some fits s k =
       let fall : (p : ℕ) → slice_index new p ≤ slice_index mid p = lane_falls mid new k in
       record {
         falls = elim some [
           | inl out ↦
-              let none : NothingLower (λ p t. (p ≡ stop) × (t ≡ best)) mid = λ p t l o. let f = fits p in omega (arith, o.1, out) in
+              let none : NothingLower (λ p t. (p ≡ stop) × (t ≡ best)) mid = λ p t l o. let f = fits p in
+              omega (arith, o.1, out) in
               rw (nothing_changes mid new none k) s.falls
           | inr who ↦ falls_then s.falls k (λ p t o.
               let b = s.aboard who.0 who.1 in
@@ -95,7 +108,8 @@ module _ (before ready : List ℕ) (rows : List (List Event)) (from : ℕ) where
         aboard = s.aboard;
         past = λ r j low below c. record {
           label = λ i e after under at may. elim (cases_lt i x) [
-            | inl lt ↦ let l = (s.past r j low below c).label i e after lt at may in let f = fall e.stop.0 in omega arith
+            | inl lt ↦ let l = (s.past r j low below c).label i e after lt at may in let f = fall e.stop.0 in
+                omega arith
             | inr ge ↦
                 let same : i ≡ x = omega arith in
                 let here : IsAt rows r x e = rw same at at in
@@ -110,7 +124,9 @@ module _ (before ready : List ℕ) (rows : List (List Event)) (from : ℕ) where
       }
 
   -- nobody gets off
-  pub line_pass : {On : ℕ → Type 0} (x : ℕ) {old mid : List ℕ} → ((q r : ℕ) (e : Event) → On q → IsAt rows r x e → IsTrue e.alight → ⊥) → LineAt before ready rows from x x old mid On → LineAt before ready rows from x (x + 1) old mid On
+  pub line_pass : {On : ℕ → Type 0} (x : ℕ) {old mid : List ℕ} →
+      ((q r : ℕ) (e : Event) → On q → IsAt rows r x e → IsTrue e.alight → ⊥) →
+      LineAt before ready rows from x x old mid On → LineAt before ready rows from x (x + 1) old mid On
   line_pass {On} x nobody s =
       record {
         falls = s.falls;
@@ -129,12 +145,22 @@ module _ (before ready : List ℕ) (rows : List (List Event)) (from : ℕ) where
       }
 
   -- who newly catches a trip gets on
-  pub line_board : {On New : ℕ → Type 0} (x : ℕ) {old now : List ℕ} → ((r : ℕ) → New r → On r ⊎ BoardsRow ready rows r (x + 1)) → ((r : ℕ) → On r → (q : ℕ) × (q ≤ r) × New q) → ((r : ℕ) → IsCaught before ready rows r x → (q : ℕ) × (q ≤ r) × New q) → LineAt before ready rows from x (x + 1) old now On → LineAt before ready rows from (x + 1) (x + 1) old now New
+  pub line_board : {On New : ℕ → Type 0} (x : ℕ) {old now : List ℕ} →
+      ((r : ℕ) → New r → On r ⊎ BoardsRow ready rows r (x + 1)) → ((r : ℕ) → On r → (q : ℕ) × (q ≤ r) × New q) →
+      ((r : ℕ) → IsCaught before ready rows r x → (q : ℕ) × (q ≤ r) × New q) →
+      LineAt before ready rows from x (x + 1) old now On → LineAt before ready rows from (x + 1) (x + 1) old now New
   line_board {On} {New} x sound kept caught s =
       record {
         falls = s.falls;
         aboard = λ r on. elim (sound r on) [
-          | inl o ↦ let b = s.aboard r o in record { j = b.j; on = b.on; below = omega (arith, b.below); from = b.from; may_board = b.may_board; in_time = b.in_time }
+          | inl o ↦ let b = s.aboard r o in record {
+            j = b.j;
+            on = b.on;
+            below = omega (arith, b.below);
+            from = b.from;
+            may_board = b.may_board;
+            in_time = b.in_time;
+          }
           | inr b ↦ b
         ];
         past = λ r j low below c. elim (cases_lt j x) [
@@ -151,40 +177,74 @@ module _ (before ready : List ℕ) (rows : List (List Event)) (from : ℕ) where
       }
 
   -- nobody gets on
-  pub line_stay : {On : ℕ → Type 0} (x : ℕ) {old now : List ℕ} → ((r : ℕ) → IsCaught before ready rows r x → ⊥) → LineAt before ready rows from x (x + 1) old now On → LineAt before ready rows from (x + 1) (x + 1) old now On
+  pub line_stay : {On : ℕ → Type 0} (x : ℕ) {old now : List ℕ} → ((r : ℕ) → IsCaught before ready rows r x → ⊥) →
+      LineAt before ready rows from x (x + 1) old now On → LineAt before ready rows from (x + 1) (x + 1) old now On
   line_stay x none s = line_board x (λ r on. inl on) (λ r on. (r, omega arith, on)) (λ r c. absurd (none r c)) s
 
   -- all places
-  pub line_past : {On : ℕ → Type 0} (x places : ℕ) {old now : List ℕ} → ((r : ℕ) (row : List Event) → slice_get rows r ≡ Some row → length row ≡ places) → places ≤ x → LineAt before ready rows from x x old now On → (r j : ℕ) → from ≤ j → IsCaught before ready rows r j → IsPast rows now r j
+  pub line_past : {On : ℕ → Type 0} (x places : ℕ) {old now : List ℕ} →
+      ((r : ℕ) (row : List Event) → slice_get rows r ≡ Some row → length row ≡ places) → places ≤ x →
+      LineAt before ready rows from x x old now On → (r j : ℕ) → from ≤ j → IsCaught before ready rows r j →
+      IsPast rows now r j
   line_past x places long all s r j low c =
-      let inside : (i : ℕ) (e : Event) → IsAt rows r i e → i < x = λ i e at. let l = long r at.row at.trip in let w = slice_get_within at.row i e at.event in omega arith in
+      let inside : (i : ℕ) (e : Event) → IsAt rows r i e → i < x = λ i e at. let l = long r at.row at.trip in
+      let w = slice_get_within at.row i e at.event in omega arith in
       let p = s.past r j low (inside j c.on c.from) c in
       record { label = λ i e after at may. p.label i e after (inside i e at) at may }
 
   -- labels that were settled for who was ready before are settled for who is ready now
-  pub line_lowers : {old new : List ℕ} → NothingLower (CarriesRow before rows) old → NoneCaughtBefore before ready rows from → FallsTo (CarriesRow ready rows) old new → ((r j : ℕ) → from ≤ j → IsCaught before ready rows r j → IsPast rows new r j) → Lowers (CarriesRow ready rows) old new
+  pub line_lowers : {old new : List ℕ} → NothingLower (CarriesRow before rows) old →
+      NoneCaughtBefore before ready rows from → FallsTo (CarriesRow ready rows) old new →
+      ((r j : ℕ) → from ≤ j → IsCaught before ready rows r j → IsPast rows new r j) →
+      Lowers (CarriesRow ready rows) old new
   line_lowers {old} {new} settled none falls past =
       lowers_of falls (λ p t l c. elim (cases_lt c.on.depart (slice_index before c.on.stop.0)) [
         | inl fresh ↦
-            let caught : IsCaught before ready rows c.r c.j = record { on = c.on; from = c.from; may_board = c.may_board; in_time = c.in_time; fresh = fresh } in
+            let caught : IsCaught before ready rows c.r c.j =
+            record { on = c.on; from = c.from; may_board = c.may_board; in_time = c.in_time; fresh = fresh } in
             let low = (past c.r c.j (none c.r c.j caught) caught).label c.i c.off c.later c.to c.may_alight in
             let low' = rw c.stop at low in
             omega (arith, c.time)
         | inr soon ↦
-            let low = settled p t (omega (arith, falls.same_length)) (record { r = c.r; j = c.j; i = c.i; on = c.on; off = c.off; from = c.from; to = c.to; later = c.later; may_board = c.may_board; may_alight = c.may_alight; in_time = soon; stop = c.stop; time = c.time }) in
+            let low = settled p t (omega (arith, falls.same_length)) (record {
+              r = c.r;
+              j = c.j;
+              i = c.i;
+              on = c.on;
+              off = c.off;
+              from = c.from;
+              to = c.to;
+              later = c.later;
+              may_board = c.may_board;
+              may_alight = c.may_alight;
+              in_time = soon;
+              stop = c.stop;
+              time = c.time;
+            }) in
             let f = falls.falls p in
             omega arith
       ])
 
 -- a ride on one of the trips is a ride on that trip
-pub row_carries : (ready : List ℕ) (rows : List (List Event)) (p end : ℕ) (c : CarriesRow ready rows p end) (t : Trip) → slice_get rows c.r ≡ Some t.events → Carries ready t p end
+pub row_carries : (ready : List ℕ) (rows : List (List Event)) (p end : ℕ) (c : CarriesRow ready rows p end) (t : Trip) →
+    slice_get rows c.r ≡ Some t.events → Carries ready t p end
 row_carries ready rows p end c t at =
     let from : slice_get t.events c.j ≡ Some c.on = rw (same_Some _ _ (sym c.from.trip ∙ at)) at c.from.event in
     let to : slice_get t.events c.i ≡ Some c.off = rw (same_Some _ _ (sym c.to.trip ∙ at)) at c.to.event in
-    record { j = c.j; i = c.i; on = c.on; off = c.off; ride = record { from = from; to = to; later = c.later; may_board = c.may_board; may_alight = c.may_alight }; in_time = c.in_time; stop = c.stop; time = c.time }
+    record {
+      j = c.j;
+      i = c.i;
+      on = c.on;
+      off = c.off;
+      ride = record { from = from; to = to; later = c.later; may_board = c.may_board; may_alight = c.may_alight };
+      in_time = c.in_time;
+      stop = c.stop;
+      time = c.time;
+    }
 
 -- and the other way round
-pub carries_row : (ready : List ℕ) (rows : List (List Event)) (r p end : ℕ) (t : Trip) → slice_get rows r ≡ Some t.events → Carries ready t p end → CarriesRow ready rows p end
+pub carries_row : (ready : List ℕ) (rows : List (List Event)) (r p end : ℕ) (t : Trip) →
+    slice_get rows r ≡ Some t.events → Carries ready t p end → CarriesRow ready rows p end
 carries_row ready rows r p end t at c =
     record {
       r = r;

@@ -1,5 +1,6 @@
 -- Stops from which nobody walks to a lower label.
-use Rattle.std.proofs.Common.{◌≡◌, ℕ, ◌+◌, ◌<◌, ◌≤◌, inl, inr, List, length, slice_index, slice_get, Some, Bool, true, refl, sym, ◌∙◌, ap, arith}
+use Rattle.std.proofs.Common.{◌≡◌, ℕ, ◌+◌, ◌<◌, ◌≤◌, inl, inr, List, length, slice_index, slice_get, Some, Bool, true}
+use Rattle.std.proofs.Common.{refl, sym, ◌∙◌, ap, arith}
 use Rattle.std.proofs.lemmas.Bool.{cases_lt}
 use Rattle.timetable.specs.Footpaths.{FootLists, FeetData}
 use Rattle.timetable.specs.Steps.{Lowers, WalkedOrStayed}
@@ -11,7 +12,9 @@ use Rattle.trip_lanes.specs.Lane.{lane, MarksFallenOf}
 use Rattle.trip_lanes.proofs.Again.{nothing_lowers}
 
 -- one more stop, which has nothing lower to offer
-pub offer_skip : (feet : FootLists) (ride : List ℕ) (x : ℕ) (old mid : List ℕ) → Lowers (OfferedBelow feet ride x) old mid → NothingLower (OfferedFrom feet ride x) old → Lowers (OfferedBelow feet ride (x + 1)) old mid
+pub offer_skip : (feet : FootLists) (ride : List ℕ) (x : ℕ) (old mid : List ℕ) →
+    Lowers (OfferedBelow feet ride x) old mid → NothingLower (OfferedFrom feet ride x) old →
+    Lowers (OfferedBelow feet ride (x + 1)) old mid
 offer_skip feet ride x old mid h none =
     let still : NothingLower (OfferedFrom feet ride x) mid = λ p y l o.
     let m : p < length old = omega (arith, h.same_length) in
@@ -20,7 +23,10 @@ offer_skip feet ride x old mid h none =
     omega arith in
     lowers_alike
     (λ p y. λ o. elim o [
-      | inl before ↦ elim before [ inl stay ↦ inl (omega (arith, stay.0), stay.1) | inr w ↦ inr (w.0, omega (arith, w.1)) ]
+      | inl before ↦ elim before [
+        | inl stay ↦ inl (omega (arith, stay.0), stay.1)
+        | inr w ↦ inr (w.0, omega (arith, w.1))
+      ]
       | inr here ↦ elim here [ inl stay ↦ inl (omega (arith, stay.0), stay.1) | inr w ↦ inr (w.0, omega (arith, w.1)) ]
     ])
     (λ p y. λ o. elim o [
@@ -36,17 +42,27 @@ offer_skip feet ride x old mid h none =
     (lowers_both h (nothing_lowers mid still))
 
 -- what a stop offers is offered by the same label elsewhere
-pub offer_as : (feet : FootLists) (ridden ride : List ℕ) (x p y : ℕ) → slice_index ridden x ≡ slice_index ride x → OfferedFrom feet ridden x p y → WalkedOrStayed feet ride p y
+pub offer_as : (feet : FootLists) (ridden ride : List ℕ) (x p y : ℕ) → slice_index ridden x ≡ slice_index ride x →
+    OfferedFrom feet ridden x p y → WalkedOrStayed feet ride p y
 offer_as feet ridden ride x p y same o =
     elim o [
       | inl stay ↦ inl (stay.1 ∙ (ap (slice_index ridden) stay.0 ∙ (same ∙ sym (ap (slice_index ride) stay.0))))
       | inr w ↦
-          let e : slice_index ridden w.0.from ≡ slice_index ride w.0.from = ap (slice_index ridden) w.1 ∙ (same ∙ sym (ap (slice_index ride) w.1)) in
-          inr (record { from = w.0.from; seconds = w.0.seconds; foot = w.0.foot; reached = λ z. w.0.reached (e ∙ z); time = ap (λ (t : ℕ). t + w.0.seconds) (sym e) ∙ w.0.time })
+          let e : slice_index ridden w.0.from ≡ slice_index ride w.0.from =
+          ap (slice_index ridden) w.1 ∙ (same ∙ sym (ap (slice_index ride) w.1)) in
+          inr (record {
+            from = w.0.from;
+            seconds = w.0.seconds;
+            foot = w.0.foot;
+            reached = λ z. w.0.reached (e ∙ z);
+            time = ap (λ (t : ℕ). t + w.0.seconds) (sym e) ∙ w.0.time;
+          })
     ]
 
 -- where a stop is not marked, no lane fell
-pub unmarked_still : {lanes : ℕ} (old new : List (List ℕ)) (was is : List Bool) (x l : ℕ) → MarksFallenOf lanes old new was is → x < length was → (slice_get is x ≡ Some true → ⊥) → l < lanes → slice_index (lane l new) x ≤ slice_index (lane l old) x → slice_index (lane l new) x ≡ slice_index (lane l old) x
+pub unmarked_still : {lanes : ℕ} (old new : List (List ℕ)) (was is : List Bool) (x l : ℕ) →
+    MarksFallenOf lanes old new was is → x < length was → (slice_get is x ≡ Some true → ⊥) → l < lanes →
+    slice_index (lane l new) x ≤ slice_index (lane l old) x → slice_index (lane l new) x ≡ slice_index (lane l old) x
 unmarked_still old new was is x l marks within none h falls =
     elim (cases_lt (slice_index (lane l new) x) (slice_index (lane l old) x)) [
       | inl lt ↦ absurd (none ((marks.marks x within).1 (inr (l, h, lt))))
@@ -54,7 +70,9 @@ unmarked_still old new was is x l marks within none h falls =
     ]
 
 -- one more stop, where no change and no walk from it is over earlier
-pub transfer_skip : (feet : FeetData) (ride : List ℕ) (x : ℕ) (old mid : List ℕ) → Lowers (TransferredBelow feet ride x) old mid → NothingLower (TransferredFrom feet ride x) old → Lowers (TransferredBelow feet ride (x + 1)) old mid
+pub transfer_skip : (feet : FeetData) (ride : List ℕ) (x : ℕ) (old mid : List ℕ) →
+    Lowers (TransferredBelow feet ride x) old mid → NothingLower (TransferredFrom feet ride x) old →
+    Lowers (TransferredBelow feet ride (x + 1)) old mid
 transfer_skip feet ride x old mid h none =
     let still : NothingLower (TransferredFrom feet ride x) mid = λ p y l o.
     let m : p < length old = omega (arith, h.same_length) in
@@ -63,8 +81,14 @@ transfer_skip feet ride x old mid h none =
     omega arith in
     lowers_alike
     (λ p y. λ o. elim o [
-      | inl before ↦ elim before [ inl change ↦ inl (omega (arith, change.0), change.1) | inr w ↦ inr (w.0, omega (arith, w.1)) ]
-      | inr here ↦ elim here [ inl change ↦ inl (omega (arith, change.0), change.1) | inr w ↦ inr (w.0, omega (arith, w.1)) ]
+      | inl before ↦ elim before [
+        | inl change ↦ inl (omega (arith, change.0), change.1)
+        | inr w ↦ inr (w.0, omega (arith, w.1))
+      ]
+      | inr here ↦ elim here [
+        | inl change ↦ inl (omega (arith, change.0), change.1)
+        | inr w ↦ inr (w.0, omega (arith, w.1))
+      ]
     ])
     (λ p y. λ o. elim o [
       | inl change ↦ elim (cases_lt p x) [

@@ -1,5 +1,6 @@
 -- Parts of a list that a vector is loaded from.
-use Rattle.std.proofs.Common.{◌≡◌, ◌+◌, ◌*◌, ◌-◌, ◌<◌, ◌≤◌, ◌⊎◌, inl, inr, ℕ, List, length, get_or, take, drop, min, max, arith, subst, sym, ◌∙◌}
+use Rattle.std.proofs.Common.{◌≡◌, ◌+◌, ◌*◌, ◌-◌, ◌<◌, ◌≤◌, ◌⊎◌, inl, inr, ℕ, List, length, get_or, take, drop, min}
+use Rattle.std.proofs.Common.{max, arith, subst, sym, ◌∙◌}
 use Rattle.std.proofs.lemmas.Bool.{cases_lt}
 use Rattle.std.proofs.lemmas.List.{get_or-take, get_or-drop, length-take, length-drop}
 use Rattle.std.proofs.lemmas.Simd.{get_or-chunk, length-chunk}
@@ -7,17 +8,25 @@ use lib.Lanes.{chunk}
 
 -- a lane of n that are loaded from a slice
 pub lane_of : (n : ℕ) (row : List ℕ) (from l : ℕ) → from + n ≤ length row → l < n
-    → (get_or (chunk 0 n (take (from + n - from) (drop from row))) l 0 ≡ get_or row (from + l) 0) × (l < length (chunk 0 n (take (from + n - from) (drop from row))))
+    → (get_or (chunk 0 n (take (from + n - from) (drop from row))) l 0 ≡ get_or row (from + l) 0)
+    × (l < length (chunk 0 n (take (from + n - from) (drop from row))))
 lane_of n row from l inside lt =
     let slice = take (from + n - from) (drop from row) in
-    let slice_len : 0 + n ≤ length slice = omega (arith, length-take (from + n - from) (drop from row), length-drop from row, inside) in
+    let slice_len : 0 + n ≤ length slice = omega (
+      arith,
+      length-take (from + n - from) (drop from row),
+      length-drop from row,
+      inside,
+    ) in
     let lane : 0 + l ≡ l = omega arith in (
-      get_or-chunk 0 n slice l 0 lt ∙ rw lane (get_or-take (from + n - from) (drop from row) l 0 (omega (arith, lt)) ∙ get_or-drop from row l 0),
+      get_or-chunk 0 n slice l 0 lt ∙ rw lane (get_or-take (from + n - from) (drop from row) l 0 (omega (arith, lt))
+          ∙ get_or-drop from row l 0),
       omega (arith, length-chunk 0 n slice slice_len, lt),
     )
 
 -- what holds of each lane of four parts of eight holds of each of thirty-two
-pub of_eights : (P : ℕ → Type 0) → ((k : ℕ) → k < 8 → P (8 * 0 + k)) → ((k : ℕ) → k < 8 → P (8 * 1 + k)) → ((k : ℕ) → k < 8 → P (8 * 2 + k)) → ((k : ℕ) → k < 8 → P (8 * 3 + k))
+pub of_eights : (P : ℕ → Type 0) → ((k : ℕ) → k < 8 → P (8 * 0 + k)) → ((k : ℕ) → k < 8 → P (8 * 1 + k)) →
+    ((k : ℕ) → k < 8 → P (8 * 2 + k)) → ((k : ℕ) → k < 8 → P (8 * 3 + k))
     → (l : ℕ) → l < 32 → P l
 of_eights P a b c d l lt =
     elim (cases_lt l 8) [
@@ -33,7 +42,8 @@ of_eights P a b c d l lt =
 
 -- a number that is in one of four parts of eight is in the list
 pub in_eights : (labels : List ℕ) (k x : ℕ) → k < 8
-    → (x ≡ get_or labels (8 * 0 + k) 0) ⊎ ((x ≡ get_or labels (8 * 1 + k) 0) ⊎ ((x ≡ get_or labels (8 * 2 + k) 0) ⊎ (x ≡ get_or labels (8 * 3 + k) 0)))
+    → (x ≡ get_or labels (8 * 0 + k) 0) ⊎ ((x ≡ get_or labels (8 * 1 + k) 0)
+    ⊎ ((x ≡ get_or labels (8 * 2 + k) 0) ⊎ (x ≡ get_or labels (8 * 3 + k) 0)))
     → (l : ℕ) × (l < 32) × (get_or labels l 0 ≡ x)
 in_eights labels k x lt which =
     elim which [

@@ -1,6 +1,8 @@
 -- One lane of a choice between two vectors, of n lanes of some width.
-use Rattle.std.proofs.Common.{◌≡◌, ℕ, zero, suc, [], ◌∷◌, ◌+◌, ◌-◌, ◌^◌, ◌<◌, ◌≤◌, Bool, true, false, cond, eqb, ltb, min, max, List, length, get_or, map, replicate, refl, sym, ◌∙◌, ap, arith}
-use Rattle.std.proofs.lemmas.Simd.{tops_compared, get_or-sel_l, get_or-zip2, length-zip2, mask_l-mod, length-sel_l, get_or-replicate, length-replicate}
+use Rattle.std.proofs.Common.{◌≡◌, ℕ, zero, suc, [], ◌∷◌, ◌+◌, ◌-◌, ◌^◌, ◌<◌, ◌≤◌, Bool, true, false, cond, eqb, ltb}
+use Rattle.std.proofs.Common.{min, max, List, length, get_or, map, replicate, refl, sym, ◌∙◌, ap, arith}
+use Rattle.std.proofs.lemmas.Simd.{tops_compared, get_or-sel_l, get_or-zip2, length-zip2, mask_l-mod, length-sel_l}
+use Rattle.std.proofs.lemmas.Simd.{get_or-replicate, length-replicate}
 use Rattle.std.proofs.lemmas.Bool.Decides.{nat_tests}
 use Rattle.std.proofs.lemmas.Bool.{false≢true, lt-ltb, eq-eqb}
 use Rattle.std.specs.Prelude.{not, IsTrue, nat_eq, slice_index, ◌↔◌, ◌%◌}
@@ -57,7 +59,12 @@ pub all_set : (ms : List Bool) (i : ℕ) → i < length ms → mask_l ms ≡ 2 ^
 all_set [] i l e = absurd (omega arith)
 all_set (false ∷ ms) i l e = absurd (omega (arith, e, two-pow-succ (length ms), one-le-pow (length ms) 2 (omega arith)))
 all_set (true ∷ ms) zero l e = refl
-all_set (true ∷ ms) (suc i) l e = all_set ms i (omega arith) (omega (arith, e, two-pow-succ (length ms), one-le-pow (length ms) 2 (omega arith)))
+all_set (true ∷ ms) (suc i) l e = all_set ms i (omega arith) (omega (
+  arith,
+  e,
+  two-pow-succ (length ms),
+  one-le-pow (length ms) 2 (omega arith),
+))
 
 -- and where each is, all are
 set_all : (ms : List Bool) → ((i : ℕ) → i < length ms → get_or ms i false ≡ true) → mask_l ms ≡ 2 ^ length ms - 1
@@ -77,32 +84,43 @@ other_where_lower : (a b : ℕ) → a < b → not (eqb a b) ≡ true
 other_where_lower a b lt = grind (arith, nat_tests)
 
 module _ (w : Width) (n : ℕ) where
-  pub sel_at : (t : ℕ → ℕ → Bool) (xs ys us vs : List ℕ) (l : ℕ) → l < n → length xs ≡ n → length ys ≡ n → length us ≡ n → length vs ≡ n → get_or (chosen w t xs ys us vs) l 0 ≡ cond (t (get_or xs l 0) (get_or ys l 0)) (get_or us l 0) (get_or vs l 0)
+  pub sel_at : (t : ℕ → ℕ → Bool) (xs ys us vs : List ℕ) (l : ℕ) → l < n → length xs ≡ n → length ys ≡ n →
+      length us ≡ n → length vs ≡ n → get_or (chosen w t xs ys us vs) l 0
+      ≡ cond (t (get_or xs l 0) (get_or ys l 0)) (get_or us l 0) (get_or vs l 0)
   sel_at t xs ys us vs l h xl yl ul vl =
       let e : length (zip2 t xs ys) ≡ n = length-zip2 t xs ys (xl ∙ sym yl) ∙ xl in
-      rw (tops_compared w t xs ys) (get_or-sel_l (zip2 t xs ys) us vs l 0 (omega arith) (omega arith) (omega arith) ∙ ap (λ b. cond b (get_or us l 0) (get_or vs l 0)) (get_or-zip2 t xs ys l 0 0 false (omega arith) (omega arith)))
+      rw (tops_compared w t xs ys) (get_or-sel_l (zip2 t xs ys) us vs l 0 (omega arith) (omega arith) (omega arith)
+      ∙ ap (λ b. cond b (get_or us l 0) (get_or vs l 0))
+      (get_or-zip2 t xs ys l 0 0 false (omega arith) (omega arith)))
 
-  pub length-chosen : (t : ℕ → ℕ → Bool) (xs ys us vs : List ℕ) → length xs ≡ n → length ys ≡ n → length us ≡ n → length vs ≡ n → length (chosen w t xs ys us vs) ≡ n
+  pub length-chosen : (t : ℕ → ℕ → Bool) (xs ys us vs : List ℕ) → length xs ≡ n → length ys ≡ n → length us ≡ n →
+      length vs ≡ n → length (chosen w t xs ys us vs) ≡ n
   length-chosen t xs ys us vs xl yl ul vl =
       let e : length (zip2 t xs ys) ≡ n = length-zip2 t xs ys (xl ∙ sym yl) ∙ xl in
       rw (tops_compared w t xs ys) (length-sel_l (zip2 t xs ys) us vs (e ∙ sym ul) (e ∙ sym vl) ∙ e)
 
   -- the larger of a lane and a number
-  pub larger_at : (xs : List ℕ) (y : ℕ) (l : ℕ) → l < n → length xs ≡ n → get_or (chosen w ltb xs (replicate n y) (replicate n y) xs) l 0 ≡ max (get_or xs l 0) y
+  pub larger_at : (xs : List ℕ) (y : ℕ) (l : ℕ) → l < n → length xs ≡ n →
+      get_or (chosen w ltb xs (replicate n y) (replicate n y) xs) l 0 ≡ max (get_or xs l 0) y
   larger_at xs y l h xl =
       let yl : length (replicate n y) ≡ n = length-replicate n y in
-      sel_at ltb xs (replicate n y) (replicate n y) xs l h xl yl yl xl ∙ rw (get_or-replicate n l y 0 h) (max_if (get_or xs l 0) y)
+      sel_at ltb xs (replicate n y) (replicate n y) xs l h xl yl yl xl
+      ∙ rw (get_or-replicate n l y 0 h) (max_if (get_or xs l 0) y)
 
   -- the smaller of two lanes
-  pub smaller_at : (xs ys : List ℕ) (l : ℕ) → l < n → length xs ≡ n → length ys ≡ n → get_or (chosen w ltb xs ys xs ys) l 0 ≡ min (get_or xs l 0) (get_or ys l 0)
+  pub smaller_at : (xs ys : List ℕ) (l : ℕ) → l < n → length xs ≡ n → length ys ≡ n →
+      get_or (chosen w ltb xs ys xs ys) l 0 ≡ min (get_or xs l 0) (get_or ys l 0)
   smaller_at xs ys l h xl yl = sel_at ltb xs ys xs ys l h xl yl xl yl ∙ min_if (get_or xs l 0) (get_or ys l 0)
 
-  pub higher_at : (xs ys : List ℕ) (l : ℕ) → l < n → length xs ≡ n → length ys ≡ n → get_or (chosen w ltb xs ys ys xs) l 0 ≡ max (get_or xs l 0) (get_or ys l 0)
+  pub higher_at : (xs ys : List ℕ) (l : ℕ) → l < n → length xs ≡ n → length ys ≡ n →
+      get_or (chosen w ltb xs ys ys xs) l 0 ≡ max (get_or xs l 0) (get_or ys l 0)
   higher_at xs ys l h xl yl = sel_at ltb xs ys ys xs l h xl yl yl xl ∙ max_if (get_or xs l 0) (get_or ys l 0)
 
   -- the smaller of a lane, and of the larger of its bar and a number
   pub alights_at : (old bar : List ℕ) (arrive l : ℕ) → l < n → length old ≡ n → length bar ≡ n
-      → get_or (chosen w ltb old (chosen w ltb bar (replicate n arrive) (replicate n arrive) bar) old (chosen w ltb bar (replicate n arrive) (replicate n arrive) bar)) l 0 ≡ min (get_or old l 0) (max (get_or bar l 0) arrive)
+      → get_or (chosen w ltb old (chosen w ltb bar (replicate n arrive) (replicate n arrive) bar) old
+      (chosen w ltb bar (replicate n arrive) (replicate n arrive) bar)) l 0
+      ≡ min (get_or old l 0) (max (get_or bar l 0) arrive)
   alights_at old bar arrive l h old_len bar_len =
       let arrives = replicate n arrive in
       let arrives_len : length arrives ≡ n = length-replicate n arrive in
@@ -112,16 +130,27 @@ module _ (w : Width) (n : ℕ) where
 
   -- a lane that is later by some seconds, where sums stop at the greatest number
   pub later_at : (times : List ℕ) (seconds most l : ℕ) → l < n → length times ≡ n → seconds ≤ most
-      → get_or (zip2 (λ a b. (a + b) % suc most) (chosen w ltb times (replicate n (most - seconds)) times (replicate n (most - seconds))) (replicate n seconds)) l 0 ≡ min (get_or times l 0 + seconds) most
+      → get_or (zip2 (λ a b. (a + b) % suc most)
+      (chosen w ltb times (replicate n (most - seconds)) times (replicate n (most - seconds)))
+      (replicate n seconds)) l 0 ≡ min (get_or times l 0 + seconds) most
   later_at times seconds most l h times_len fits =
       let ends = replicate n (most - seconds) in
       let ends_len : length ends ≡ n = length-replicate n (most - seconds) in
       let early_len = length-chosen ltb times ends times ends times_len ends_len times_len ends_len in
       let more_len : length (replicate n seconds) ≡ n = length-replicate n seconds in
-      get_or-zip2 _ (chosen w ltb times ends times ends) (replicate n seconds) l 0 0 0 (omega (arith, early_len)) (omega (arith, more_len))
-      ∙ rw (smaller_at times ends l h times_len ends_len, get_or-replicate {A = ℕ} n l (most - seconds) 0 h, get_or-replicate {A = ℕ} n l seconds 0 h) (capped (get_or times l 0) seconds most fits)
+      get_or-zip2 _ (chosen w ltb times ends times ends) (replicate n seconds) l 0 0 0 (omega (
+        arith,
+        early_len,
+      )) (omega (arith, more_len))
+      ∙ rw (
+        smaller_at times ends l h times_len ends_len,
+        get_or-replicate {A = ℕ} n l (most - seconds) 0 h,
+        get_or-replicate {A = ℕ} n l seconds 0 h,
+      ) (capped (get_or times l 0) seconds most fits)
 
-  pub any_lower : n ≤ 64 → (xs ys : List ℕ) → length xs ≡ n → length ys ≡ n → IsTrue (not (nat_eq (mask_l (tops_of w ltb xs ys) % 2 ^ 64) 0)) ↔ ((l : ℕ) × (l < n) × (slice_index xs l < slice_index ys l))
+  pub any_lower : n ≤ 64 → (xs ys : List ℕ) → length xs ≡ n → length ys ≡ n →
+      IsTrue (not (nat_eq (mask_l (tops_of w ltb xs ys) % 2 ^ 64) 0))
+      ↔ ((l : ℕ) × (l < n) × (slice_index xs l < slice_index ys l))
   any_lower few xs ys xl yl =
       let e : length (zip2 ltb xs ys) ≡ n = length-zip2 ltb xs ys (xl ∙ sym yl) ∙ xl in
       let whole = mask_l-mod (zip2 ltb xs ys) 64 (omega arith) in
@@ -133,12 +162,16 @@ module _ (w : Width) (n : ℕ) where
             (found.0, lt, ltb-true (get_or xs found.0 0) (get_or ys found.0 0) (sym at ∙ found.2)),
         λ s.
             let at = get_or-zip2 ltb xs ys s.0 0 0 false (omega (arith, s.1)) (omega (arith, s.1)) in
-            let pos : 0 < mask_l (zip2 ltb xs ys) = set_some (zip2 ltb xs ys) s.0 (omega (arith, s.1)) (at ∙ lt-ltb (get_or xs s.0 0) (get_or ys s.0 0) s.2) in
+            let pos : 0 < mask_l (zip2 ltb xs ys) = set_some (zip2 ltb xs ys) s.0 (omega (arith, s.1)) (at
+            ∙ lt-ltb (get_or xs s.0 0) (get_or ys s.0 0) s.2) in
             grind (arith, nat_tests),
       )
 
   -- two vectors differ, of which the first is nowhere higher
-  pub any_other : n ≤ 64 → (xs ys : List ℕ) → length xs ≡ n → length ys ≡ n → ((l : ℕ) → l < n → slice_index xs l ≤ slice_index ys l) → IsTrue (not (nat_eq (mask_l (tops_of w (λ a b. not (eqb a b)) xs ys) % 2 ^ 64) 0)) ↔ ((l : ℕ) × (l < n) × (slice_index xs l < slice_index ys l))
+  pub any_other : n ≤ 64 → (xs ys : List ℕ) → length xs ≡ n → length ys ≡ n →
+      ((l : ℕ) → l < n → slice_index xs l ≤ slice_index ys l) →
+      IsTrue (not (nat_eq (mask_l (tops_of w (λ a b. not (eqb a b)) xs ys) % 2 ^ 64) 0))
+      ↔ ((l : ℕ) × (l < n) × (slice_index xs l < slice_index ys l))
   any_other few xs ys xl yl no_higher =
       let t : ℕ → ℕ → Bool = λ a b. not (eqb a b) in
       let e : length (zip2 t xs ys) ≡ n = length-zip2 t xs ys (xl ∙ sym yl) ∙ xl in
@@ -147,28 +180,40 @@ module _ (w : Width) (n : ℕ) where
         λ set.
             let found = some_set (zip2 t xs ys) (λ z. false≢true (rw z at set)) in
             let lt : found.0 < n = omega (arith, found.1) in
-            let at = get_or-zip2 t xs ys found.0 0 0 false (omega arith) (omega arith) in
-            (found.0, lt, lower_where_other (get_or xs found.0 0) (get_or ys found.0 0) (no_higher found.0 lt) (sym at ∙ found.2)),
+            let at = get_or-zip2 t xs ys found.0 0 0 false (omega arith) (omega arith) in (
+              found.0,
+              lt,
+              lower_where_other (get_or xs found.0 0) (get_or ys found.0 0) (no_higher found.0 lt) (sym at
+                  ∙ found.2),
+            ),
         λ s.
             let at = get_or-zip2 t xs ys s.0 0 0 false (omega (arith, s.1)) (omega (arith, s.1)) in
-            let pos : 0 < mask_l (zip2 t xs ys) = set_some (zip2 t xs ys) s.0 (omega (arith, s.1)) (at ∙ other_where_lower (get_or xs s.0 0) (get_or ys s.0 0) s.2) in
+            let pos : 0 < mask_l (zip2 t xs ys) = set_some (zip2 t xs ys) s.0 (omega (arith, s.1)) (at
+            ∙ other_where_lower (get_or xs s.0 0) (get_or ys s.0 0) s.2) in
             grind (arith, nat_tests),
       )
 
   -- where a comparison holds in all lanes, it does in each
-  pub each_holds : n ≤ 64 → (t : ℕ → ℕ → Bool) (xs ys : List ℕ) (l : ℕ) → l < n → length xs ≡ n → length ys ≡ n → IsTrue (nat_eq (mask_l (tops_of w t xs ys) % 2 ^ 64) (2 ^ n - 1)) → t (get_or xs l 0) (get_or ys l 0) ≡ true
+  pub each_holds : n ≤ 64 → (t : ℕ → ℕ → Bool) (xs ys : List ℕ) (l : ℕ) → l < n → length xs ≡ n → length ys ≡ n →
+      IsTrue (nat_eq (mask_l (tops_of w t xs ys) % 2 ^ 64) (2 ^ n - 1)) → t (get_or xs l 0) (get_or ys l 0) ≡ true
   each_holds few t xs ys l h xl yl whole =
       let ms = zip2 t xs ys in
       let e : length ms ≡ n = length-zip2 t xs ys (xl ∙ sym yl) ∙ xl in
-      let word : mask_l (tops_of w t xs ys) % 2 ^ 64 ≡ mask_l ms = rw (tops_compared w t xs ys) (mask_l-mod ms 64 (omega arith)) in
+      let word : mask_l (tops_of w t xs ys) % 2 ^ 64 ≡ mask_l ms =
+      rw (tops_compared w t xs ys) (mask_l-mod ms 64 (omega arith)) in
       let full : mask_l ms ≡ 2 ^ length ms - 1 = rw e (same_number (mask_l ms) (2 ^ n - 1) (rw word at whole)) in
       sym (get_or-zip2 t xs ys l 0 0 false (omega arith) (omega arith)) ∙ all_set ms l (omega arith) full
 
   -- and where it does in each, in all
-  pub all_hold : n ≤ 64 → (t : ℕ → ℕ → Bool) (xs ys : List ℕ) → length xs ≡ n → length ys ≡ n → ((l : ℕ) → l < n → t (get_or xs l 0) (get_or ys l 0) ≡ true) → IsTrue (nat_eq (mask_l (tops_of w t xs ys) % 2 ^ 64) (2 ^ n - 1))
+  pub all_hold : n ≤ 64 → (t : ℕ → ℕ → Bool) (xs ys : List ℕ) → length xs ≡ n → length ys ≡ n →
+      ((l : ℕ) → l < n → t (get_or xs l 0) (get_or ys l 0) ≡ true) →
+      IsTrue (nat_eq (mask_l (tops_of w t xs ys) % 2 ^ 64) (2 ^ n - 1))
   all_hold few t xs ys xl yl each =
       let ms = zip2 t xs ys in
       let e : length ms ≡ n = length-zip2 t xs ys (xl ∙ sym yl) ∙ xl in
-      let word : mask_l (tops_of w t xs ys) % 2 ^ 64 ≡ mask_l ms = rw (tops_compared w t xs ys) (mask_l-mod ms 64 (omega arith)) in
-      let full : mask_l ms ≡ 2 ^ length ms - 1 = set_all ms (λ l h. get_or-zip2 t xs ys l 0 0 false (omega arith) (omega arith) ∙ each l (omega (arith, h, e))) in
+      let word : mask_l (tops_of w t xs ys) % 2 ^ 64 ≡ mask_l ms =
+      rw (tops_compared w t xs ys) (mask_l-mod ms 64 (omega arith)) in
+      let full : mask_l ms ≡ 2 ^ length ms - 1 =
+      set_all ms (λ l h. get_or-zip2 t xs ys l 0 0 false (omega arith) (omega arith)
+      ∙ each l (omega (arith, h, e))) in
       eq-eqb (mask_l (tops_of w t xs ys) % 2 ^ 64) (2 ^ n - 1) (word ∙ (full ∙ ap (λ (i : ℕ). 2 ^ i - 1) e))

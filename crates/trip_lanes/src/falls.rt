@@ -29,9 +29,11 @@ pub fn falls_of<R: Row>(before: &[R], ready: &[R], fallen: &[bool], falls: &mut 
     requires before { length before.now ≡ length ready.now }
     requires fallen { length fallen.now ≡ length ready.now }
     requires falls { length falls.old ≡ length ready.now }
-    requires same { (l p : ℕ) → l < R.LANES → (slice_get fallen.now p ≡ Some true → ⊥) → slice_index (lane l (labels_in R.labels before.now)) p ≡ slice_index (lane l (labels_in R.labels ready.now)) p }
+    requires same { (l p : ℕ) → l < R.LANES → (slice_get fallen.now p ≡ Some true → ⊥) →
+        slice_index (lane l (labels_in R.labels before.now)) p ≡ slice_index (lane l (labels_in R.labels ready.now)) p }
     ensures same { length falls.new ≡ length falls.old }
-    ensures falls { (l : ℕ) → l < R.LANES → AreFalls (lane l (labels_in R.labels before.now)) (lane l (labels_in R.labels ready.now)) falls.new }
+    ensures falls { (l : ℕ) → l < R.LANES → AreFalls (lane l (labels_in R.labels before.now))
+        (lane l (labels_in R.labels ready.now)) falls.new }
 {
     for stop in 0..ready.len() {
         if fallen[stop] {

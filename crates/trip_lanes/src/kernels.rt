@@ -1,4 +1,5 @@
-ghost use Rattle.std.specs.Prelude.{◌≡◌, ℕ, ◌<◌, ◌≤◌, length, min, max, cond, nat_le, slice_index, slice_get, Some, IsTrue, ◌↔◌, ◌⊎◌};
+ghost use Rattle.std.specs.Prelude.{◌≡◌, ℕ, ◌<◌, ◌≤◌, length, min, max, cond, nat_le, slice_index, slice_get, Some};
+ghost use Rattle.std.specs.Prelude.{IsTrue, ◌↔◌, ◌⊎◌};
 ghost use Rattle.trip_lanes.specs.Lane.{SomeFell, lane, labels_in, MarksFallen, MarksFallenOf};
 ghost use Rattle.timetable.specs.Steps.{Lowers, Carries};
 ghost use Rattle.timetable.specs.declared.trips.Event.{Event};
@@ -20,7 +21,8 @@ fn alight(old: Lanes, bar: Lanes, arrive: u32) -> Lanes
 
 /// Takes each lane aboard that is ready by the departure.
 fn board(ready: Lanes, bar: Lanes, depart: u32) -> Lanes
-    ensures { (l : ℕ) → l < LANES → slice_index result l ≡ cond (nat_le (slice_index ready l) depart) 0 (slice_index bar l) }
+    ensures { (l : ℕ) → l < LANES → slice_index result l
+        ≡ cond (nat_le (slice_index ready l) depart) 0 (slice_index bar l) }
 {
     let aboard = u32x16::from_array(ready).simd_le(u32x16::splat(depart));
     aboard
@@ -49,8 +51,11 @@ pub fn lower_of(old: Lanes, new: Lanes) -> Lanes
 pub fn lower_row<R: Row>(labels: &mut [R], marked: &mut [bool], stop: usize, times: R)
     requires stop { stop < length labels.old }
     requires same { length marked.old ≡ length labels.old }
-    ensures lanes { (l : ℕ) → l < R.LANES → Lowers (λ p x. (p ≡ stop) × (x ≡ slice_index (R.labels times) l)) (lane l (labels_in R.labels labels.old)) (lane l (labels_in R.labels labels.new)) }
-    ensures marks { MarksFallenOf R.LANES (labels_in R.labels labels.old) (labels_in R.labels labels.new) marked.old marked.new }
+    ensures lanes { (l : ℕ) → l < R.LANES → Lowers (λ p x. (p ≡ stop)
+        × (x ≡ slice_index (R.labels times) l)) (lane l (labels_in R.labels labels.old))
+        (lane l (labels_in R.labels labels.new)) }
+    ensures marks { MarksFallenOf R.LANES (labels_in R.labels labels.old) (labels_in R.labels labels.new) marked.old
+        marked.new }
 {
     let old = labels[stop];
     let new = old.lower_of(times);
@@ -72,7 +77,8 @@ pub(crate) fn lower_lanes(
     requires same { length marked.old ≡ length ride.old }
     requires fits { (l : ℕ) → l < LANES → slice_index (lane l ride.old) stop ≤ NEVER }
     requires bar { (l : ℕ) → l < LANES → (slice_index bar l ≡ 0) ⊎ (slice_index bar l ≡ NEVER) }
-    ensures lanes { (l : ℕ) → l < LANES → Lowers (λ p x. (slice_index bar l ≡ 0) × (p ≡ stop) × (x ≡ arrive)) (lane l ride.old) (lane l ride.new) }
+    ensures lanes { (l : ℕ) → l < LANES → Lowers (λ p x. (slice_index bar l ≡ 0) × (p ≡ stop)
+        × (x ≡ arrive)) (lane l ride.old) (lane l ride.new) }
     ensures marks { MarksFallen ride.old ride.new marked.old marked.new }
 {
     let old = ride[stop];
@@ -90,7 +96,8 @@ pub fn carry_trip(trip: &Trip, ready: &[Lanes], ride: &mut [Lanes], marked: &mut
     requires ready { length ready.now ≡ length ride.old }
     requires marked { length marked.old ≡ length ride.old }
     requires fits { (l p : ℕ) → l < LANES → slice_index (lane l ride.old) p ≤ NEVER }
-    ensures lanes { (l : ℕ) → l < LANES → Lowers (Carries (lane l ready.now) trip.now) (lane l ride.old) (lane l ride.new) }
+    ensures lanes { (l : ℕ) → l < LANES → Lowers (Carries (lane l ready.now) trip.now) (lane l ride.old)
+        (lane l ride.new) }
     ensures marks { MarksFallen ride.old ride.new marked.old marked.new }
 {
     let mut bar = [NEVER; LANES];

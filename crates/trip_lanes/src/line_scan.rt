@@ -53,13 +53,23 @@ pub fn scan_line<R: Row>(
     requires ready { length labels.ready.now ≡ length ride.old }
     requires falls { length labels.falls.now ≡ length ride.old }
     requires marked { length marked.old ≡ length ride.old }
-    requires fallen { (l : ℕ) → l < R.LANES → AreFalls (lane l (labels_in R.labels labels.before.now)) (lane l (labels_in R.labels labels.ready.now)) labels.falls.now }
+    requires fallen { (l : ℕ) → l < R.LANES →
+        AreFalls (lane l (labels_in R.labels labels.before.now)) (lane l (labels_in R.labels labels.ready.now))
+        labels.falls.now }
     requires fits { (l p : ℕ) → l < R.LANES → slice_index (lane l (labels_in R.labels ride.old)) p ≤ R.NEVER }
-    ensures marks { MarksFallenOf R.LANES (labels_in R.labels ride.old) (labels_in R.labels ride.new) marked.old marked.new }
-    ensures lanes { (rows : List (List Event)) → IsCutViewOf line.entry.base R.NEVER rows line.entry.calls.now line.entry.times.now → length rows ≡ line.entry.trips → NoneOvertakes rows →
-        (l : ℕ) → l < R.LANES → FallsTo (CarriesRow (lane l (labels_in R.labels labels.entry.ready.now)) rows) (lane l (labels_in R.labels ride.old)) (lane l (labels_in R.labels ride.new)) }
-    ensures caught { (rows : List (List Event)) → IsCutViewOf line.entry.base R.NEVER rows line.entry.calls.now line.entry.times.now → length rows ≡ line.entry.trips → NoneOvertakes rows →
-        (l r j : ℕ) → l < R.LANES → from ≤ j → IsCaught (lane l (labels_in R.labels labels.entry.before.now)) (lane l (labels_in R.labels labels.entry.ready.now)) rows r j → IsPast rows (lane l (labels_in R.labels ride.new)) r j }
+    ensures marks { MarksFallenOf R.LANES (labels_in R.labels ride.old) (labels_in R.labels ride.new) marked.old
+        marked.new }
+    ensures lanes { (rows : List (List Event)) →
+        IsCutViewOf line.entry.base R.NEVER rows line.entry.calls.now line.entry.times.now →
+        length rows ≡ line.entry.trips → NoneOvertakes rows →
+        (l : ℕ) → l < R.LANES → FallsTo (CarriesRow (lane l (labels_in R.labels labels.entry.ready.now)) rows)
+        (lane l (labels_in R.labels ride.old)) (lane l (labels_in R.labels ride.new)) }
+    ensures caught { (rows : List (List Event)) →
+        IsCutViewOf line.entry.base R.NEVER rows line.entry.calls.now line.entry.times.now →
+        length rows ≡ line.entry.trips → NoneOvertakes rows →
+        (l r j : ℕ) → l < R.LANES → from ≤ j → IsCaught (lane l (labels_in R.labels labels.entry.before.now))
+        (lane l (labels_in R.labels labels.entry.ready.now)) rows r j →
+        IsPast rows (lane l (labels_in R.labels ride.new)) r j }
 {
     let places = line.calls.len();
     let mut run = R::all(R::NEVER);
@@ -93,7 +103,8 @@ pub fn scan_line<R: Row>(
 fn first_from(column: Column<'_>, time: u32, near: usize) -> usize
     requires { IsColumn column }
     ensures within { result ≤ column.entry.trips }
-    ensures early { Ascend (departs column.entry) column.entry.trips → (r : ℕ) → r < result → departs column.entry r < time }
+    ensures early { Ascend (departs column.entry) column.entry.trips → (r : ℕ) → r < result →
+        departs column.entry r < time }
 {
     let start = if near < column.trips {
         near
@@ -126,7 +137,8 @@ fn back(column: Column<'_>, time: u32, start: usize) -> usize
     requires column { IsColumn column }
     requires start { start ≤ column.trips }
     ensures within { result ≤ start }
-    ensures early { Ascend (departs column.entry) column.entry.trips → (r : ℕ) → r < result → departs column.entry r < time }
+    ensures early { Ascend (departs column.entry) column.entry.trips → (r : ℕ) → r < result →
+        departs column.entry r < time }
 {
     let mut first = start;
     while first > 0 && departure(column, first - 1) >= time {
@@ -141,7 +153,8 @@ fn forth(column: Column<'_>, time: u32, start: usize) -> usize
     requires within { start ≤ column.trips }
     requires early { Ascend (departs column) column.trips → (r : ℕ) → r < start → departs column r < time }
     ensures within { result ≤ column.entry.trips }
-    ensures early { Ascend (departs column.entry) column.entry.trips → (r : ℕ) → r < result → departs column.entry r < time }
+    ensures early { Ascend (departs column.entry) column.entry.trips → (r : ℕ) → r < result →
+        departs column.entry r < time }
 {
     let mut first = start;
     while first < column.trips && departure(column, first) < time {
@@ -162,9 +175,13 @@ fn board_place<R: Row>(column: Column<'_>, first: usize, fall: Fall, ready: R, r
     requires fits { (l : ℕ) → l < R.LANES → slice_index (R.labels run) l ≤ R.NEVER }
     ensures fits { (l : ℕ) → l < R.LANES → slice_index (R.labels result) l ≤ R.NEVER }
     ensures ranks { (l r : ℕ) → l < R.LANES → Rides R.NEVER (R.labels result) l r → r < column.entry.trips }
-    ensures sound { (l r : ℕ) → l < R.LANES → Rides R.NEVER (R.labels result) l r → Rides R.NEVER (R.labels run) l r ⊎ (slice_index (R.labels ready) l ≤ departs column.entry r) }
+    ensures sound { (l r : ℕ) → l < R.LANES → Rides R.NEVER (R.labels result) l r →
+        Rides R.NEVER (R.labels run) l r ⊎ (slice_index (R.labels ready) l ≤ departs column.entry r) }
     ensures kept { (l r : ℕ) → l < R.LANES → Rides R.NEVER (R.labels run) l r → RidesBy R.NEVER (R.labels result) l r }
-    ensures caught { (l r before : ℕ) → l < R.LANES → Ascend (departs column.entry) column.entry.trips → HasFallen before (slice_index (R.labels ready) l) fall → r < column.entry.trips → Catches before (slice_index (R.labels ready) l) (departs column.entry r) → RidesBy R.NEVER (R.labels result) l r }
+    ensures caught { (l r before : ℕ) → l < R.LANES → Ascend (departs column.entry) column.entry.trips →
+        HasFallen before (slice_index (R.labels ready) l) fall → r < column.entry.trips →
+        Catches before (slice_index (R.labels ready) l) (departs column.entry r) →
+        RidesBy R.NEVER (R.labels result) l r }
 {
     let mut riding = run;
     for rank in first..column.trips {

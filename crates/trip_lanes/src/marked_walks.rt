@@ -23,9 +23,14 @@ pub fn walk_marked<R: Row>(
     requires ready { length ready.old ≡ length feet.now.walks }
     requires fallen { length fallen.old ≡ length feet.now.walks }
     requires fits { (l p : ℕ) → l < R.LANES → slice_index (lane l (labels_in R.labels ready.old)) p ≤ R.NEVER }
-    requires settled { (l x : ℕ) → l < R.LANES → x < length feet.now.walks → (slice_get marked.now x ≡ Some true → ⊥) → NothingLower (OfferedFrom feet.now.walks (lane l (labels_in R.labels ride.now)) x) (lane l (labels_in R.labels ready.old)) }
-    ensures lanes { (l : ℕ) → l < R.LANES → Lowers (WalkedOrStayed feet.now.walks (lane l (labels_in R.labels ride.now))) (lane l (labels_in R.labels ready.old)) (lane l (labels_in R.labels ready.new)) }
-    ensures fallen { MarksFallenOf R.LANES (labels_in R.labels ready.old) (labels_in R.labels ready.new) fallen.old fallen.new }
+    requires settled { (l x : ℕ) → l < R.LANES → x < length feet.now.walks → (slice_get marked.now x ≡ Some true → ⊥) →
+        NothingLower (OfferedFrom feet.now.walks (lane l (labels_in R.labels ride.now)) x)
+        (lane l (labels_in R.labels ready.old)) }
+    ensures lanes { (l : ℕ) → l < R.LANES → Lowers
+        (WalkedOrStayed feet.now.walks (lane l (labels_in R.labels ride.now)))
+        (lane l (labels_in R.labels ready.old)) (lane l (labels_in R.labels ready.new)) }
+    ensures fallen { MarksFallenOf R.LANES (labels_in R.labels ready.old) (labels_in R.labels ready.new) fallen.old
+        fallen.new }
 {
     feet.known();
     for stop in 0..feet.stops() {
@@ -51,9 +56,13 @@ pub fn transfer_marked<R: Row>(
     requires ready { length ready.old ≡ length feet.now.walks }
     requires fallen { length fallen.old ≡ length feet.now.walks }
     requires fits { (l p : ℕ) → l < R.LANES → slice_index (lane l (labels_in R.labels ready.old)) p ≤ R.NEVER }
-    requires settled { (l x : ℕ) → l < R.LANES → x < length feet.now.walks → (slice_get marked.now x ≡ Some true → ⊥) → NothingLower (TransferredFrom feet.now (lane l (labels_in R.labels ride.now)) x) (lane l (labels_in R.labels ready.old)) }
-    ensures lanes { (l : ℕ) → l < R.LANES → Lowers (ChangedOrWalked feet.now (lane l (labels_in R.labels ride.now))) (lane l (labels_in R.labels ready.old)) (lane l (labels_in R.labels ready.new)) }
-    ensures fallen { MarksFallenOf R.LANES (labels_in R.labels ready.old) (labels_in R.labels ready.new) fallen.old fallen.new }
+    requires settled { (l x : ℕ) → l < R.LANES → x < length feet.now.walks → (slice_get marked.now x ≡ Some true → ⊥) →
+        NothingLower (TransferredFrom feet.now (lane l (labels_in R.labels ride.now)) x)
+        (lane l (labels_in R.labels ready.old)) }
+    ensures lanes { (l : ℕ) → l < R.LANES → Lowers (ChangedOrWalked feet.now (lane l (labels_in R.labels ride.now)))
+        (lane l (labels_in R.labels ready.old)) (lane l (labels_in R.labels ready.new)) }
+    ensures fallen { MarksFallenOf R.LANES (labels_in R.labels ready.old) (labels_in R.labels ready.new) fallen.old
+        fallen.new }
 {
     feet.known();
     for stop in 0..feet.stops() {
@@ -72,10 +81,13 @@ pub fn transfer_marked<R: Row>(
 
 /// Walks along the footpaths that leave a stop, in each lane, and notes the stops where a label fell.
 fn walk_noting<R: Row>(leaving: &[(StopNo, u32)], times: R, ready: &mut [R], fallen: &mut [bool])
-    requires targets { (k stop seconds : ℕ) → slice_get leaving.now k ≡ Some (record { 0 = stop }, seconds) → stop < length ready.old }
+    requires targets { (k stop seconds : ℕ) → slice_get leaving.now k ≡ Some (record { 0 = stop }, seconds) →
+        stop < length ready.old }
     requires fallen { length fallen.old ≡ length ready.old }
-    ensures lanes { (l : ℕ) → l < R.LANES → Lowers (LeavesLaterTo R.NEVER leaving.now (slice_index (R.labels times) l)) (lane l (labels_in R.labels ready.old)) (lane l (labels_in R.labels ready.new)) }
-    ensures fallen { MarksFallenOf R.LANES (labels_in R.labels ready.old) (labels_in R.labels ready.new) fallen.old fallen.new }
+    ensures lanes { (l : ℕ) → l < R.LANES → Lowers (LeavesLaterTo R.NEVER leaving.now (slice_index (R.labels times) l))
+        (lane l (labels_in R.labels ready.old)) (lane l (labels_in R.labels ready.new)) }
+    ensures fallen { MarksFallenOf R.LANES (labels_in R.labels ready.old) (labels_in R.labels ready.new) fallen.old
+        fallen.new }
 {
     for (to, seconds) in leaving {
         lower_row(ready, fallen, to.0 as usize, times.later(*seconds));

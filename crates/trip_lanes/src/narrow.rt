@@ -165,7 +165,8 @@ fn ridden(run: Narrow) -> Narrow
 /// The labels of the lanes that fell, and another number in the others.
 #[inline(always)]
 fn of_fallen(before: Narrow, ready: Narrow, labels: Narrow, other: u16) -> Narrow
-    ensures { (l : ℕ) → l < 32 → slice_index ready l < slice_index before l → slice_index result l ≡ slice_index labels l }
+    ensures { (l : ℕ) → l < 32 → slice_index ready l < slice_index before l →
+        slice_index result l ≡ slice_index labels l }
 {
     u16x32::from_array(ready)
         .simd_lt(u16x32::from_array(before))

@@ -40,7 +40,8 @@ pub trait Row: Copy + Drop {
 
     /// The lower of both, in each lane.
     fn lower_of(self, other: Self) -> Self
-        ensures { (l : ℕ) → l < LANES → slice_index (labels result) l ≡ min (slice_index (labels self) l) (slice_index (labels other) l) };
+        ensures { (l : ℕ) → l < LANES → slice_index (labels result) l
+            ≡ min (slice_index (labels self) l) (slice_index (labels other) l) };
 
     /// Whether some lane is lower, where none is higher.
     fn changed(self, old: Self) -> bool
@@ -49,22 +50,27 @@ pub trait Row: Copy + Drop {
 
     /// Later by some seconds, up to `NEVER`.
     fn later(self, seconds: u32) -> Self
-        ensures { (l : ℕ) → l < LANES → slice_index (labels result) l ≡ min (slice_index (labels self) l + seconds) NEVER };
+        ensures { (l : ℕ) → l < LANES → slice_index (labels result) l
+            ≡ min (slice_index (labels self) l + seconds) NEVER };
 
     /// The rank of a trip in each lane whose label, as of who is ready to board, is no later than the trip's departure;
     /// `NEVER` in the others.
     fn catch(self, depart: u32, rank: u32) -> Self
         requires depart { depart ≤ NEVER }
         requires rank { rank < NEVER }
-        ensures caught { (l : ℕ) → l < LANES → slice_index (labels self) l ≤ depart → slice_index (labels result) l ≡ rank }
-        ensures others { (l : ℕ) → l < LANES → depart < slice_index (labels self) l → slice_index (labels result) l ≡ NEVER };
+        ensures caught { (l : ℕ) → l < LANES → slice_index (labels self) l ≤ depart →
+            slice_index (labels result) l ≡ rank }
+        ensures others { (l : ℕ) → l < LANES → depart < slice_index (labels self) l →
+            slice_index (labels result) l ≡ NEVER };
 
     /// These labels, with the arrival of a trip in each lane that rides it, by the lanes' ranks.
     fn alight(self, run: Self, rank: u32, arrive: u32) -> Self
         requires arrive { arrive ≤ NEVER }
         requires rank { rank < NEVER }
-        ensures rides { (l : ℕ) → l < LANES → slice_index (labels run) l ≡ rank → slice_index (labels result) l ≡ arrive }
-        ensures others { (l : ℕ) → l < LANES → slice_index (labels run) l ≢ rank → slice_index (labels result) l ≡ slice_index (labels self) l };
+        ensures rides { (l : ℕ) → l < LANES → slice_index (labels run) l ≡ rank →
+            slice_index (labels result) l ≡ arrive }
+        ensures others { (l : ℕ) → l < LANES → slice_index (labels run) l ≢ rank →
+            slice_index (labels result) l ≡ slice_index (labels self) l };
 
     /// The ranks that are ridden, from the first to after the last: 0 to 0 where none is.
     fn span(self) -> Span
@@ -73,18 +79,22 @@ pub trait Row: Copy + Drop {
 
     /// Whether every lane that departs has a label below `NEVER`.
     fn is_reached(self, departs: Self) -> bool
-        ensures { IsTrue result ↔ ((l : ℕ) → l < LANES → slice_index (labels departs) l ≢ NEVER → slice_index (labels self) l ≢ NEVER) };
+        ensures { IsTrue result ↔ ((l : ℕ) → l < LANES → slice_index (labels departs) l ≢ NEVER →
+            slice_index (labels self) l ≢ NEVER) };
 
     /// How far these labels fell.
     fn fall(self, before: Self) -> Fall
-        ensures { (l : ℕ) → l < LANES → HasFallen (slice_index (labels before) l) (slice_index (labels self) l) result };
+        ensures { (l : ℕ) → l < LANES → HasFallen (slice_index (labels before) l) (slice_index (labels self) l)
+            result };
 
     /// A sixteenfold part of the labels, each counted from its departure.
     fn since(self, departs: Self, part: usize) -> Lanes
         requires part { SIXTEEN * part + SIXTEEN ≤ LANES }
         requires fits { (l : ℕ) → l < LANES → slice_index (labels self) l ≤ NEVER }
-        requires later { (l : ℕ) → l < LANES → slice_index (labels self) l ≢ NEVER → slice_index (labels departs) l ≤ slice_index (labels self) l }
-        ensures { (l : ℕ) → l < SIXTEEN → IsSinceTo NEVER (slice_index (labels departs) (SIXTEEN * part + l)) (slice_index (labels self) (SIXTEEN * part + l)) (slice_index result l) };
+        requires later { (l : ℕ) → l < LANES → slice_index (labels self) l ≢ NEVER →
+            slice_index (labels departs) l ≤ slice_index (labels self) l }
+        ensures { (l : ℕ) → l < SIXTEEN → IsSinceTo NEVER (slice_index (labels departs) (SIXTEEN * part + l))
+            (slice_index (labels self) (SIXTEEN * part + l)) (slice_index result l) };
 
     /// The lanes are some, in parts of sixteen, and few enough for one word of a bit each.
     ghost some: { SIXTEEN ≤ LANES };

@@ -18,9 +18,11 @@ use timetable::{Feet, NEVER, StopNo};
 pub fn walk(feet: &Feet, ride: &[Lanes], ready: &mut [Lanes])
     requires ride { length ride.now ≡ length feet.now.walks }
     requires ready { length ready.old ≡ length feet.now.walks }
-    requires rides { (l p : ℕ) → l < LANES → slice_index (lane l ride.now) p ≢ NEVER → slice_index (lane l ride.now) p + MOST_FOOT_SECONDS < 2 ^ 32 }
+    requires rides { (l p : ℕ) → l < LANES → slice_index (lane l ride.now) p ≢ NEVER →
+        slice_index (lane l ride.now) p + MOST_FOOT_SECONDS < 2 ^ 32 }
     requires fits { (l p : ℕ) → l < LANES → slice_index (lane l ready.old) p ≤ NEVER }
-    ensures { (l : ℕ) → l < LANES → Lowers (WalkedOrStayed feet.now.walks (lane l ride.now)) (lane l ready.old) (lane l ready.new) }
+    ensures { (l : ℕ) → l < LANES → Lowers (WalkedOrStayed feet.now.walks (lane l ride.now)) (lane l ready.old)
+        (lane l ready.new) }
 {
     feet.known();
     for stop in 0..feet.stops() {
@@ -38,9 +40,11 @@ pub fn walk(feet: &Feet, ride: &[Lanes], ready: &mut [Lanes])
 pub fn transfer(feet: &Feet, ride: &[Lanes], ready: &mut [Lanes])
     requires ride { length ride.now ≡ length feet.now.walks }
     requires ready { length ready.old ≡ length feet.now.walks }
-    requires rides { (l p : ℕ) → l < LANES → slice_index (lane l ride.now) p ≢ NEVER → slice_index (lane l ride.now) p + MOST_CHANGE_SECONDS < 2 ^ 32 }
+    requires rides { (l p : ℕ) → l < LANES → slice_index (lane l ride.now) p ≢ NEVER →
+        slice_index (lane l ride.now) p + MOST_CHANGE_SECONDS < 2 ^ 32 }
     requires fits { (l p : ℕ) → l < LANES → slice_index (lane l ready.old) p ≤ NEVER }
-    ensures { (l : ℕ) → l < LANES → Lowers (ChangedOrWalked feet.now (lane l ride.now)) (lane l ready.old) (lane l ready.new) }
+    ensures { (l : ℕ) → l < LANES → Lowers (ChangedOrWalked feet.now (lane l ride.now)) (lane l ready.old)
+        (lane l ready.new) }
 {
     feet.known();
     for stop in 0..feet.stops() {
@@ -56,8 +60,10 @@ pub fn transfer(feet: &Feet, ride: &[Lanes], ready: &mut [Lanes])
 
 /// Walks along the footpaths that leave a stop, in each lane.
 fn walk_from(leaving: &[(StopNo, u32)], times: Lanes, ready: &mut [Lanes])
-    requires { (k stop seconds : ℕ) → slice_get leaving.now k ≡ Some (record { 0 = stop }, seconds) → stop < length ready.old }
-    ensures { (l : ℕ) → l < LANES → Lowers (LeavesLater leaving.now (slice_index times l)) (lane l ready.old) (lane l ready.new) }
+    requires { (k stop seconds : ℕ) → slice_get leaving.now k ≡ Some (record { 0 = stop }, seconds) →
+        stop < length ready.old }
+    ensures { (l : ℕ) → l < LANES → Lowers (LeavesLater leaving.now (slice_index times l)) (lane l ready.old)
+        (lane l ready.new) }
 {
     for (to, seconds) in leaving {
         lower_all(ready, to.0 as usize, later(times, *seconds));
@@ -75,7 +81,8 @@ pub(crate) fn later(times: Lanes, seconds: u32) -> Lanes
 /// Lowers the lanes of a stop to these times.
 pub fn lower_all(labels: &mut [Lanes], stop: usize, times: Lanes)
     requires { stop < length labels.old }
-    ensures { (l : ℕ) → l < LANES → Lowers (λ p x. (p ≡ stop) × (x ≡ slice_index times l)) (lane l labels.old) (lane l labels.new) }
+    ensures { (l : ℕ) → l < LANES → Lowers (λ p x. (p ≡ stop)
+        × (x ≡ slice_index times l)) (lane l labels.old) (lane l labels.new) }
 {
     let lowered = lower_of(labels[stop], times);
     labels[stop] = lowered;

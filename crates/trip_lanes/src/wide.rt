@@ -133,7 +133,8 @@ fn ridden(run: Lanes) -> Lanes
 /// The labels of the lanes that fell, and another number in the others.
 #[inline(always)]
 fn of_fallen(before: Lanes, ready: Lanes, labels: Lanes, other: u32) -> Lanes
-    ensures { (l : ℕ) → l < SIXTEEN → slice_index ready l < slice_index before l → slice_index result l ≡ slice_index labels l }
+    ensures { (l : ℕ) → l < SIXTEEN → slice_index ready l < slice_index before l →
+        slice_index result l ≡ slice_index labels l }
 {
     u32x16::from_array(ready)
         .simd_lt(u32x16::from_array(before))

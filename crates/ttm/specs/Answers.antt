@@ -1,5 +1,6 @@
 -- What the program leaves behind: what its two outputs hold, and the exit status.
--- "The whole matrix and status 0; or one line that tells why there is none, with the status of what it tells. Help and the
+-- "The whole matrix and status 0; or one line that tells why there is none, with the status of what it tells. Help and
+-- the
 -- version go out whole, with status 0, or their loss is told." (The program's own rule.)
 use Rattle.std.specs.Prelude.{◌≡◌, ◌≢◌, ◌≤◌, ◌⊎◌, ◌++◌, ℕ, List, Option, codes, length, map}
 use Rattle.std.specs.Io.KnownBytes.{Appends}
@@ -38,19 +39,22 @@ pub record IsCutShort (i : InputFiles) (s : Settings) (out printed : Option (Lis
   pub text_is : IsStudyText i s text
   pub part : PutsPart out printed text
 
--- why the matrix isn't out whole: the first fault of the inputs, or want of memory, or a run of workers that left a place
+-- why the matrix isn't out whole: the first fault of the inputs, or want of memory, or a run of workers that left a
+-- place
 -- without a row, and nothing is out; or the output took no more
 abbrev pub IsWhy : StudyFault → InputFiles → Settings → Option (List ℕ) → Option (List ℕ) → Type 0
 IsWhy e i s out printed = ((printed ≡ out) × Tells e i s) ⊎ ((e ≡ fault.Text text.Write) × IsCutShort i s out printed)
 
 -- the matrix isn't out whole, and it is told why
-pub record IsRefused (i : InputFiles) (s : Settings) (out printed err told : Option (List ℕ)) (status : ℕ) : Type 0 where
-  pub fault : StudyFault
-  pub why : IsWhy fault i s out printed
-  pub is_told : IsTold fault i err told status
+pub record IsRefused (i : InputFiles) (s : Settings) (out printed err told : Option (List ℕ)) (status : ℕ) : Type 0
+  where
+    pub fault : StudyFault
+    pub why : IsWhy fault i s out printed
+    pub is_told : IsTold fault i err told status
 
 -- what a study leaves behind
-abbrev pub IsAnswered : InputFiles → Settings → Option (List ℕ) → Option (List ℕ) → Option (List ℕ) → Option (List ℕ) → ℕ → Type 0
+abbrev pub IsAnswered : InputFiles → Settings → Option (List ℕ) → Option (List ℕ) → Option (List ℕ) → Option (List ℕ) →
+    ℕ → Type 0
 IsAnswered i s out printed err told status =
     ((status ≡ DONE) × IsPrinted i s out printed) ⊎ IsRefused i s out printed err told status
 
@@ -99,7 +103,8 @@ GivesUp out printed err told status = (printed ≡ out) × IsShort err told stat
 -- the program's own study is answered; or memory was short for its settings
 abbrev pub EndsExample : Option (List ℕ) → Option (List ℕ) → Option (List ℕ) → Option (List ℕ) → ℕ → Type 0
 EndsExample out printed err told status =
-    ((i : InputFiles) × (s : Settings) × IsAnswered i s out printed err told status) ⊎ GivesUp out printed err told status
+    ((i : InputFiles) × (s : Settings) × IsAnswered i s out printed err told status)
+    ⊎ GivesUp out printed err told status
 
 -- of a task it is told which of its files isn't read first, and nothing is put out; or its study is answered
 abbrev pub EndsTask : Finds → Task → Option (List ℕ) → Option (List ℕ) → Option (List ℕ) → Option (List ℕ) → ℕ → Type 0
@@ -114,13 +119,16 @@ IsShown text out printed err told status =
     ⊎ ((status ≡ NOT_MOVED) × PutsPart out printed text × PutsPrefix err told (line (codes "write fault")))
 
 -- a text is told, with this status, and nothing is put out
-abbrev pub IsSaid : List ℕ → (wanted : ℕ) → Option (List ℕ) → Option (List ℕ) → Option (List ℕ) → Option (List ℕ) → ℕ → Type 0
+abbrev pub IsSaid : List ℕ → (wanted : ℕ) → Option (List ℕ) → Option (List ℕ) → Option (List ℕ) → Option (List ℕ) → ℕ →
+    Type 0
 IsSaid text wanted out printed err told status = (status ≡ wanted) × (printed ≡ out) × PutsPrefix err told text
 
 -- a text is shown where its status is that of help, and else told
-abbrev pub IsPut : List ℕ → (wanted : ℕ) → Option (List ℕ) → Option (List ℕ) → Option (List ℕ) → Option (List ℕ) → ℕ → Type 0
+abbrev pub IsPut : List ℕ → (wanted : ℕ) → Option (List ℕ) → Option (List ℕ) → Option (List ℕ) → Option (List ℕ) → ℕ →
+    Type 0
 IsPut text wanted out printed err told status =
-    ((wanted ≡ DONE) × IsShown text out printed err told status) ⊎ ((wanted ≢ DONE) × IsSaid text wanted out printed err told status)
+    ((wanted ≡ DONE) × IsShown text out printed err told status)
+    ⊎ ((wanted ≢ DONE) × IsSaid text wanted out printed err told status)
 
 -- so is what `clap` says of the words; or memory was short for it
 abbrev pub EndsText : (wanted : ℕ) → Option (List ℕ) → Option (List ℕ) → Option (List ℕ) → Option (List ℕ) → ℕ → Type 0
@@ -129,13 +137,15 @@ EndsText wanted out printed err told status =
 
 -- what is left behind of words that ask for no study
 abbrev pub EndsFault : WordFault → Option (List ℕ) → Option (List ℕ) → Option (List ℕ) → Option (List ℕ) → ℕ → Type 0
-EndsFault (word.Words e) out printed err told status = EndsText (word_status_of (word.Words e)) out printed err told status
+EndsFault (word.Words e) out printed err told status =
+    EndsText (word_status_of (word.Words e)) out printed err told status
 EndsFault (word.Bad o) out printed err told status =
     IsSaid (line (codes "bad " ++ opt_text o)) (word_status_of (word.Bad o)) out printed err told status
 EndsFault word.Memory out printed err told status = GivesUp out printed err told status
 
 -- the words ask for a task, and what is left behind is that task's; or it is that of what is wrong with them
-abbrev pub EndsWords : Finds → List Text → Option (List ℕ) → Option (List ℕ) → Option (List ℕ) → Option (List ℕ) → ℕ → Type 0
+abbrev pub EndsWords : Finds → List Text → Option (List ℕ) → Option (List ℕ) → Option (List ℕ) → Option (List ℕ) → ℕ →
+    Type 0
 EndsWords finds words out printed err told status =
     ((task : Task) × IsAsked (rows_of_words words) task.settings × NamesFiles (rows_of_words words) task
     × EndsTask finds task out printed err told status)
@@ -149,7 +159,8 @@ Ends finds words out printed err told status =
 
 -- it is told that the words aren't UTF-8, or that memory was short for them
 abbrev pub TellsUnread : Option (List ℕ) → Option (List ℕ) → ℕ → Type 0
-TellsUnread err told status = ((status ≡ REFUSED) × PutsPrefix err told (line (codes "words that are not UTF-8"))) ⊎ IsShort err told status
+TellsUnread err told status = ((status ≡ REFUSED) × PutsPrefix err told (line (codes "words that are not UTF-8")))
+    ⊎ IsShort err told status
 
 -- the words can't be had, and nothing is put out
 abbrev pub EndsUnread : Option (List ℕ) → Option (List ℕ) → Option (List ℕ) → Option (List ℕ) → ℕ → Type 0

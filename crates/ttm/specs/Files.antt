@@ -1,8 +1,11 @@
 -- Which file of a disk is which input of a study, and which file is told where one isn't read.
--- "The files of the feed lie in its folder, each under its own name, and may be absent. A file that an option names has to be
--- there, and is what that option says; so have the scenario files, each named by its own path, in their order. The first
+-- "The files of the feed lie in its folder, each under its own name, and may be absent. A file that an option names has
+-- to be
+-- there, and is what that option says; so have the scenario files, each named by its own path, in their order. The
+-- first
 -- file that isn't read is told." (The program's own rule.)
-use Rattle.std.specs.Prelude.{◌≡◌, ◌⊎◌, ◌++◌, ℕ, List, [], ◌∷◌, Option, Some, None, Ok, Err, ⊤, map, codes, option_map, string_bytes}
+use Rattle.std.specs.Prelude.{◌≡◌, ◌⊎◌, ◌++◌, ℕ, List, [], ◌∷◌, Option, Some, None, Ok, Err, ⊤, map, codes, option_map}
+use Rattle.std.specs.Prelude.{string_bytes}
 use Rattle.command_line.specs.Lines.{line, no_memory, path_rest, read_status}
 use Rattle.command_line.specs.Paths.{path_in, scenario_of}
 use Rattle.command_line.specs.declared.files.ReadFault.{ReadFault}
@@ -87,8 +90,10 @@ path_of (Needed path) = path
 -- the paths that a study asks for, in their order: the feed's, the analyst's own, the scenarios'
 abbrev pub feed_asks : List ℕ → List Ask
 feed_asks folder =
-    Optional (path_in folder (codes "stops.txt")) ∷ Optional (path_in folder (codes "routes.txt")) ∷ Optional (path_in folder (codes "calendar.txt"))
-    ∷ Optional (path_in folder (codes "calendar_dates.txt")) ∷ Optional (path_in folder (codes "trips.txt")) ∷ Optional (path_in folder (codes "stop_times.txt"))
+    Optional (path_in folder (codes "stops.txt")) ∷ Optional (path_in folder (codes "routes.txt")) ∷ Optional
+    (path_in folder (codes "calendar.txt"))
+    ∷ Optional (path_in folder (codes "calendar_dates.txt")) ∷ Optional (path_in folder (codes "trips.txt")) ∷ Optional
+    (path_in folder (codes "stop_times.txt"))
     ∷ Optional (path_in folder (codes "frequencies.txt")) ∷ Optional (path_in folder (codes "transfers.txt")) ∷ []
 
 abbrev pub own_asks : Option (List ℕ) → List Ask
@@ -100,7 +105,8 @@ scenario_asks paths = map Needed paths
 
 abbrev pub asks_of : Task → List Ask
 asks_of task =
-    feed_asks (string_bytes task.feed) ++ (own_asks (option_map string_bytes task.footpaths) ++ (own_asks (option_map string_bytes task.origins)
+    feed_asks (string_bytes task.feed) ++ (own_asks
+    (option_map string_bytes task.footpaths) ++ (own_asks (option_map string_bytes task.origins)
     ++ (own_asks (option_map string_bytes task.opportunities) ++ (own_asks (option_map string_bytes task.destinations)
     ++ scenario_asks (map string_bytes task.scenarios.items)))))
 
@@ -149,6 +155,8 @@ AreUnread finds asks err told status = IsUnread finds asks err told status ⊎ I
 
 -- why the files aren't all read is told, with its status
 abbrev pub TellsWhyUnread : Unread → Option (List ℕ) → Option (List ℕ) → ℕ → Type 0
-TellsWhyUnread (unread.Feed path fault) err told status = TellsLine err told (line (path_rest (string_bytes path) fault)) × (status ≡ read_status fault)
-TellsWhyUnread (unread.Own path fault) err told status = TellsLine err told (line (path_rest path.now fault)) × (status ≡ read_status fault)
+TellsWhyUnread (unread.Feed path fault) err told status =
+    TellsLine err told (line (path_rest (string_bytes path) fault)) × (status ≡ read_status fault)
+TellsWhyUnread (unread.Own path fault) err told status =
+    TellsLine err told (line (path_rest path.now fault)) × (status ≡ read_status fault)
 TellsWhyUnread unread.Memory err told status = IsShort err told status

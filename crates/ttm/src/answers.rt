@@ -31,8 +31,10 @@ pub(crate) fn answer_task<'a, H: Host, O: Write, E: Write>(
 ) -> ExitCode
     requires files { AreWithinLimit (inputs_of inputs.now) }
     requires settings { SettingsFit task.now.settings }
-    ensures answered { spec.IsAnswered (inputs_of inputs.now) task.now.settings (O.contents out.old) (O.contents out.new) (E.contents err.old) (E.contents err.new) (exit_status result) }
-    ensures success { exit_status result ≡ DONE → spec.IsPrinted (inputs_of inputs.now) task.now.settings (O.contents out.old) (O.contents out.new) }
+    ensures answered { spec.IsAnswered (inputs_of inputs.now) task.now.settings (O.contents out.old)
+        (O.contents out.new) (E.contents err.old) (E.contents err.new) (exit_status result) }
+    ensures success { exit_status result ≡ DONE →
+        spec.IsPrinted (inputs_of inputs.now) task.now.settings (O.contents out.old) (O.contents out.new) }
     ensures quiet { exit_status result ≡ DONE → err.new ≡ err.old }
 {
     if task.report {
@@ -52,8 +54,10 @@ pub(crate) fn answer<H: Host, O: Write, E: Write>(
 ) -> ExitCode
     requires files { AreWithinLimit (inputs_of inputs.now) }
     requires settings { SettingsFit settings.now }
-    ensures answered { spec.IsAnswered (inputs_of inputs.now) settings.now (O.contents out.old) (O.contents out.new) (E.contents err.old) (E.contents err.new) (exit_status result) }
-    ensures success { exit_status result ≡ DONE → spec.IsPrinted (inputs_of inputs.now) settings.now (O.contents out.old) (O.contents out.new) }
+    ensures answered { spec.IsAnswered (inputs_of inputs.now) settings.now (O.contents out.old) (O.contents out.new)
+        (E.contents err.old) (E.contents err.new) (exit_status result) }
+    ensures success { exit_status result ≡ DONE →
+        spec.IsPrinted (inputs_of inputs.now) settings.now (O.contents out.old) (O.contents out.new) }
     ensures quiet { exit_status result ≡ DONE → err.new ≡ err.old }
 {
     match put_matrix(host, inputs, settings, &Open, &Unwatched, out) {
@@ -72,8 +76,10 @@ fn answer_and_report<'a, H: Host, O: Write, E: Write>(
 ) -> ExitCode
     requires files { AreWithinLimit (inputs_of inputs.now) }
     requires settings { SettingsFit task.now.settings }
-    ensures answered { spec.IsAnswered (inputs_of inputs.now) task.now.settings (O.contents out.old) (O.contents out.new) (E.contents err.old) (E.contents err.new) (exit_status result) }
-    ensures success { exit_status result ≡ DONE → spec.IsPrinted (inputs_of inputs.now) task.now.settings (O.contents out.old) (O.contents out.new) }
+    ensures answered { spec.IsAnswered (inputs_of inputs.now) task.now.settings (O.contents out.old)
+        (O.contents out.new) (E.contents err.old) (E.contents err.new) (exit_status result) }
+    ensures success { exit_status result ≡ DONE →
+        spec.IsPrinted (inputs_of inputs.now) task.now.settings (O.contents out.old) (O.contents out.new) }
     ensures quiet { exit_status result ≡ DONE → err.new ≡ err.old }
 {
     let report = Report::new(host.alloc(), host, inputs);
@@ -101,8 +107,10 @@ fn put_matrix<H: Host, G: Gate + Sync, W: Watch, O: Write>(
 ) -> Result<(), StudyFault>
     requires files { AreWithinLimit (inputs_of inputs.now) }
     requires settings { SettingsFit settings.now }
-    ensures printed { OnOk result (spec.IsPrinted (inputs_of inputs.now) settings.now (O.contents out.old) (O.contents out.new)) }
-    ensures why { IfErr result (λ fault. spec.IsWhy fault (inputs_of inputs.now) settings.now (O.contents out.old) (O.contents out.new)) }
+    ensures printed { OnOk result (spec.IsPrinted (inputs_of inputs.now) settings.now (O.contents out.old)
+        (O.contents out.new)) }
+    ensures why { IfErr result (λ fault. spec.IsWhy fault (inputs_of inputs.now) settings.now (O.contents out.old)
+        (O.contents out.new)) }
 {
     match watch_study(host, host.alloc(), inputs, settings, gate, watch) {
         Ok(text) => match put_all(&text, out) {
@@ -120,7 +128,8 @@ fn tell_why<E: Write>(
     inputs: &Inputs<'_>,
     err: &mut E,
 ) -> ExitCode
-    ensures told { spec.IsTold fault.now (inputs_of inputs.now) (E.contents err.old) (E.contents err.new) (exit_status result) }
+    ensures told { spec.IsTold fault.now (inputs_of inputs.now) (E.contents err.old) (E.contents err.new)
+        (exit_status result) }
     ensures no_success { 1 ≤ exit_status result }
 {
     tell_made(fault_line(alloc, fault, inputs), status(fault), err)

@@ -40,7 +40,8 @@ pub(crate) fn read_opened<F: Read + Drop>(
     alloc: Global,
     opened: io::Result<F>,
 ) -> Result<Option<Vec<u8>>, ReadFault>
-    ensures found { IfOk result (λ file. spec.IsFoundOf F.remaining opened (Ok (option_map (λ bytes. bytes.items) file))) }
+    ensures found { IfOk result (λ file. spec.IsFoundOf F.remaining opened
+        (Ok (option_map (λ bytes. bytes.items) file))) }
     ensures unread { IfErr result (λ fault. spec.IsFoundOf F.remaining opened (Err fault)) }
     ensures limit { IfOk result (λ file. IsWithinLimit (option_map (λ bytes. bytes.items) file)) }
 {

@@ -37,8 +37,12 @@ use studies::Inputs;
 
 /// What the program does: it has its arguments of its host, and the two outputs.
 pub(crate) fn run<H: Host, O: Write, E: Write>(host: &H, out: &mut O, err: &mut E) -> ExitCode
-    ensures success { exit_status result ≡ DONE → (words : List Text) × spec.EndsWell (H.finds host.now) words (O.contents out.old) (O.contents out.new) }
-    ensures ended { ((words : List Text) × spec.Ends (H.finds host.now) words (O.contents out.old) (O.contents out.new) (E.contents err.old) (E.contents err.new) (exit_status result)) ⊎ spec.EndsUnread (O.contents out.old) (O.contents out.new) (E.contents err.old) (E.contents err.new) (exit_status result) }
+    ensures success { exit_status result ≡ DONE →
+        (words : List Text) × spec.EndsWell (H.finds host.now) words (O.contents out.old) (O.contents out.new) }
+    ensures ended { ((words : List Text) × spec.Ends (H.finds host.now) words (O.contents out.old) (O.contents out.new)
+        (E.contents err.old) (E.contents err.new) (exit_status result))
+        ⊎ spec.EndsUnread (O.contents out.old) (O.contents out.new) (E.contents err.old) (E.contents err.new)
+        (exit_status result) }
     ensures quiet { exit_status result ≡ DONE → err.new ≡ err.old }
 {
     let words = match env::args(host) {
@@ -54,7 +58,8 @@ pub(crate) fn run<H: Host, O: Write, E: Write>(host: &H, out: &mut O, err: &mut 
 /// Tells why the arguments can't be had: out of memory, or one of them isn't UTF-8.
 fn tell_unread<E: Write>(error: &io::Error, err: &mut E) -> ExitCode
     ensures told { spec.TellsUnread (E.contents err.old) (E.contents err.new) (exit_status result) }
-    ensures short { error_kind error.now ≡ OutOfMemory → IsShort (E.contents err.old) (E.contents err.new) (exit_status result) }
+    ensures short { error_kind error.now ≡ OutOfMemory →
+        IsShort (E.contents err.old) (E.contents err.new) (exit_status result) }
     ensures line { error_kind error.now ≢ OutOfMemory → exit_status result ≡ REFUSED }
 {
     match error.kind() {
@@ -70,8 +75,10 @@ pub(crate) fn run_words<H: Host, O: Write, E: Write>(
     out: &mut O,
     err: &mut E,
 ) -> ExitCode
-    ensures success { exit_status result ≡ DONE → spec.EndsWell (H.finds host.now) (map string_bytes words.now) (O.contents out.old) (O.contents out.new) }
-    ensures ended { spec.Ends (H.finds host.now) (map string_bytes words.now) (O.contents out.old) (O.contents out.new) (E.contents err.old) (E.contents err.new) (exit_status result) }
+    ensures success { exit_status result ≡ DONE →
+        spec.EndsWell (H.finds host.now) (map string_bytes words.now) (O.contents out.old) (O.contents out.new) }
+    ensures ended { spec.Ends (H.finds host.now) (map string_bytes words.now) (O.contents out.old) (O.contents out.new)
+        (E.contents err.old) (E.contents err.new) (exit_status result) }
     ensures quiet { exit_status result ≡ DONE → err.new ≡ err.old }
 {
     if words.len() <= 1 {
@@ -84,7 +91,8 @@ pub(crate) fn run_words<H: Host, O: Write, E: Write>(
 /// The study that the program carries: one minute from stop A of the small feed, by at most two rides.
 fn example<H: Host, O: Write, E: Write>(host: &H, out: &mut O, err: &mut E) -> ExitCode
     ensures success { exit_status result ≡ DONE → spec.IsExample (O.contents out.old) (O.contents out.new) }
-    ensures ended { spec.EndsExample (O.contents out.old) (O.contents out.new) (E.contents err.old) (E.contents err.new) (exit_status result) }
+    ensures ended { spec.EndsExample (O.contents out.old) (O.contents out.new) (E.contents err.old) (E.contents err.new)
+        (exit_status result) }
     ensures quiet { exit_status result ≡ DONE → err.new ≡ err.old }
 {
     let inputs = Inputs {
@@ -108,8 +116,10 @@ fn asked<H: Host, O: Write, E: Write>(
     out: &mut O,
     err: &mut E,
 ) -> ExitCode
-    ensures success { exit_status result ≡ DONE → spec.Succeeds (H.finds host.now) (map string_bytes words.now) (O.contents out.old) (O.contents out.new) }
-    ensures ended { spec.EndsWords (H.finds host.now) (map string_bytes words.now) (O.contents out.old) (O.contents out.new) (E.contents err.old) (E.contents err.new) (exit_status result) }
+    ensures success { exit_status result ≡ DONE →
+        spec.Succeeds (H.finds host.now) (map string_bytes words.now) (O.contents out.old) (O.contents out.new) }
+    ensures ended { spec.EndsWords (H.finds host.now) (map string_bytes words.now) (O.contents out.old)
+        (O.contents out.new) (E.contents err.old) (E.contents err.new) (exit_status result) }
     ensures quiet { exit_status result ≡ DONE → err.new ≡ err.old }
 {
     match task_of(host.alloc(), words) {
@@ -142,8 +152,10 @@ fn tell_words<O: Write, E: Write>(
     out: &mut O,
     err: &mut E,
 ) -> ExitCode
-    ensures help { exit_status result ≡ DONE → (code ≡ DONE) × ((text : List ℕ) × Appends (O.contents out.old) (O.contents out.new) text) }
-    ensures ended { spec.EndsText code (O.contents out.old) (O.contents out.new) (E.contents err.old) (E.contents err.new) (exit_status result) }
+    ensures help { exit_status result ≡ DONE →
+        (code ≡ DONE) × ((text : List ℕ) × Appends (O.contents out.old) (O.contents out.new) text) }
+    ensures ended { spec.EndsText code (O.contents out.old) (O.contents out.new) (E.contents err.old)
+        (E.contents err.new) (exit_status result) }
     ensures quiet { exit_status result ≡ DONE → err.new ≡ err.old }
 {
     match format!(in alloc; "{error}") {
@@ -154,8 +166,10 @@ fn tell_words<O: Write, E: Write>(
 
 /// Puts out a text whose status is that of help or the version, and else tells it.
 fn put_text<O: Write, E: Write>(text: &[u8], code: u8, out: &mut O, err: &mut E) -> ExitCode
-    ensures help { exit_status result ≡ DONE → (code ≡ DONE) × Appends (O.contents out.old) (O.contents out.new) text.now }
-    ensures ended { spec.IsPut text.now code (O.contents out.old) (O.contents out.new) (E.contents err.old) (E.contents err.new) (exit_status result) }
+    ensures help { exit_status result ≡ DONE →
+        (code ≡ DONE) × Appends (O.contents out.old) (O.contents out.new) text.now }
+    ensures ended { spec.IsPut text.now code (O.contents out.old) (O.contents out.new) (E.contents err.old)
+        (E.contents err.new) (exit_status result) }
     ensures quiet { exit_status result ≡ DONE → err.new ≡ err.old }
 {
     if code == DONE {
@@ -168,7 +182,8 @@ fn put_text<O: Write, E: Write>(text: &[u8], code: u8, out: &mut O, err: &mut E)
 /// Puts out the help or the version. Where it can't be written that is no success.
 fn put_help<O: Write, E: Write>(text: &[u8], out: &mut O, err: &mut E) -> ExitCode
     ensures help { exit_status result ≡ DONE → Appends (O.contents out.old) (O.contents out.new) text.now }
-    ensures ended { spec.IsShown text.now (O.contents out.old) (O.contents out.new) (E.contents err.old) (E.contents err.new) (exit_status result) }
+    ensures ended { spec.IsShown text.now (O.contents out.old) (O.contents out.new) (E.contents err.old)
+        (E.contents err.new) (exit_status result) }
     ensures quiet { exit_status result ≡ DONE → err.new ≡ err.old }
 {
     match put_all(text, out) {
@@ -181,8 +196,10 @@ fn put_help<O: Write, E: Write>(text: &[u8], out: &mut O, err: &mut E) -> ExitCo
 /// out of a function that had more to do.
 fn study<H: Host, O: Write, E: Write>(host: &H, task: &Task, out: &mut O, err: &mut E) -> ExitCode
     requires { SettingsFit task.now.settings }
-    ensures success { exit_status result ≡ DONE → spec.IsMade (H.finds host.now) task.now (O.contents out.old) (O.contents out.new) }
-    ensures ended { spec.EndsTask (H.finds host.now) task.now (O.contents out.old) (O.contents out.new) (E.contents err.old) (E.contents err.new) (exit_status result) }
+    ensures success { exit_status result ≡ DONE →
+        spec.IsMade (H.finds host.now) task.now (O.contents out.old) (O.contents out.new) }
+    ensures ended { spec.EndsTask (H.finds host.now) task.now (O.contents out.old) (O.contents out.new)
+        (E.contents err.old) (E.contents err.new) (exit_status result) }
     ensures quiet { exit_status result ≡ DONE → err.new ≡ err.old }
 {
     let mut files = StudyFiles::none(host.alloc());
@@ -201,8 +218,10 @@ fn read_and_answer<H: Host, O: Write, E: Write>(
 ) -> ExitCode
     requires settings { SettingsFit task.now.settings }
     requires no_scenarios { files.old.scenarios.items ≡ [] }
-    ensures success { exit_status result ≡ DONE → spec.IsMade (H.finds host.now) task.now (O.contents out.old) (O.contents out.new) }
-    ensures ended { spec.EndsTask (H.finds host.now) task.now (O.contents out.old) (O.contents out.new) (E.contents err.old) (E.contents err.new) (exit_status result) }
+    ensures success { exit_status result ≡ DONE →
+        spec.IsMade (H.finds host.now) task.now (O.contents out.old) (O.contents out.new) }
+    ensures ended { spec.EndsTask (H.finds host.now) task.now (O.contents out.old) (O.contents out.new)
+        (E.contents err.old) (E.contents err.new) (exit_status result) }
     ensures quiet { exit_status result ≡ DONE → err.new ≡ err.old }
 {
     match read_files(host.alloc(), host, task, files) {

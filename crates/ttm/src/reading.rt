@@ -64,9 +64,11 @@ fn feed_file<'a, D: Disk>(
     folder: &'a str,
     name: &str,
 ) -> Result<Option<Vec<u8>>, Unread<'a>>
-    ensures file { IfOk result (λ file. D.finds disk.now (paths.path_in folder.now name.now) (Ok (option_map (λ bytes. bytes.items) file))) }
+    ensures file { IfOk result (λ file. D.finds disk.now (paths.path_in folder.now name.now)
+        (Ok (option_map (λ bytes. bytes.items) file))) }
     ensures limit { IfOk result (λ file. limit.IsWithinLimit (option_map (λ bytes. bytes.items) file)) }
-    ensures unread { IfErr result (λ unread. spec.IsWhyUnread (D.finds disk.now) (spec.Optional (paths.path_in folder.now name.now) ∷ []) unread) }
+    ensures unread { IfErr result (λ unread. spec.IsWhyUnread (D.finds disk.now)
+        (spec.Optional (paths.path_in folder.now name.now) ∷ []) unread) }
 {
     match path_in(alloc, folder, name) {
         Ok(path) => match disk.find(alloc, path.as_str()) {
@@ -83,9 +85,11 @@ pub(crate) fn own_file<'a, D: Disk>(
     disk: &D,
     path: &'a Option<String>,
 ) -> Result<Option<Vec<u8>>, Unread<'a>>
-    ensures file { IfOk result (λ file. spec.IsOwn (D.finds disk.now) (option_map string_bytes path.now) (option_map (λ bytes. bytes.items) file)) }
+    ensures file { IfOk result (λ file. spec.IsOwn (D.finds disk.now) (option_map string_bytes path.now)
+        (option_map (λ bytes. bytes.items) file)) }
     ensures limit { IfOk result (λ file. limit.IsWithinLimit (option_map (λ bytes. bytes.items) file)) }
-    ensures unread { IfErr result (λ unread. spec.NamesUnread (D.finds disk.now) (spec.own_asks (option_map string_bytes path.now)) unread) }
+    ensures unread { IfErr result (λ unread. spec.NamesUnread (D.finds disk.now)
+        (spec.own_asks (option_map string_bytes path.now)) unread) }
 {
     match path {
         Some(path) => Ok(Some(there(alloc, disk, path.as_str())?)),
@@ -103,7 +107,8 @@ pub(crate) fn scenario_files<'a, D: Disk>(
     requires { files.old.items ≡ [] }
     ensures files { OnOk result (spec.AreScenarios (D.finds disk.now) (map string_bytes paths.now) files.new.items) }
     ensures limit { OnOk result (All (λ f. limit.IsWithinLimit (Some f.bytes)) files.new.items) }
-    ensures unread { IfErr result (λ unread. spec.IsWhyUnread (D.finds disk.now) (spec.scenario_asks (map string_bytes paths.now)) unread) }
+    ensures unread { IfErr result (λ unread. spec.IsWhyUnread (D.finds disk.now)
+        (spec.scenario_asks (map string_bytes paths.now)) unread) }
 {
     for path in paths {
         let file = scenario_file(alloc, disk, path.as_str())?;
@@ -120,7 +125,8 @@ fn scenario_file<'a, D: Disk>(
     disk: &D,
     path: &'a str,
 ) -> Result<NamedFile, Unread<'a>>
-    ensures file { IfOk result (λ file. (file.name ≡ paths.scenario_of path.now) × D.finds disk.now path.now (Ok (Some file.bytes))) }
+    ensures file { IfOk result (λ file. (file.name ≡ paths.scenario_of path.now)
+        × D.finds disk.now path.now (Ok (Some file.bytes))) }
     ensures limit { IfOk result (λ file. limit.IsWithinLimit (Some file.bytes)) }
     ensures unread { IfErr result (λ unread. spec.IsWhyUnread (D.finds disk.now) (spec.Needed path.now ∷ []) unread) }
 {

@@ -24,7 +24,14 @@ pub struct StudyFiles {
 impl StudyFiles {
     /// No file is there.
     pub fn none(alloc: Global) -> StudyFiles
-        ensures { files_of result ≡ record { feed = no_files; footpaths = None; origins = None; opportunities = None; destinations = None; scenarios = [] } }
+        ensures { files_of result ≡ record {
+          feed = no_files;
+          footpaths = None;
+          origins = None;
+          opportunities = None;
+          destinations = None;
+          scenarios = [];
+        } }
     {
         StudyFiles {
             feed: FeedFiles::none(),

@@ -1,5 +1,6 @@
 -- A search by halves finds a number of an ascending list exactly where it stands there.
-use Rattle.std.proofs.Common.{◌≡◌, ◌<◌, ◌≤◌, ◌==◌, ◌⊎◌, inl, inr, ℕ, List, true, false, Result, Ok, Err, is_ok, sym, arith}
+use Rattle.std.proofs.Common.{◌≡◌, ◌<◌, ◌≤◌, ◌==◌, ◌⊎◌, inl, inr, ℕ, List, true, false, Result, Ok, Err, is_ok, sym}
+use Rattle.std.proofs.Common.{arith}
 use Rattle.std.specs.List.{list_any}
 use Rattle.std.specs.List.Sorted.{IsBinarySearchResult}
 use Rattle.std.specs.Ordering.{nat_cmp}
@@ -21,7 +22,8 @@ higher a b l = grind (arith, nat_tests)
 low_or_high : (k i : ℕ) → (k < i) ⊎ (i ≤ k)
 low_or_high k i = search (arith)
 
-pub found_where_it_stands : (xs : List ℕ) (number : ℕ) (r : Result ℕ ℕ) → IsBinarySearchResult (λ y. nat_cmp y number) xs r → IsAscending xs
+pub found_where_it_stands : (xs : List ℕ) (number : ℕ) (r : Result ℕ ℕ) →
+    IsBinarySearchResult (λ y. nat_cmp y number) xs r → IsAscending xs
     → is_ok r ≡ list_any (λ x. x == number) xs
 found_where_it_stands xs number (Ok i) found up =
     let at = searched xs number (Ok i) found up in

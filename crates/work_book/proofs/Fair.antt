@@ -1,5 +1,7 @@
 -- What every step keeps: each number below the next one drawn once, each settled job kept once.
-use Rattle.std.proofs.Common.{◌≡◌, ◌≢◌, ◌<◌, ◌≤◌, ◌+◌, ◌*◌, ◌==◌, ◌++◌, ◌∷◌, [], ℕ, zero, suc, List, Bool, true, false, Option, Some, None, length, get_or, arith, sym, ap, ◌∙◌, refl, subst, replicate, unwrap_or, not, ◌&&◌, add-zero, zero-add, count_by, nat_lt, ◌⊎◌, inl, inr, if◌then◌else◌}
+use Rattle.std.proofs.Common.{◌≡◌, ◌≢◌, ◌<◌, ◌≤◌, ◌+◌, ◌*◌, ◌==◌, ◌++◌, ◌∷◌, [], ℕ, zero, suc, List, Bool, true, false}
+use Rattle.std.proofs.Common.{Option, Some, None, length, get_or, arith, sym, ap, ◌∙◌, refl, subst, replicate}
+use Rattle.std.proofs.Common.{unwrap_or, not, ◌&&◌, add-zero, zero-add, count_by, nat_lt, ◌⊎◌, inl, inr, if◌then◌else◌}
 use Rattle.std.proofs.Math.ListN.{set}
 use Rattle.std.proofs.Math.Nat.{mod-lt}
 use Rattle.std.specs.List.{slice_get, sum_by, list_any}
@@ -28,11 +30,14 @@ abbrev one_if : Bool → ℕ
 one_if b = if b then 1 else 0
 
 -- a change of a seat that acts, by which its count of something rises by d, raises the sum over all seats by d
-seat_change : (count : SeatState → ℕ) (book : BookState) (seat d : ℕ) (f : SeatState → SeatState) → ((s : SeatState) → count (f s) ≡ count s + d) → acts book seat ≡ true
+seat_change : (count : SeatState → ℕ) (book : BookState) (seat d : ℕ) (f : SeatState → SeatState) →
+    ((s : SeatState) → count (f s) ≡ count s + d) → acts book seat ≡ true
     → sum_by count (on_seat book seat f).seats ≡ sum_by count book.seats + d
 seat_change count book seat d f more acting = go (slice_get book.seats seat) refl acting
   where
-    go : (o : Option SeatState) → slice_get book.seats seat ≡ o → option_map_or (λ (s : SeatState). not s.lost) o false ≡ true → sum_by count (on_seat book seat f).seats ≡ sum_by count book.seats + d
+    go : (o : Option SeatState) → slice_get book.seats seat ≡ o →
+        option_map_or (λ (s : SeatState). not s.lost) o false ≡ true →
+        sum_by count (on_seat book seat f).seats ≡ sum_by count book.seats + d
     go None e h = cc
     go (Some s) e h =
         let total = sum_by-set count book.seats seat (f s) s (slice_get_within book.seats seat s e) in
@@ -41,9 +46,11 @@ seat_change count book seat d f more acting = go (slice_get book.seats seat) ref
         rw e (omega arith)
 
 -- and one by which it stays leaves the sum
-same_seats : (count : SeatState → ℕ) (book : BookState) (seat : ℕ) (f : SeatState → SeatState) → ((s : SeatState) → count (f s) ≡ count s) → acts book seat ≡ true
+same_seats : (count : SeatState → ℕ) (book : BookState) (seat : ℕ) (f : SeatState → SeatState) →
+    ((s : SeatState) → count (f s) ≡ count s) → acts book seat ≡ true
     → sum_by count (on_seat book seat f).seats ≡ sum_by count book.seats
-same_seats count book seat f same acting = seat_change count book seat 0 f (λ s. same s ∙ sym (add-zero _)) acting ∙ add-zero _
+same_seats count book seat f same acting =
+    seat_change count book seat 0 f (λ s. same s ∙ sym (add-zero _)) acting ∙ add-zero _
 
 both : (a b : Bool) → (a && b) ≡ true → (a ≡ true) × (b ≡ true)
 both true b h = (refl, h)
@@ -62,19 +69,22 @@ next_one n next = grind (arith, nat_tests)
 lt_true : (a b : ℕ) → nat_lt a b ≡ true → a < b
 lt_true a b h = grind (arith, nat_tests)
 
-drawn : (book : BookState) (seat : ℕ) (b : Bool) → IsFair book → (b ≡ true → (acts book seat ≡ true) × (book.next < book.jobs * book.tries))
+drawn : (book : BookState) (seat : ℕ) (b : Bool) → IsFair book →
+    (b ≡ true → (acts book seat ≡ true) × (book.next < book.jobs * book.tries))
     → IsFair (if b then record (on_seat book seat (with_drawn book.next)) { next = book.next + 1 } else book)
 drawn book seat false fair h = fair
 drawn book seat true fair h = record {
   marks = fair.marks;
   next = let low = (h refl).1 in omega arith;
-  drawn = λ n. seat_change (drawn_in n) book seat (one_if (book.next == n)) (with_drawn book.next) (λ s. pushed book.next n s.drawn) (h refl).0
+  drawn = λ n. seat_change (drawn_in n) book seat (one_if (book.next == n)) (with_drawn book.next)
+      (λ s. pushed book.next n s.drawn) (h refl).0
       ∙ ap (λ m. m + one_if (book.next == n)) (fair.drawn n)
       ∙ next_one n book.next;
   kept = λ job. same_seats (kept_in job) book seat (with_drawn book.next) (λ s. refl) (h refl).0 ∙ fair.kept job;
 }
 
-lost : (book : BookState) (seat : ℕ) (b : Bool) → IsFair book → (b ≡ true → acts book seat ≡ true) → IsFair (if b then on_seat book seat as_lost else book)
+lost : (book : BookState) (seat : ℕ) (b : Bool) → IsFair book → (b ≡ true → acts book seat ≡ true) →
+    IsFair (if b then on_seat book seat as_lost else book)
 lost book seat false fair h = fair
 lost book seat true fair h = record {
   marks = fair.marks;
@@ -84,15 +94,24 @@ lost book seat true fair h = record {
 }
 
 same_or_not : (a b : ℕ) → (a ≡ b) ⊎ (a ≢ b)
-same_or_not a b = elim (cases_order a b) [ inl e ↦ inl e | inr h ↦ inr (λ e. elim h [ inl l ↦ omega arith | inr l ↦ omega arith ]) ]
+same_or_not a b = elim (cases_order a b) [
+  | inl e ↦ inl e
+  | inr h ↦ inr (λ e. elim h [ inl l ↦ omega arith | inr l ↦ omega arith ])
+]
 
 -- a mark that is set counts where it is the job's own
 mark_set : (book : BookState) (k job : ℕ) → k < length book.marks → is_marked book k ≡ false
     → one_if (unwrap_or (slice_get (set book.marks k true) job) false) ≡ one_if (is_marked book job) + one_if (k == job)
 mark_set book k job here unset = elim (same_or_not k job) [
-  | inl e ↦ (let a : unwrap_or (slice_get (set book.marks k true) job) false ≡ true = unwrap_or-slice_get (set book.marks k true) job false ∙ ap (λ q. get_or (set book.marks k true) q false) (sym e) ∙ get_or-set_same book.marks k true false here in
-      let b : is_marked book job ≡ false = ap (is_marked book) (sym e) ∙ unset in let t : (k == job) ≡ true = test_true k job e in rw (a, b, t) refl)
-  | inr n ↦ (let a : unwrap_or (slice_get (set book.marks k true) job) false ≡ is_marked book job = unwrap_or-slice_get (set book.marks k true) job false ∙ get_or-set_other book.marks k job true false (λ e. n (sym e)) ∙ sym (unwrap_or-slice_get book.marks job false) in
+  | inl e ↦ (let a : unwrap_or (slice_get (set book.marks k true) job) false ≡ true =
+      unwrap_or-slice_get (set book.marks k true) job false
+      ∙ ap (λ q. get_or (set book.marks k true) q false) (sym e) ∙ get_or-set_same book.marks k true false here in
+      let b : is_marked book job ≡ false = ap (is_marked book) (sym e) ∙ unset in
+      let t : (k == job) ≡ true = test_true k job e in rw (a, b, t) refl)
+  | inr n ↦ (let a : unwrap_or (slice_get (set book.marks k true) job) false ≡ is_marked book job =
+      unwrap_or-slice_get (set book.marks k true) job false
+      ∙ get_or-set_other book.marks k job true false (λ e. n (sym e))
+      ∙ sym (unwrap_or-slice_get book.marks job false) in
       let t : (k == job) ≡ false = test_false k job n in rw (a, t) (sym (add-zero _)))
 ]
   where
@@ -102,14 +121,16 @@ mark_set book k job here unset = elim (same_or_not k job) [
     test_false : (a b : ℕ) → a ≢ b → (a == b) ≡ false
     test_false a b n = grind (arith, nat_tests)
 
-settled : (book : BookState) (seat k : ℕ) (b : Bool) → IsFair book → (b ≡ true → (k < book.jobs) × (acts book seat ≡ true) × (is_marked book k ≡ false))
+settled : (book : BookState) (seat k : ℕ) (b : Bool) → IsFair book →
+    (b ≡ true → (k < book.jobs) × (acts book seat ≡ true) × (is_marked book k ≡ false))
     → IsFair (if b then record (on_seat book seat (with_kept k)) { marks = set book.marks k true } else book)
 settled book seat k false fair h = fair
 settled book seat k true fair h = record {
   marks = length-set book.marks k true ∙ fair.marks;
   next = fair.next;
   drawn = λ n. same_seats (drawn_in n) book seat (with_kept k) (λ s. refl) (h refl).1 ∙ fair.drawn n;
-  kept = λ job. seat_change (kept_in job) book seat (one_if (k == job)) (with_kept k) (λ s. pushed k job s.kept) (h refl).1
+  kept = λ job. seat_change (kept_in job) book seat (one_if (k == job)) (with_kept k) (λ s. pushed k job s.kept)
+      (h refl).1
       ∙ ap (λ n. n + one_if (k == job)) (fair.kept job)
       ∙ sym (mark_set book k job (subst (λ (n : ℕ). k < n) (sym fair.marks) (h refl).0) (h refl).2);
 }
@@ -135,7 +156,8 @@ low book seat number fair h = go (slice_get book.seats seat) refl h
     below : (n next : ℕ) → 0 < one_if (nat_lt n next) → n < next
     below n next h = grind (arith, nat_tests)
 
-    go : (o : Option SeatState) → slice_get book.seats seat ≡ o → option_map_or (has_drawn number) o false ≡ true → number < book.next
+    go : (o : Option SeatState) → slice_get book.seats seat ≡ o → option_map_or (has_drawn number) o false ≡ true →
+        number < book.next
     go None e h = cc
     go (Some s) e h =
         let total = sum_by-set (drawn_in number) book.seats seat new_seat s (slice_get_within book.seats seat s e) in
@@ -147,7 +169,8 @@ low book seat number fair h = go (slice_get book.seats seat) refl h
 pub step_fair : (book : BookState) (step : Step) → IsFair book → IsFair (after book step)
 step_fair book (Draw seat) fair = drawn book seat _ fair (λ h. let p = both _ _ h in (p.0, lt_true _ _ p.1))
 step_fair book (Look seat job) fair = fair
-step_fair book (Settle seat number) fair = settled book seat (job_of book number) _ fair (λ h. let p = both _ _ h in let q = both _ _ p.1 in
+step_fair book (Settle seat number) fair = settled book seat (job_of book number) _ fair (λ h. let p = both _ _ h in
+    let q = both _ _ p.1 in
     let l = low book seat number fair q.0 in let most = fair.next in
     (mod-lt number (first_factor book.jobs book.tries number (omega arith)), p.0, not_true _ q.1))
   where
@@ -167,7 +190,8 @@ new_fair jobs tries seats =
       marks = length-replicate jobs false;
       next = omega arith;
       drawn = λ n. sum_by-replicate (drawn_in n) seats new_seat ∙ none seats ∙ sym (no_number n);
-      kept = λ j. sum_by-replicate (kept_in j) seats new_seat ∙ none seats ∙ ap one_if (sym (unwrap_or-slice_get (replicate jobs false) j false ∙ all_open jobs j));
+      kept = λ j. sum_by-replicate (kept_in j) seats new_seat ∙ none seats
+          ∙ ap one_if (sym (unwrap_or-slice_get (replicate jobs false) j false ∙ all_open jobs j));
     }
   where
     none : (n : ℕ) → n * 0 ≡ 0

@@ -1,5 +1,7 @@
 -- The rule of a board, as sums over its views and facts about its words.
-use Rattle.std.proofs.Common.{◌≡◌, ◌≢◌, ◌==◌, ◌⊎◌, ℕ, zero, suc, ◌+◌, ◌-◌, ◌*◌, ◌<◌, ◌≤◌, List, [], ◌∷◌, ◌++◌, Bool, true, false, ◌||◌, length, set, get_or, slice_index, map, drop, nat_lt, if◌then◌else◌, unwrap_or, true≢false, refl, sym, ap, ◌∙◌, subst, ⊎_elim, inl, inr, arith, count_by}
+use Rattle.std.proofs.Common.{◌≡◌, ◌≢◌, ◌==◌, ◌⊎◌, ℕ, zero, suc, ◌+◌, ◌-◌, ◌*◌, ◌<◌, ◌≤◌, List, [], ◌∷◌, ◌++◌, Bool}
+use Rattle.std.proofs.Common.{true, false, ◌||◌, length, set, get_or, slice_index, map, drop, nat_lt, if◌then◌else◌}
+use Rattle.std.proofs.Common.{unwrap_or, true≢false, refl, sym, ap, ◌∙◌, subst, ⊎_elim, inl, inr, arith, count_by}
 use Rattle.std.specs.List.{sum_by, slice_get, list_any, All}
 use Rattle.std.proofs.lemmas.Bool.Decides.{nat_tests}
 use Rattle.std.proofs.lemmas.List.Sums.{sum_by-cons, sum_by-append}
@@ -60,11 +62,14 @@ sum_seats f (v ∷ vs) =
     omega arith
 
 -- a job is marked where its word isn't 0
-pub marked_shown : (k : Extent) (ws : List ℕ) (vs : List View) (j : ℕ) → is_marked (shown k ws vs) j ≡ nat_lt 0 (mark_of ws j)
+pub marked_shown : (k : Extent) (ws : List ℕ) (vs : List View) (j : ℕ) →
+    is_marked (shown k ws vs) j ≡ nat_lt 0 (mark_of ws j)
 marked_shown k [] vs j = refl
-marked_shown k (x ∷ ws) vs j = let e : suc j ≡ j + 1 = omega arith in go ws j ∙ ap (λ (n : ℕ). nat_lt 0 (slice_index (x ∷ ws) n)) e
+marked_shown k (x ∷ ws) vs j = let e : suc j ≡ j + 1 = omega arith in
+    go ws j ∙ ap (λ (n : ℕ). nat_lt 0 (slice_index (x ∷ ws) n)) e
   where
-    go : (ws : List ℕ) (j : ℕ) → unwrap_or (slice_get (map (λ word. nat_lt 0 word) ws) j) false ≡ nat_lt 0 (slice_index ws j)
+    go : (ws : List ℕ) (j : ℕ) → unwrap_or (slice_get (map (λ word. nat_lt 0 word) ws) j) false
+        ≡ nat_lt 0 (slice_index ws j)
     go [] j = refl
     go (x ∷ ws) zero = refl
     go (x ∷ ws) (suc j) = go ws j
@@ -73,7 +78,8 @@ pub held_of : (k : Extent) (s : State (Unit {0}) View) → IsKept k s → Held k
 held_of k s h = record {
   wide = h.wide;
   drawn = λ x. sym (sum_seats (drawn_in x) s.views) ∙ h.drawn x;
-  kept = λ j. sym (sum_seats (kept_in j) s.views) ∙ h.kept j ∙ ap (λ (b : Bool). if b then 1 else 0) (marked_shown k s.words s.views j);
+  kept = λ j. sym (sum_seats (kept_in j) s.views) ∙ h.kept j
+      ∙ ap (λ (b : Bool). if b then 1 else 0) (marked_shown k s.words s.views j);
   numbers = h.numbers;
   shares = h.shares;
   room = h.room;
@@ -86,7 +92,8 @@ pub kept_of : (k : Extent) (s : State (Unit {0}) View) → Held k s → IsKept k
 kept_of k s h = record {
   wide = h.wide;
   drawn = λ x. sum_seats (drawn_in x) s.views ∙ h.drawn x;
-  kept = λ j. sum_seats (kept_in j) s.views ∙ h.kept j ∙ ap (λ (b : Bool). if b then 1 else 0) (sym (marked_shown k s.words s.views j));
+  kept = λ j. sum_seats (kept_in j) s.views ∙ h.kept j
+      ∙ ap (λ (b : Bool). if b then 1 else 0) (sym (marked_shown k s.words s.views j));
   numbers = h.numbers;
   shares = h.shares;
   room = h.room;
@@ -127,7 +134,8 @@ Stays old new = (j : ℕ) → 0 < mark_of old j → mark_of new j ≡ mark_of ol
 pub same_marks : (ws : List ℕ) → Stays ws ws
 same_marks ws j p = refl
 
-pub own_on : (jobs : ℕ) (old new : List ℕ) (v w : View) → Stays old new → w.kept ≡ v.kept → w.under ≡ v.under → MarksOwn jobs old v → MarksOwn jobs new w
+pub own_on : (jobs : ℕ) (old new : List ℕ) (v w : View) → Stays old new → w.kept ≡ v.kept → w.under ≡ v.under →
+    MarksOwn jobs old v → MarksOwn jobs new w
 own_on jobs old new v w stay kept under o = record {
   jobs_of = kept ∙ o.jobs_of ∙ ap (map (job_among jobs)) (sym under);
   marks = λ number p.
@@ -158,7 +166,8 @@ times_append x xs ys = sum_by-append (λ y. if y == x then 1 else 0) xs ys
 
 -- what holds of each number that is found in a list holds of its elements
 pub all_found : (P : ℕ → Type 0) (xs : List ℕ) → ((x : ℕ) → list_any (λ y. y == x) xs ≡ true → P x) → All P xs
-all_found P xs each k d below = each (get_or xs k d) (list_any_at (λ y. y == get_or xs k d) xs k d below (itself (get_or xs k d)))
+all_found P xs each k d below = each (get_or xs k d)
+    (list_any_at (λ y. y == get_or xs k d) xs k d below (itself (get_or xs k d)))
   where
     itself : (n : ℕ) → (n == n) ≡ true
     itself n = grind (arith, nat_tests)

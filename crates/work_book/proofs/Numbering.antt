@@ -1,5 +1,7 @@
 -- A draw keeps the rule.
-use Rattle.std.proofs.Common.{◌≡◌, ◌==◌, ℕ, zero, suc, ◌+◌, ◌-◌, ◌%◌, ◌^◌, ◌<◌, ◌≤◌, min, List, [], ◌∷◌, Bool, true, false, length, set, slice_index, nat_lt, if◌then◌else◌, true≢false, refl, sym, ap, ◌∙◌, subst, arith}
+use Rattle.std.proofs.Common.{◌≡◌, ◌==◌, ℕ, zero, suc, ◌+◌, ◌-◌, ◌%◌, ◌^◌, ◌<◌, ◌≤◌, min, List, [], ◌∷◌, Bool, true}
+use Rattle.std.proofs.Common.{false, length, set, slice_index, nat_lt, if◌then◌else◌, true≢false, refl, sym, ap, ◌∙◌}
+use Rattle.std.proofs.Common.{subst, arith}
 use Rattle.std.specs.List.{sum_by, All}
 use Rattle.std.proofs.Math.Nat.{mod-eq_of_lt}
 use Rattle.std.proofs.Math.Decide.{dec_lt}
@@ -15,7 +17,8 @@ use Rattle.work_book.specs.Moves.{Mine, Draws}
 use Rattle.work_book.specs.declared.rule.View.{View}
 use Rattle.work_book.specs.declared.rule.Extent.{Extent}
 use Rattle.work_book.proofs.Counts.{sum_set, sum_at, sum_le}
-use Rattle.work_book.proofs.Held.{Held, held_of, kept_of, limit_of, draws_of, keeps_of, times, times_append, once_below, once_set, once_below_at, Grows, fits_set, own_on, own_set, all_counted}
+use Rattle.work_book.proofs.Held.{Held, held_of, kept_of, limit_of, draws_of, keeps_of, times, times_append, once_below}
+use Rattle.work_book.proofs.Held.{once_set, once_below_at, Grows, fits_set, own_on, own_set, all_counted}
 
 -- one number more is drawn
 once_more : (x n : ℕ) → once_below x n + times x (n ∷ []) ≡ once_below x (n + 1)
@@ -45,15 +48,18 @@ module _ (ws : List ℕ) (m : ℕ) (some_words : 0 < length ws) where
 
 -- a step of the first word to n + 1, n being what it was, after which the view is w
 draw_keeps : (k : Extent) (id : ℕ) (v w : View) (s : State (Unit {0}) View) → Held k s → get_elem? s.views id ≡ some v
-    → ((x : ℕ) → times x w.drawn + once_below x (next_of (limit_of k) s.words) ≡ times x v.drawn + once_below x (min (slice_index s.words 0 + 1) (limit_of k)))
-    → w.kept ≡ v.kept → w.under ≡ v.under → w.share ≡ v.share → slice_index s.words 0 + 1 + sum_by untold (set s.views id w) ≤ limit_of k + 65536
+    → ((x : ℕ) → times x w.drawn + once_below x (next_of (limit_of k) s.words)
+    ≡ times x v.drawn + once_below x (min (slice_index s.words 0 + 1) (limit_of k)))
+    → w.kept ≡ v.kept → w.under ≡ v.under → w.share ≡ v.share →
+    slice_index s.words 0 + 1 + sum_by untold (set s.views id w) ≤ limit_of k + 65536
     → Fits (limit_of k) (set s.words 0 (slice_index s.words 0 + 1)) w
     → IsKept k record { words = set s.words 0 (slice_index s.words 0 + 1); homes = s.homes; views = set s.views id w }
 draw_keeps k id v w s h at numbers keeps_same under_same shares_same roomy fit =
     let n : ℕ = slice_index s.words 0 in
     let wide : 0 < length s.words = let a = h.wide in omega arith in
     let now : slice_index (set s.words 0 (n + 1)) 0 ≡ n + 1 = number_now s.words (n + 1) wide in
-    let next : next_of (limit_of k) (set s.words 0 (n + 1)) ≡ min (n + 1) (limit_of k) = ap (λ (z : ℕ). min z (limit_of k)) now in
+    let next : next_of (limit_of k) (set s.words 0 (n + 1)) ≡ min (n + 1) (limit_of k) =
+    ap (λ (z : ℕ). min z (limit_of k)) now in
     kept_of k _ (record {
       wide = length-set s.words 0 (n + 1) ∙ h.wide;
       drawn = λ x.
@@ -66,7 +72,8 @@ draw_keeps k id v w s h at numbers keeps_same under_same shares_same roomy fit =
           let a = sum_set (keeps_of j) s.views id v w at in
           let b : times j w.kept ≡ times j v.kept = ap (times j) keeps_same in
           let c = h.kept j in
-          let d : once_set (mark_of (set s.words 0 (n + 1)) j) ≡ once_set (mark_of s.words j) = ap once_set (mark_same s.words (n + 1) wide j) in
+          let d : once_set (mark_of (set s.words 0 (n + 1)) j) ≡ once_set (mark_of s.words j) =
+          ap once_set (mark_same s.words (n + 1) wide j) in
           omega arith;
       numbers = λ j some_mark.
           let same = mark_same s.words (n + 1) wide j in
@@ -77,18 +84,28 @@ draw_keeps k id v w s h at numbers keeps_same under_same shares_same roomy fit =
       shares = let a = sum_set share_of s.views id v w at in let b = h.shares in omega arith;
       room = omega (arith, now);
       few = h.few;
-      fits = fits_set (limit_of k) s.words (set s.words 0 (n + 1)) s.views id w (number_grows s.words (n + 1) wide (omega arith)) h.fits fit;
+      fits = fits_set (limit_of k) s.words (set s.words 0 (n + 1)) s.views id w
+          (number_grows s.words (n + 1) wide (omega arith)) h.fits fit;
       own =
           own_set k.jobs s.words (set s.words 0 (n + 1)) s.views id w (λ j p. mark_same s.words (n + 1) wide j) h.own
-          (own_on k.jobs s.words (set s.words 0 (n + 1)) v w (λ j p. mark_same s.words (n + 1) wide j) keeps_same under_same (h.own id v at));
+          (own_on k.jobs s.words (set s.words 0 (n + 1)) v w (λ j p. mark_same s.words (n + 1) wide j) keeps_same
+          under_same (h.own id v at));
     })
 
-no_wrap : (k : Extent) (s : State (Unit {0}) View) → Held k s → (slice_index s.words 0 + 1) % 2 ^ 64 ≡ slice_index s.words 0 + 1
-no_wrap k s h = let a = h.room in let b = h.few in let lt : slice_index s.words 0 + 1 < 2 ^ 64 = omega arith in mod-eq_of_lt lt
+no_wrap : (k : Extent) (s : State (Unit {0}) View) → Held k s →
+    (slice_index s.words 0 + 1) % 2 ^ 64 ≡ slice_index s.words 0 + 1
+no_wrap k s h = let a = h.room in let b = h.few in let lt : slice_index s.words 0 + 1 < 2 ^ 64 = omega arith in
+    mod-eq_of_lt lt
 
-module _ (k : Extent) (slots id : ℕ) (me : Mine) (new : me.0.told ≡ false) (live : 1 ≤ me.0.share) (of_board : me.0.limit ≡ limit_of k) where
-  draws_low : (s : State (Unit {0}) View) → Held k s → get_elem? s.views id ≡ some me.0 → slice_index s.words 0 < limit_of k
-      → IsKept k record { words = set s.words 0 (slice_index s.words 0 + 1); homes = s.homes; views = set s.views id (drew (slice_index s.words 0) me.0) }
+module _ (k : Extent) (slots id : ℕ) (me : Mine) (new : me.0.told ≡ false) (live : 1
+    ≤ me.0.share) (of_board : me.0.limit ≡ limit_of k) where
+  draws_low : (s : State (Unit {0}) View) → Held k s → get_elem? s.views id ≡ some me.0 →
+      slice_index s.words 0 < limit_of k
+      → IsKept k record {
+        words = set s.words 0 (slice_index s.words 0 + 1);
+        homes = s.homes;
+        views = set s.views id (drew (slice_index s.words 0) me.0);
+      }
   draws_low s h at low =
       let n : ℕ = slice_index s.words 0 in
       let v = me.0 in
@@ -99,13 +116,16 @@ module _ (k : Extent) (slots id : ℕ) (me : Mine) (new : me.0.told ≡ false) (
       (λ x.
       let a = times_append x v.drawn (n ∷ []) in
       let b = once_more x n in
-      let c : once_below x (min n (limit_of k)) ≡ once_below x n = let e : min n (limit_of k) ≡ n = omega arith in ap (λ (z : ℕ). once_below x z) e in
-      let d : once_below x (min (n + 1) (limit_of k)) ≡ once_below x (n + 1) = let e : min (n + 1) (limit_of k) ≡ n + 1 = omega arith in ap (λ (z : ℕ). once_below x z) e in
+      let c : once_below x (min n (limit_of k)) ≡ once_below x n = let e : min n (limit_of k) ≡ n = omega arith in
+      ap (λ (z : ℕ). once_below x z) e in
+      let d : once_below x (min (n + 1) (limit_of k)) ≡ once_below x (n + 1) =
+      let e : min (n + 1) (limit_of k) ≡ n + 1 = omega arith in ap (λ (z : ℕ). once_below x z) e in
       omega arith)
       refl
       refl
       refl
-      (let a = sum_set untold s.views id v w at in let b = sum_le untold share_of untold_le s.views in let c = h.shares in omega arith)
+      (let a = sum_set untold s.views id v w at in let b = sum_le untold share_of untold_le s.views in
+      let c = h.shares in omega arith)
       record {
         limited = λ p. of_board;
         told = λ t. absurd (true≢false (sym t ∙ new));
@@ -113,8 +133,13 @@ module _ (k : Extent) (slots id : ℕ) (me : Mine) (new : me.0.told ≡ false) (
         known = λ j p. let a = mine.known j p in let b = mark_same s.words (n + 1) wide j in omega arith;
       }
 
-  draws_high : (s : State (Unit {0}) View) → Held k s → get_elem? s.views id ≡ some me.0 → limit_of k ≤ slice_index s.words 0
-      → IsKept k record { words = set s.words 0 (slice_index s.words 0 + 1); homes = s.homes; views = set s.views id (told_nothing me.0) }
+  draws_high : (s : State (Unit {0}) View) → Held k s → get_elem? s.views id ≡ some me.0 →
+      limit_of k ≤ slice_index s.words 0
+      → IsKept k record {
+        words = set s.words 0 (slice_index s.words 0 + 1);
+        homes = s.homes;
+        views = set s.views id (told_nothing me.0);
+      }
   draws_high s h at high =
       let n : ℕ = slice_index s.words 0 in
       let v = me.0 in
@@ -123,7 +148,8 @@ module _ (k : Extent) (slots id : ℕ) (me : Mine) (new : me.0.told ≡ false) (
       let wide : 0 < length s.words = let a = h.wide in omega arith in
       draw_keeps k id v w s h at
       (λ x.
-      let c : once_below x (min n (limit_of k)) ≡ once_below x (min (n + 1) (limit_of k)) = let e : min n (limit_of k) ≡ min (n + 1) (limit_of k) = omega arith in ap (λ (z : ℕ). once_below x z) e in
+      let c : once_below x (min n (limit_of k)) ≡ once_below x (min (n + 1) (limit_of k)) =
+      let e : min n (limit_of k) ≡ min (n + 1) (limit_of k) = omega arith in ap (λ (z : ℕ). once_below x z) e in
       omega arith)
       refl
       refl
@@ -136,26 +162,39 @@ module _ (k : Extent) (slots id : ℕ) (me : Mine) (new : me.0.told ≡ false) (
         known = λ j p. let a = mine.known j p in let b = mark_same s.words (n + 1) wide j in omega arith;
       }
 
-  below : (s : State (Unit {0}) View) → Held k s → get_elem? s.views id ≡ some me.0 → slice_index s.words 0 < limit_of k → All (λ drawn. drawn < slice_index s.words 0) me.0.drawn
+  below : (s : State (Unit {0}) View) → Held k s → get_elem? s.views id ≡ some me.0 →
+      slice_index s.words 0 < limit_of k → All (λ drawn. drawn < slice_index s.words 0) me.0.drawn
   below s h at low = all_counted (λ drawn. drawn < slice_index s.words 0) me.0.drawn
-      (λ x there. let a = sum_at (draws_of x) s.views id me.0 at in let b = h.drawn x in let c = once_below_at x (next_of (limit_of k) s.words) (omega arith) in omega arith)
+      (λ x there. let a = sum_at (draws_of x) s.views id me.0 at in let b = h.drawn x in
+      let c = once_below_at x (next_of (limit_of k) s.words) (omega arith) in omega arith)
 
   pub draws : Allows (IsKept k) slots id me 0 (λ n. (n + 1) % 2 ^ 64) (Draws (step slots 0 1 0 none) me)
   draws s kept len at fit = let h = held_of k s kept in go h (dec_lt (slice_index s.words 0) (limit_of k))
     where
-      go : Held k s → Dec (slice_index s.words 0 < limit_of k) → (w : View) × (a : Act (Unit {0})) × Valid s.homes me.1 a
-          × IsKept k (stepped s 0 ((slice_index s.words 0 + 1) % 2 ^ 64) id me.1 w a) × Draws (step slots 0 1 0 none) me (slice_index s.words 0) (w, carried_after me.1 a)
+      go : Held k s → Dec (slice_index s.words 0 < limit_of k) →
+          (w : View) × (a : Act (Unit {0})) × Valid s.homes me.1 a
+          × IsKept k (stepped s 0 ((slice_index s.words 0 + 1) % 2 ^ 64) id me.1 w a)
+          × Draws (step slots 0 1 0 none) me (slice_index s.words 0) (w, carried_after me.1 a)
       go h (yes low) = (
         drew (slice_index s.words 0) me.0,
         keeps,
         tt,
-        subst (λ (z : ℕ). IsKept k record { words = set s.words 0 z; homes = s.homes; views = set s.views id (drew (slice_index s.words 0) me.0) }) (sym (no_wrap k s h)) (draws_low s h at low),
+        subst (λ (z : ℕ). IsKept k record {
+          words = set s.words 0 z;
+          homes = s.homes;
+          views = set s.views id (drew (slice_index s.words 0) me.0);
+        }) (sym (no_wrap k s h))
+            (draws_low s h at low),
         (refl, (λ p. (refl, below s h at low)), (λ p. absurd (omega arith))),
       )
       go h (no high) = (
         told_nothing me.0,
         keeps,
         tt,
-        subst (λ (z : ℕ). IsKept k record { words = set s.words 0 z; homes = s.homes; views = set s.views id (told_nothing me.0) }) (sym (no_wrap k s h)) (draws_high s h at (omega arith)),
+        subst (λ (z : ℕ). IsKept k record {
+          words = set s.words 0 z;
+          homes = s.homes;
+          views = set s.views id (told_nothing me.0);
+        }) (sym (no_wrap k s h)) (draws_high s h at (omega arith)),
         (refl, (λ p. absurd (high (omega arith))), (λ p. refl)),
       )

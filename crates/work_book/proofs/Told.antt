@@ -17,7 +17,8 @@ next_within limit words = omega arith
 pub some_run : (v : View) (closed : Closed) → IsSomeRun v closed
 some_run v closed ends whole =
     let book : BookState = book_of closed (v ∷ []) in
-    let run = leads closed.jobs closed.tries book.next (is_marked book) (next_within (closed.jobs * closed.tries) (slots_items closed.words.words)) ends.numbers in
+    let run = leads closed.jobs closed.tries book.next (is_marked book)
+    (next_within (closed.jobs * closed.tries) (slots_items closed.words.words)) ends.numbers in
     let fair = reached_fair closed.jobs closed.tries 1 run.0 in (
       run.0,
       record {

@@ -34,9 +34,11 @@ IsLease board lease = (lease ≡ lease_among board.jobs lease.number) × (lease.
 abbrev pub HasDrawn : View → Lease → Type 0
 HasDrawn v lease = has_drawn lease.number (seat_of v) ≡ true
 
--- a lease goes to a seat that wasn't told yet that all numbers are drawn, and its number is above all that the seat drew
+-- a lease goes to a seat that wasn't told yet that all numbers are drawn, and its number is above all that the seat
+-- drew
 abbrev pub Drawn : Board → View → Draw → View → Type 0
-Drawn board v (Draw.Lease lease) w = (w ≡ drew lease.number v) × All (λ drawn. drawn < lease.number) v.drawn × IsLease board lease × (v.told ≡ false)
+Drawn board v (Draw.Lease lease) w = (w ≡ drew lease.number v) × All (λ drawn. drawn < lease.number) v.drawn
+    × IsLease board lease × (v.told ≡ false)
 Drawn board v Nothing w = w ≡ told_nothing v
 
 -- the seat has the lease that it was given
@@ -44,24 +46,30 @@ abbrev pub HasGiven : View → Draw → Type 0
 HasGiven w (Draw.Lease lease) = HasDrawn w lease
 HasGiven w Nothing = Unit {0}
 
--- a job is kept, under the lease's number, only where the seat didn't know it to be settled; either way it knows so from then on
+-- a job is kept, under the lease's number, only where the seat didn't know it to be settled; either way it knows so
+-- from then on
 abbrev pub SettledAs : View → Lease → Settled → View → Type 0
 SettledAs v lease Kept w = (w ≡ keeping lease.job lease.number v) × (knows v lease.job ≡ false)
 SettledAs v lease Double w = w ≡ knowing lease.job v
 
 -- the book that a closed board shows, with these seats
 abbrev pub book_of : Closed → List View → BookState
-book_of closed views = shown (record { jobs = closed.jobs; tries = closed.tries }) (slots_items closed.words.words) views
+book_of closed views = shown (record {
+  jobs = closed.jobs;
+  tries = closed.tries;
+}) (slots_items closed.words.words) views
 
 -- each settled job was settled under a number that was drawn for it
 abbrev pub AreSettledAsDrawn : BookState → Type 0
-AreSettledAsDrawn book = (job : ℕ) → is_marked book job ≡ true → (number : ℕ) × (number < book.next) × (job_among book.jobs number ≡ job)
+AreSettledAsDrawn book = (job : ℕ) → is_marked book job ≡ true →
+    (number : ℕ) × (number < book.next) × (job_among book.jobs number ≡ job)
 
 -- the mark that a closed board has for a job
 abbrev pub mark_in : Closed → ℕ → ℕ
 mark_in closed job = mark_of (slots_items closed.words.words) job
 
--- what a board shows of the seat with which it is closed. A seat with every share is the only one that is left, and then
+-- what a board shows of the seat with which it is closed. A seat with every share is the only one that is left, and
+-- then
 -- its lists are those of the whole book: each number below the next one once, and each settled job once
 pub record Closes (v : View) (closed : Closed) : Type 0 where
   pub drawn : All (λ number. number < (book_of closed (v ∷ [])).next) v.drawn

@@ -1,5 +1,6 @@
 -- The book: the next number, a mark for each job, and the seats.
-use Rattle.std.specs.Prelude.{◌≡◌, ◌<◌, ◌≤◌, ◌*◌, ◌%◌, ℕ, Bool, false, not, List, slice_get, slice_set, length, unwrap_or, replicate}
+use Rattle.std.specs.Prelude.{◌≡◌, ◌<◌, ◌≤◌, ◌*◌, ◌%◌, ℕ, Bool, false, not, List, slice_get, slice_set, length}
+use Rattle.std.specs.Prelude.{unwrap_or, replicate}
 use Rattle.std.specs.List.{All}
 use Rattle.std.specs.Option.{option_map_or}
 use Rattle.work_book.specs.Seat.{SeatState, new_seat, has_drawn}
@@ -15,7 +16,13 @@ pub record BookState : Type 0 where
 
 -- before the first step: no number drawn, no job settled
 abbrev pub new_book : ℕ → ℕ → ℕ → BookState
-new_book jobs tries seats = record { jobs = jobs; tries = tries; next = 0; marks = replicate jobs false; seats = replicate seats new_seat }
+new_book jobs tries seats = record {
+  jobs = jobs;
+  tries = tries;
+  next = 0;
+  marks = replicate jobs false;
+  seats = replicate seats new_seat;
+}
 
 -- the seat is there and not lost
 abbrev pub acts : BookState → ℕ → Bool
@@ -39,7 +46,10 @@ is_marked book job = unwrap_or (slice_get book.marks job) false
 
 -- the book with one seat changed
 abbrev pub on_seat : BookState → ℕ → (SeatState → SeatState) → BookState
-on_seat book seat change = record book { seats = option_map_or (λ s. slice_set book.seats seat (change s)) (slice_get book.seats seat) book.seats }
+on_seat book seat change = record book {
+  seats =
+      option_map_or (λ s. slice_set book.seats seat (change s)) (slice_get book.seats seat) book.seats;
+}
 
 -- each number that a seat drew is below n
 abbrev pub AllDrawnBelow : ℕ → List SeatState → Type 0

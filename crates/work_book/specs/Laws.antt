@@ -33,7 +33,8 @@ AreKeptOnce book = (job : ℕ) → kept_count job book ≡ (if is_marked book jo
 
 -- the book before a step that answers `Nothing` has all its numbers drawn
 abbrev pub IsNothingLast : BookState → List Step → Type 0
-IsNothingLast book steps = (k : ℕ) → slice_get (answers_of book steps) k ≡ Some Nothing → (run_of book (take k steps)).next ≡ book.jobs * book.tries
+IsNothingLast book steps = (k : ℕ) → slice_get (answers_of book steps) k ≡ Some Nothing →
+    (run_of book (take k steps)).next ≡ book.jobs * book.tries
 
 -- the book after a run
 abbrev pub reached : ℕ → ℕ → ℕ → List Step → BookState

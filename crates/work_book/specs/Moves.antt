@@ -13,7 +13,8 @@ Mine = Me (Unit {0}) View
 -- the number found is the seat's, and above all that it drew, where it is below the limit; else all numbers are drawn
 abbrev pub Draws : Step (Unit {0}) → Mine → ℕ → Mine → Type 0
 Draws s v found w =
-    (w.1 ≡ v.1) × (found < v.0.limit → (w.0 ≡ drew found v.0) × All (λ drawn. drawn < found) v.0.drawn) × (v.0.limit ≤ found → w.0 ≡ told_nothing v.0)
+    (w.1 ≡ v.1) × (found < v.0.limit → (w.0 ≡ drew found v.0) × All (λ drawn. drawn < found) v.0.drawn)
+    × (v.0.limit ≤ found → w.0 ≡ told_nothing v.0)
 
 -- no number and no job stands twice in a view
 pub record IsOnce (v : View) : Type 0 where
@@ -27,9 +28,12 @@ Shows s v found w = (w.1 ≡ v.1) × (w.0 ≡ stepped v.0) × IsOnce v.0 × (v.0
 -- a job whose word is 0 wasn't known to be settled; one whose word isn't 0 is known from then on
 abbrev pub Looks : Step (Unit {0}) → Mine → ℕ → Mine → Type 0
 Looks s v found w =
-    (w.1 ≡ v.1) × (found ≡ 0 → (w.0 ≡ stepped v.0) × (knows v.0 (s.word - 1) ≡ false)) × (0 < found → w.0 ≡ knowing (s.word - 1) v.0)
+    (w.1 ≡ v.1) × (found ≡ 0 → (w.0 ≡ stepped v.0) × (knows v.0 (s.word - 1) ≡ false))
+    × (0 < found → w.0 ≡ knowing (s.word - 1) v.0)
 
--- a job whose word was 0 is kept, under the number that its word is set to, less 1, and settled from then on; one whose word wasn't 0 was settled before
+-- a job whose word was 0 is kept, under the number that its word is set to, less 1, and settled from then on; one whose
+-- word wasn't 0 was settled before
 abbrev pub Settles : Step (Unit {0}) → Mine → ℕ → Mine → Type 0
 Settles s v found w =
-    (w.1 ≡ v.1) × (found ≡ 0 → (w.0 ≡ keeping (s.word - 1) (s.second - 1) v.0) × (knows v.0 (s.word - 1) ≡ false)) × (0 < found → w.0 ≡ knowing (s.word - 1) v.0)
+    (w.1 ≡ v.1) × (found ≡ 0 → (w.0 ≡ keeping (s.word - 1) (s.second - 1) v.0) × (knows v.0 (s.word - 1) ≡ false))
+    × (0 < found → w.0 ≡ knowing (s.word - 1) v.0)

@@ -21,7 +21,8 @@ pub record Fits (limit : ℕ) (words : List ℕ) (v : View) : Type 0 where
 
 -- a mark that is set is a number that was drawn for the job, plus 1
 abbrev pub AreNumbers : BookState → List ℕ → Type 0
-AreNumbers book words = (job : ℕ) → 0 < mark_of words job → (mark_of words job ≤ book.next) × (job_among book.jobs (mark_of words job - 1) ≡ job)
+AreNumbers book words = (job : ℕ) → 0 < mark_of words job →
+    (mark_of words job ≤ book.next) × (job_among book.jobs (mark_of words job - 1) ≡ job)
 
 -- each job that a seat kept is that of the number under which it settled it, and the job's mark is this number, plus 1
 pub record MarksOwn (jobs : ℕ) (words : List ℕ) (v : View) : Type 0 where

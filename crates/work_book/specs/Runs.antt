@@ -16,4 +16,5 @@ pub record TellsTheSame (a b : BookState) : Type 0 where
 
 -- a board that is closed by the only seat left, of which joined seats are parts, tells what some run of one seat tells
 abbrev pub IsSomeRun : View → Closed → Type 0
-IsSomeRun v closed = Closes v closed → v.share ≡ 65536 → (steps : List Step) × TellsTheSame (reached closed.jobs closed.tries 1 steps) (book_of closed (v ∷ []))
+IsSomeRun v closed = Closes v closed → v.share ≡ 65536 →
+    (steps : List Step) × TellsTheSame (reached closed.jobs closed.tries 1 steps) (book_of closed (v ∷ []))

@@ -39,7 +39,10 @@ after book (Draw seat) =
 after book (Look seat job) = book
 after book (Settle seat number) =
     if acts book seat && (seat_has book seat number && not (is_marked book (job_of book number)))
-    then record (on_seat book seat (with_kept (job_of book number))) { marks = slice_set book.marks (job_of book number) true }
+    then record (on_seat book seat (with_kept (job_of book number))) {
+      marks =
+          slice_set book.marks (job_of book number) true;
+    }
     else book
 after book (Loss seat) = if acts book seat then on_seat book seat as_lost else book
 

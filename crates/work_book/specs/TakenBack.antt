@@ -11,7 +11,8 @@ use Rattle.work_book.specs.declared.steps.Answer.TheVariants.{Lease, Kept, Lost}
 -- the book before a step that got this answer
 abbrev pub taken_back : BookState → Step → Answer → BookState
 taken_back book (Draw seat) (Lease lease) = record (on_seat book seat without_last_drawn) { next = lease.number }
-taken_back book (Settle seat number) Kept = record (on_seat book seat without_last_kept) { marks = slice_set book.marks (job_of book number) false }
+taken_back book (Settle seat number) Kept =
+    record (on_seat book seat without_last_kept) { marks = slice_set book.marks (job_of book number) false }
 taken_back book (Loss seat) Lost = on_seat book seat as_present
 taken_back book step answer = book
 

@@ -12,9 +12,19 @@ seat_of v = record { drawn = v.drawn; kept = v.kept; lost = false }
 abbrev pub knows : View → ℕ → Bool
 knows v job = list_any (λ known. known == job) v.known
 
--- the seat that a board is made with: it drew nothing, knows of no settled job, and has every share. Numbers stop at the limit
+-- the seat that a board is made with: it drew nothing, knows of no settled job, and has every share. Numbers stop at
+-- the limit
 abbrev pub first_view : ℕ → View
-first_view limit = record { drawn = []; kept = []; under = []; known = []; told = false; share = 65536; limit = limit; steps = 0 }
+first_view limit = record {
+  drawn = [];
+  kept = [];
+  under = [];
+  known = [];
+  told = false;
+  share = 65536;
+  limit = limit;
+  steps = 0;
+}
 
 -- what a join leaves of the seat that is taken in
 abbrev pub spent : View
@@ -32,7 +42,8 @@ less_one v = record v { share = v.share - 1; steps = v.steps + 1 }
 abbrev pub split_off : View → View
 split_off v = record v { drawn = []; kept = []; under = []; share = 1; steps = 0 }
 
--- a seat that takes another in, by one step, has the lists, the shares and the steps of both, and knows what either knows
+-- a seat that takes another in, by one step, has the lists, the shares and the steps of both, and knows what either
+-- knows
 abbrev pub merged : View → View → View
 merged v w = record {
   drawn = v.drawn ++ w.drawn;

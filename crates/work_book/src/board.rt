@@ -110,7 +110,8 @@ impl Board {
         requires job { job < self.now.jobs }
         ensures board { IsOf self.now seat.new }
         ensures settled { IsTrue result → seen_by seat.new ≡ knowing job (seen_by seat.old) }
-        ensures unsettled { IsFalse result → (seen_by seat.new ≡ stepped (seen_by seat.old)) × (knows (seen_by seat.old) job ≡ false) }
+        ensures unsettled { IsFalse result → (seen_by seat.new ≡ stepped (seen_by seat.old))
+            × (knows (seen_by seat.old) job ≡ false) }
     {
         let mark = self
             .table

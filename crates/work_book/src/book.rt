@@ -1,5 +1,6 @@
 //! The book, and its steps.
-ghost use Rattle.std.specs.Prelude.{◌≡◌, ◌<◌, ◌≤◌, ◌&&◌, true, length, slice_get, Some, IfOk, OnOk, OnErr, replicate, false};
+ghost use Rattle.std.specs.Prelude.{◌≡◌, ◌<◌, ◌≤◌, ◌&&◌, true, length, slice_get, Some, IfOk, OnOk, OnErr, replicate};
+ghost use Rattle.std.specs.Prelude.{false};
 ghost use Rattle.std.specs.Option.{option_map};
 ghost use Rattle.work_book.specs.Book.{BookState, IsSameSize, new_book, is_marked};
 ghost use Rattle.work_book.specs.Book as state;
@@ -33,9 +34,21 @@ impl Model for Book {
 
     ghost Value = { BookState };
 
-    ghost view = { λ b. record { jobs = b.jobs; tries = b.tries; next = b.next; marks = b.marks.items; seats = b.seats.items } };
+    ghost view = { λ b. record {
+      jobs = b.jobs;
+      tries = b.tries;
+      next = b.next;
+      marks = b.marks.items;
+      seats = b.seats.items;
+    } };
 
-    ghost invariant = { λ b. IsBook (record { jobs = b.jobs; tries = b.tries; next = b.next; marks = b.marks.items; seats = b.seats.items }) };
+    ghost invariant = { λ b. IsBook (record {
+      jobs = b.jobs;
+      tries = b.tries;
+      next = b.next;
+      marks = b.marks.items;
+      seats = b.seats.items;
+    }) };
 }
 
 impl Book {

@@ -29,7 +29,8 @@ module _ (decides : Decides) (was_told : WasTold) where
   any_ended board v ending.Vanished h = (h.0, h.1, tt)
   any_ended board v ending.Short h = h
 
-  any_worked : (board : Board) (s : StudyData) (w : Worked) → WorkedFor board s decides was_told w → WorkedFor board s any_decides any_told w
+  any_worked : (board : Board) (s : StudyData) (w : Worked) → WorkedFor board s decides was_told w →
+      WorkedFor board s any_decides any_told w
   any_worked board s w h = record {
     of_board = h.of_board;
     holds = h.holds;
@@ -37,7 +38,8 @@ module _ (decides : Decides) (was_told : WasTold) where
     ended = any_ended board (seen_by w.seat) w.ending h.ended;
   }
 
-  any_fault : (s : StudyData) (board : Board) (workers : ℕ) (start v : View) (e : RunFault) → IsFaultOf s decides was_told board workers start v e
+  any_fault : (s : StudyData) (board : Board) (workers : ℕ) (start v : View) (e : RunFault) →
+      IsFaultOf s decides was_told board workers start v e
       → IsFaultOf s any_decides any_told board workers start v e
   any_fault s board workers start v e (inl h) = inl h
   any_fault s board workers start v e (inr h) = inr (record {
@@ -47,6 +49,13 @@ module _ (decides : Decides) (was_told : WasTold) where
     why = h.why;
   })
 
-  pub any_new : (s : StudyData) (workers tries : ℕ) (e : RunFault) → IsFaultOfNew s decides was_told workers tries e → IsFaultOfNew s any_decides any_told workers tries e
+  pub any_new : (s : StudyData) (workers tries : ℕ) (e : RunFault) → IsFaultOfNew s decides was_told workers tries e →
+      IsFaultOfNew s any_decides any_told workers tries e
   any_new s workers tries e (inl h) = inl h
-  any_new s workers tries e (inr h) = inr (record { board = h.board; jobs = h.jobs; tries_are = h.tries_are; view = h.view; why = any_fault s h.board workers _ h.view e h.why })
+  any_new s workers tries e (inr h) = inr (record {
+    board = h.board;
+    jobs = h.jobs;
+    tries_are = h.tries_are;
+    view = h.view;
+    why = any_fault s h.board workers _ h.view e h.why;
+  })

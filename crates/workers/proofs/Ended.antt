@@ -1,5 +1,6 @@
 -- What a run of workers ends with.
-use Rattle.std.proofs.Common.{◌≡◌, ◌<◌, ℕ, zero, suc, List, [], ◌∷◌, Bool, true, false, not, nat_eq, Result, Ok, Err, inr, length, nat_lt, refl, ap, sym, ◌∙◌, arith}
+use Rattle.std.proofs.Common.{◌≡◌, ◌<◌, ℕ, zero, suc, List, [], ◌∷◌, Bool, true, false, not, nat_eq, Result, Ok, Err}
+use Rattle.std.proofs.Common.{inr, length, nat_lt, refl, ap, sym, ◌∙◌, arith}
 use Rattle.std.proofs.lemmas.Bool.Decides.{nat_tests}
 use Rattle.std.specs.Prelude.{IfErr, IfOk}
 use Rattle.std.specs.List.{All}
@@ -30,31 +31,39 @@ module _ (s : StudyData) (v : View) (places : PlacesData) (was : AreFilledAs s v
   matrix_ended (Ok m) done = matrix_of s places m (all_filled s v.kept places m was done) done
   matrix_ended (Err e) done = done
 
-  pub shape_ended : (r : Result MatrixData RunFault) → StudyFits s → IfOk r (λ m. IsFinished places m) → IfOk r (λ m. HasShape s m)
+  pub shape_ended : (r : Result MatrixData RunFault) → StudyFits s → IfOk r (λ m. IsFinished places m) →
+      IfOk r (λ m. HasShape s m)
   shape_ended (Ok m) fits done = shape_of s places m fits (all_filled s v.kept places m was done) done
   shape_ended (Err e) fits done = done
 
-  pub kept_ended : (r : Result MatrixData RunFault) → IsOnce v → IfOk r (λ m. IsFinished places m) → IfOk r (λ m. KeptEachJob s v)
+  pub kept_ended : (r : Result MatrixData RunFault) → IsOnce v → IfOk r (λ m. IsFinished places m) →
+      IfOk r (λ m. KeptEachJob s v)
   kept_ended (Ok m) once done = each_kept s v places m was done once
   kept_ended (Err e) once done = done
 
 -- what the workers left is why there is no matrix
-pub fault_ended : (s : StudyData) (decides : Decides) (was_told : WasTold) (board : Board) (workers : ℕ) (start v : View) (worked : List Worked) (r : Result MatrixData RunFault)
-    → AreWorked board s decides was_told worked → v ≡ joined (without workers start) worked → IfErr r (λ e. IsWhy s v worked e)
+pub fault_ended : (s : StudyData) (decides : Decides) (was_told : WasTold) (board : Board) (workers : ℕ)
+    (start v : View) (worked : List Worked) (r : Result MatrixData RunFault)
+    → AreWorked board s decides was_told worked → v ≡ joined (without workers start) worked →
+    IfErr r (λ e. IsWhy s v worked e)
     → IfErr r (λ e. IsFaultOf s decides was_told board workers start v e)
 fault_ended s decides was_told board workers start v worked (Ok m) ended view_is h = h
-fault_ended s decides was_told board workers start v worked (Err e) ended view_is h = inr (record { worked = worked; ended = ended; view_is = view_is; why = h })
+fault_ended s decides was_told board workers start v worked (Err e) ended view_is h =
+    inr (record { worked = worked; ended = ended; view_is = view_is; why = h })
 
 pub none_told : (was_told : WasTold) → AreTold was_told []
 none_told was_told k d below = absurd (omega (arith, below))
 
 -- what is so of each kept job is so of those of a seat that took others in
-pub kept_told : (was_told : WasTold) (v : View) (worked : List Worked) → AreTold was_told v.kept → All (λ w. AreTold was_told (seen_by w.seat).kept) worked
+pub kept_told : (was_told : WasTold) (v : View) (worked : List Worked) → AreTold was_told v.kept →
+    All (λ w. AreTold was_told (seen_by w.seat).kept) worked
     → AreTold was_told (joined v worked).kept
 kept_told was_told v [] mine theirs = mine
 kept_told was_told v (w ∷ worked) mine theirs =
     kept_told was_told (stepped (merged v (seen_by w.seat))) worked
-    (All-append (λ job. (lease : Lease) × (lease.job ≡ job) × was_told lease Kept) v.kept (seen_by w.seat).kept mine (All-head (λ w. AreTold was_told (seen_by w.seat).kept) w worked theirs))
+    (All-append (λ job. (lease : Lease) × (lease.job ≡ job)
+    × was_told lease Kept) v.kept (seen_by w.seat).kept mine
+    (All-head (λ w. AreTold was_told (seen_by w.seat).kept) w worked theirs))
     (All-tail (λ w. AreTold was_told (seen_by w.seat).kept) w worked theirs)
 
 some_eq : (n : ℕ) → nat_eq (suc n) 0 ≡ false
@@ -68,18 +77,21 @@ not_none zero = refl
 not_none (suc n) = ap not (some_eq n) ∙ sym (some_lt n)
 
 -- where workers gave something back some were started
-pub started_is : (worked : List Worked) (n : ℕ) (empty : Bool) → n ≡ length worked → empty ≡ nat_eq n 0 → not empty ≡ nat_lt 0 (length worked)
+pub started_is : (worked : List Worked) (n : ℕ) (empty : Bool) → n ≡ length worked → empty ≡ nat_eq n 0 →
+    not empty ≡ nat_lt 0 (length worked)
 started_is worked n empty long is = ap not is ∙ not_none n ∙ ap (nat_lt 0) long
 
 lt_of : (n : ℕ) → nat_lt 0 n ≡ true → 0 < n
 lt_of n h = grind (arith, nat_tests)
 
 -- whether some are there
-pub some_are : (worked : List Worked) (started : Bool) → started ≡ nat_lt 0 (length worked) → started ≡ true → 0 < length worked
+pub some_are : (worked : List Worked) (started : Bool) → started ≡ nat_lt 0 (length worked) → started ≡ true →
+    0 < length worked
 some_are worked started is h = lt_of (length worked) (sym is ∙ h)
 
 -- two matrices of a study are one
-pub one_matrix : (s : StudyData) (r q : Result MatrixData RunFault) → IfOk r (λ m. IsMatrix s m) → IfOk q (λ m. IsMatrix s m) → IfOk r (λ one. IfOk q (λ many. one ≡ many))
+pub one_matrix : (s : StudyData) (r q : Result MatrixData RunFault) → IfOk r (λ m. IsMatrix s m) →
+    IfOk q (λ m. IsMatrix s m) → IfOk r (λ one. IfOk q (λ many. one ≡ many))
 one_matrix s (Ok m) (Ok w) h g = matrix_unique s m w h g
 one_matrix s (Ok m) (Err e) h g = g
 one_matrix s (Err e) q h g = h

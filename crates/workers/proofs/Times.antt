@@ -1,5 +1,6 @@
 -- How often a job stands in a list.
-use Rattle.std.proofs.Common.{◌≡◌, ◌==◌, ℕ, ◌+◌, ◌<◌, ◌≤◌, List, [], ◌∷◌, ◌++◌, ◌⊎◌, inl, inr, true, refl, arith, if◌then◌else◌}
+use Rattle.std.proofs.Common.{◌≡◌, ◌==◌, ℕ, ◌+◌, ◌<◌, ◌≤◌, List, [], ◌∷◌, ◌++◌, ◌⊎◌, inl, inr, true, refl, arith}
+use Rattle.std.proofs.Common.{if◌then◌else◌}
 use Rattle.std.specs.List.{All}
 use Rattle.std.proofs.lemmas.List.Elements.{All-head, All-tail}
 use Rattle.std.proofs.lemmas.List.Sums.{sum_by-cons, sum_by-append}
@@ -23,7 +24,8 @@ same_true x job h = grind (arith, nat_tests)
 pub some_in : (job : ℕ) (xs ys : List ℕ) → 0 < times job (xs ++ ys) → (0 < times job xs) ⊎ (0 < times job ys)
 some_in job xs ys h = let e = times_append job xs ys in go (dec_lt 0 (times job xs)) e
   where
-    go : Dec (0 < times job xs) → times job (xs ++ ys) ≡ times job xs + times job ys → (0 < times job xs) ⊎ (0 < times job ys)
+    go : Dec (0 < times job xs) → times job (xs ++ ys) ≡ times job xs + times job ys →
+        (0 < times job xs) ⊎ (0 < times job ys)
     go (yes p) e = inl p
     go (no p) e = inr (omega arith)
 

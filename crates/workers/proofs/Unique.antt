@@ -1,5 +1,6 @@
 -- Rows and matrices are unique.
-use Rattle.std.proofs.Common.{◌≡◌, ◌<◌, ◌+◌, ◌*◌, ◌/◌, ◌%◌, ℕ, List, [], ◌∷◌, Option, Some, length, get_or, refl, sym, ap, ◌∙◌, subst}
+use Rattle.std.proofs.Common.{◌≡◌, ◌<◌, ◌+◌, ◌*◌, ◌/◌, ◌%◌, ℕ, List, [], ◌∷◌, Option, Some, length, get_or, refl, sym}
+use Rattle.std.proofs.Common.{ap, ◌∙◌, subst}
 use Rattle.std.specs.List.{slice_get, AllZip}
 use Rattle.std.proofs.lemmas.List.{same_lists}
 use Rattle.std.proofs.lemmas.Option.{slice_get-get_or}
@@ -16,14 +17,16 @@ use Rattle.workers.specs.Laws.{RowsAreUnique, RowsDependOnTheirNetwork, Matrices
 
 module _ (times : Times) (opportunities limits : List ℕ) (destinations : List StopNo) where
   -- what a share gives is unique
-  share_unique : (share : ℕ) (some other : CellsData) → IsOfShare times opportunities limits destinations share some → IsOfShare times opportunities limits destinations share other → some ≡ other
+  share_unique : (share : ℕ) (some other : CellsData) → IsOfShare times opportunities limits destinations share some →
+      IsOfShare times opportunities limits destinations share other → some ≡ other
   share_unique share some other h g =
       let all = cells_unique times share h.all g.all h.all_are g.all_are in
       let cells = h.cells_are ∙ ap (λ (c : List (Option ℕ)). at_stops destinations c) all ∙ sym g.cells_are in
       let access = h.access_is ∙ ap (λ (c : List (Option ℕ)). sums_of c opportunities limits) all ∙ sym g.access_is in
       λ i. record { cells = cells i; access = access i }
 
-  shares_unique : (shares : List ℕ) (some others : List CellsData) → AllZip (IsOfShare times opportunities limits destinations) shares some
+  shares_unique : (shares : List ℕ) (some others : List CellsData) →
+      AllZip (IsOfShare times opportunities limits destinations) shares some
       → AllZip (IsOfShare times opportunities limits destinations) shares others → some ≡ others
   shares_unique [] [] [] h g = refl
   shares_unique [] [] (y ∷ ys) h g = absurd g
@@ -38,16 +41,20 @@ module _ (times : Times) (opportunities limits : List ℕ) (destinations : List 
 -- what a network gives is unique
 pub row_unique : RowsAreUnique
 row_unique n origin opportunities q some other h g =
-    let times : g.times ≡ h.times = durations_unique n origin q.window q.rides g.times h.times g.durations h.durations in
+    let times : g.times ≡ h.times = durations_unique n origin q.window q.rides g.times h.times g.durations h.durations
+    in
     shares_unique h.times opportunities q.limits q.destinations q.shares some other h.shares_are
-    (subst (λ (t : Times). AllZip (IsOfShare t opportunities q.limits q.destinations) q.shares other) times g.shares_are)
+    (subst (λ (t : Times). AllZip (IsOfShare t opportunities q.limits q.destinations) q.shares other) times
+    g.shares_are)
 
 inner : {A : Type 0} (x y : A) → Some x ≡ Some y → x ≡ y
 inner x y e = cc
 
 -- of equal networks, equal stops and the same question too
-pub same_given : (s t : StudyData) (scenario of_other origin from_other : ℕ) (row other : RowData) → s.opportunities ≡ t.opportunities → s.query ≡ t.query
-    → slice_get s.networks scenario ≡ slice_get t.networks of_other → slice_get s.origins origin ≡ slice_get t.origins from_other
+pub same_given : (s t : StudyData) (scenario of_other origin from_other : ℕ) (row other : RowData) →
+    s.opportunities ≡ t.opportunities → s.query ≡ t.query
+    → slice_get s.networks scenario ≡ slice_get t.networks of_other →
+    slice_get s.origins origin ≡ slice_get t.origins from_other
     → IsRowOf s scenario origin row → IsRowOf t of_other from_other other → row.shares ≡ other.shares
 same_given s t scenario of_other origin from_other row other opportunities query networks origins h g =
     let network : h.network ≡ g.network = inner h.network g.network (sym h.network_is ∙ networks ∙ g.network_is) in
@@ -68,9 +75,14 @@ same_row s t scenario of_other origin row other same networks h g =
     (ap (λ (o : List StopNo). slice_get o origin) same.origins) h g
 
 -- a place of a study has one row
-place_unique : (s : StudyData) (scenario origin : ℕ) (row other : RowData) → IsRowOf s scenario origin row → IsRowOf s scenario origin other → row ≡ other
+place_unique : (s : StudyData) (scenario origin : ℕ) (row other : RowData) → IsRowOf s scenario origin row →
+    IsRowOf s scenario origin other → row ≡ other
 place_unique s scenario origin row other h g =
-    let shares = same_row s s scenario scenario origin row other (record { origins = refl; opportunities = refl; query = refl }) refl h g in
+    let shares = same_row s s scenario scenario origin row other (record {
+      origins = refl;
+      opportunities = refl;
+      query = refl;
+    }) refl h g in
     let study = h.study_is ∙ sym g.study_is in
     let scenarios = h.scenario_is ∙ sym g.scenario_is in
     let origins = h.origin_is ∙ sym g.origin_is in
@@ -93,7 +105,16 @@ matrix_unique s m w h g =
     let in_origins = origin_below m.scenarios m.origins k low in
     let of_m = h.rows scenario origin (get_or m.rows k d) in_scenarios in_origins
     (ap (λ j. slice_get m.rows j) place ∙ slice_get-get_or m.rows k d below) in
-    let of_w = g.rows scenario origin (get_or w.rows k d) (subst (λ n. scenario < n) scenarios in_scenarios) (subst (λ n. origin < n) origins in_origins)
-    (ap (λ n. slice_get w.rows (scenario * n + origin)) (sym origins) ∙ ap (λ j. slice_get w.rows j) place ∙ slice_get-get_or w.rows k d (subst (λ n. k < n) count below)) in
+    let of_w = g.rows scenario origin (get_or w.rows k d) (subst (λ n. scenario < n) scenarios in_scenarios)
+    (subst (λ n. origin < n) origins in_origins)
+    (ap (λ n. slice_get w.rows (scenario * n + origin)) (sym origins) ∙ ap (λ j. slice_get w.rows j) place
+    ∙ slice_get-get_or w.rows k d (subst (λ n. k < n) count below)) in
     place_unique s scenario origin (get_or m.rows k d) (get_or w.rows k d) of_m of_w) in
-    λ i. record { scenarios = scenarios i; origins = origins i; width = width i; shares = shares i; limits = limits i; rows = rows i }
+    λ i. record {
+      scenarios = scenarios i;
+      origins = origins i;
+      width = width i;
+      shares = shares i;
+      limits = limits i;
+      rows = rows i;
+    }

@@ -1,5 +1,6 @@
 -- Each row of a study that fits has a cell per destination and a sum per limit for each share.
-use Rattle.std.proofs.Common.{◌≡◌, ◌<◌, ◌==◌, ◌&&◌, ℕ, Bool, true, false, None, Some, length, get_or, sym, ap, ◌∙◌, subst, arith}
+use Rattle.std.proofs.Common.{◌≡◌, ◌<◌, ◌==◌, ◌&&◌, ℕ, Bool, true, false, None, Some, length, get_or, sym, ap, ◌∙◌}
+use Rattle.std.proofs.Common.{subst, arith}
 use Rattle.std.specs.List.{slice_get}
 use Rattle.std.proofs.lemmas.List.{length-map}
 use Rattle.std.proofs.lemmas.List.Sums.{list_all-from_AllPass}
@@ -25,18 +26,23 @@ and_true true b h k = k
 and_true false b h k = h
 
 -- each network has as many stops as there are opportunities
-pub stops_of : (s : StudyData) (k : ℕ) (n : Net) → StudyFits s → slice_get s.networks k ≡ Some n → n.stops ≡ length s.opportunities
+pub stops_of : (s : StudyData) (k : ℕ) (n : Net) → StudyFits s → slice_get s.networks k ≡ Some n →
+    n.stops ≡ length s.opportunities
 stops_of s k n fits at =
-    subst (λ (m : Net). m.stops ≡ length s.opportunities) (get_or_from_slice_get s.networks k n n at) (fits.stops k n (slice_get_within s.networks k n at))
+    subst (λ (m : Net). m.stops ≡ length s.opportunities) (get_or_from_slice_get s.networks k n n at)
+    (fits.stops k n (slice_get_within s.networks k n at))
 
 -- a row has as many cells as there are destinations, for each share
 pub cells_of : (s : StudyData) (scenario origin : ℕ) (row : RowData) → StudyFits s → IsRowOf s scenario origin row
     → HasAllCells (length s.query.shares) (length s.query.destinations) (length s.query.limits) row
 cells_of s scenario origin row fits is =
     let given = IsOfShare is.is_row.times s.opportunities s.query.limits s.query.destinations in
-    let many : length s.query.shares ≡ length row.shares = zip_length given s.query.shares row.shares is.is_row.shares_are in
-    let of_share : (k : ℕ) (d : CellsData) → k < length row.shares → given (get_or s.query.shares k 0) (get_or row.shares k d) =
-    λ k d below. zip_at given s.query.shares row.shares k 0 d is.is_row.shares_are (subst (λ n. k < n) (sym many) below) in
+    let many : length s.query.shares ≡ length row.shares =
+    zip_length given s.query.shares row.shares is.is_row.shares_are in
+    let of_share : (k : ℕ) (d : CellsData) → k < length row.shares →
+    given (get_or s.query.shares k 0) (get_or row.shares k d) =
+    λ k d below. zip_at given s.query.shares row.shares k 0 d is.is_row.shares_are (subst (λ n. k < n) (sym many) below)
+    in
     record {
       shares_are = sym many;
       cells = λ k d below.
@@ -48,10 +54,12 @@ cells_of s scenario origin row fits is =
     }
 
 -- so such a row has all the cells that the places of the study ask for
-pub is_whole_row : (s : StudyData) (places : PlacesData) (scenario origin : ℕ) (row : RowData) → StudyFits s → ArePlaces s places → IsRowOf s scenario origin row
+pub is_whole_row : (s : StudyData) (places : PlacesData) (scenario origin : ℕ) (row : RowData) → StudyFits s →
+    ArePlaces s places → IsRowOf s scenario origin row
     → has_all_cells places row ≡ true
 is_whole_row s places scenario origin row fits are is =
     let has = cells_of s scenario origin row fits is in
     and_true _ _ (eq_test _ _ (has.shares_are ∙ sym are.shares))
     (list_all-from_AllPass (is_whole places.width places.limits) row.shares
-    (λ k d below. and_true _ _ (eq_test _ _ (has.cells k d below ∙ sym are.width)) (eq_test _ _ (has.access k d below ∙ sym are.limits))))
+    (λ k d below. and_true _ _ (eq_test _ _ (has.cells k d below ∙ sym are.width))
+    (eq_test _ _ (has.access k d below ∙ sym are.limits))))

@@ -25,7 +25,8 @@ times job jobs = count_by (λ x. x == job) jobs
 
 -- what stands in one of two lists stands in the other
 abbrev pub HaveSameJobs : List ℕ → List ℕ → Type 0
-HaveSameJobs some other = (job : ℕ) → (0 < times job some → 0 < times job other) × (0 < times job other → 0 < times job some)
+HaveSameJobs some other = (job : ℕ) → (0 < times job some → 0 < times job other)
+    × (0 < times job other → 0 < times job some)
 
 -- the job of a row, by its scenario and origin
 abbrev pub job_of_row : StudyData → RowData → ℕ
@@ -67,14 +68,17 @@ KnowsAsMuch v w = (job : ℕ) → knows v job ≡ true → knows w job ≡ true
 abbrev pub IsDone : Decides → Lease → View → Type 0
 IsDone decides lease v = (knows v lease.job ≡ true) ⊎ decides lease Lose
 
--- why a worker ended: all numbers are drawn, and nothing is left to do with those that it drew; or the gate decided that the
+-- why a worker ended: all numbers are drawn, and nothing is left to do with those that it drew; or the gate decided
+-- that the
 -- worker vanishes at a lease that it drew; or it ran out of memory, before it was told so
 abbrev pub HasEnded : Decides → Board → View → Ending → Type 0
-HasEnded decides board v ending.Nothing = (v.told ≡ true) × All (λ number. IsDone decides (lease_among board.jobs number) v) v.drawn
+HasEnded decides board v ending.Nothing =
+    (v.told ≡ true) × All (λ number. IsDone decides (lease_among board.jobs number) v) v.drawn
 HasEnded decides board v ending.Vanished = (lease : Lease) × HasDrawn v lease × decides lease Vanish
 HasEnded decides board v ending.Short = v.told ≡ false
 
--- what a worker does after a lease: it draws another where nothing is left to do; else the gate decided that it vanishes, or it
+-- what a worker does after a lease: it draws another where nothing is left to do; else the gate decided that it
+-- vanishes, or it
 -- ran out of memory
 abbrev pub LeavesAs : Decides → Lease → View → Next → Type 0
 LeavesAs decides lease v next.Draw = IsDone decides lease v
@@ -82,10 +86,12 @@ LeavesAs decides lease v (next.End ending.Nothing) = ⊥
 LeavesAs decides lease v (next.End ending.Vanished) = decides lease Vanish
 LeavesAs decides lease v (next.End ending.Short) = ⊤
 
--- what a worker promises: its seat is of the board, its rows are the study's, of exactly the jobs that its seat kept, the gate was
+-- what a worker promises: its seat is of the board, its rows are the study's, of exactly the jobs that its seat kept,
+-- the gate was
 -- told of each of them, and the worker ended for this reason
-pub record WorkedFor (board : Board) (s : StudyData) (decides : Decides) (was_told : WasTold) (w : Worked) : Type 0 where
-  pub of_board : IsOf board w.seat
-  pub holds : HoldsRows s w.rows.items (seen_by w.seat).kept
-  pub told : AreTold was_told (seen_by w.seat).kept
-  pub ended : HasEnded decides board (seen_by w.seat) w.ending
+pub record WorkedFor (board : Board) (s : StudyData) (decides : Decides) (was_told : WasTold) (w : Worked) : Type 0
+  where
+    pub of_board : IsOf board w.seat
+    pub holds : HoldsRows s w.rows.items (seen_by w.seat).kept
+    pub told : AreTold was_told (seen_by w.seat).kept
+    pub ended : HasEnded decides board (seen_by w.seat) w.ending

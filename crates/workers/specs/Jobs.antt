@@ -1,4 +1,5 @@
--- The jobs of a study, one per scenario and origin, as one seat does them: what one job changes, and how far the seat is.
+-- The jobs of a study, one per scenario and origin, as one seat does them: what one job changes, and how far the seat
+-- is.
 use Rattle.std.specs.Prelude.{◌≡◌, ◌≢◌, ℕ, ◌*◌, ◌/◌, ◌%◌, ◌<◌, ◌≤◌, true, false, Some, None, length}
 use Rattle.work_book.specs.Book.{BookState, acts, is_marked}
 use Rattle.work_book.specs.Steps.{answer_of, after}
@@ -37,7 +38,8 @@ pub record HasNoJob (old new : BookState) (places offered : PlacesData) : Type 0
 -- the places of a study before its first row
 abbrev pub places_without_rows : StudyData → PlacesData
 places_without_rows s =
-    empty_places s.number (length s.networks) (length s.origins) (length s.query.destinations) (length s.query.shares) (length s.query.limits)
+    empty_places s.number (length s.networks) (length s.origins) (length s.query.destinations) (length s.query.shares)
+    (length s.query.limits)
 
 -- the places are those of a study, one per job
 pub record ArePlaces (s : StudyData) (places : PlacesData) : Type 0 where
@@ -51,7 +53,8 @@ pub record ArePlaces (s : StudyData) (places : PlacesData) : Type 0 where
 
 -- the jobs below n have their rows
 abbrev pub AreFilledBelow : StudyData → ℕ → PlacesData → Type 0
-AreFilledBelow s n places = (job : ℕ) → job < n → (row : RowData) × (row_at places job ≡ Some row) × IsRowOfJob s job row
+AreFilledBelow s n places = (job : ℕ) → job < n →
+    (row : RowData) × (row_at places job ≡ Some row) × IsRowOfJob s job row
 
 -- on the way: the jobs below the next number are done, and no other is settled or has a row
 pub record IsUnderWay (s : StudyData) (book : BookState) (places : PlacesData) : Type 0 where

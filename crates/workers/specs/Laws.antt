@@ -26,13 +26,20 @@ with_columns destinations given = record { cells = at_stops destinations given.c
 -- a law: a row has, for each destination, the cell that the row of all stops has there, and the same access
 abbrev pub RowsHaveTheirColumns : Type 0
 RowsHaveTheirColumns =
-    (n : Net) (origin : ℕ) (opportunities : List ℕ) (q : Query) (destinations : List StopNo) (whole some : List CellsData) →
+    (n : Net) (origin : ℕ) (opportunities : List ℕ) (q : Query) (destinations : List StopNo)
+    (whole some : List CellsData) →
     q.destinations ≡ all_stops n → IsRow n origin opportunities q whole →
-    IsRow n origin opportunities (record q { destinations = destinations }) some → some ≡ map (with_columns destinations) whole
+    IsRow n origin opportunities (record q { destinations = destinations }) some →
+    some ≡ map (with_columns destinations) whole
 
 -- a row with the cells of some stops alone
 abbrev pub row_at : List StopNo → RowData → RowData
-row_at destinations row = record { study = row.study; scenario = row.scenario; origin = row.origin; shares = map (with_columns destinations) row.shares }
+row_at destinations row = record {
+  study = row.study;
+  scenario = row.scenario;
+  origin = row.origin;
+  shares = map (with_columns destinations) row.shares;
+}
 
 -- a matrix with the columns of some stops alone
 abbrev pub matrix_at : List StopNo → MatrixData → MatrixData
@@ -52,7 +59,8 @@ study_to destinations s = record s { query = record s.query { destinations = des
 -- a law: so the matrix of some destinations is that of all stops, with the other columns left out
 abbrev pub MatricesHaveTheirColumns : Type 0
 MatricesHaveTheirColumns =
-    (s : StudyData) (destinations : List StopNo) (whole some : MatrixData) → All (λ n. s.query.destinations ≡ all_stops n) s.networks →
+    (s : StudyData) (destinations : List StopNo) (whole some : MatrixData) →
+    All (λ n. s.query.destinations ≡ all_stops n) s.networks →
     IsMatrix s whole → IsMatrix (study_to destinations s) some → some ≡ matrix_at destinations whole
 
 -- two studies ask the same of their networks

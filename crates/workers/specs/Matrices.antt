@@ -22,7 +22,8 @@ pub record HasAllCells (shares width limits : ℕ) (row : RowData) : Type 0 wher
   pub cells : All (λ (given : CellsData). length given.cells ≡ width) row.shares
   pub access : All (λ (given : CellsData). length given.access ≡ limits) row.shares
 
--- a matrix has a row per scenario and origin, and each row has, for each share, a cell per destination and a sum per limit
+-- a matrix has a row per scenario and origin, and each row has, for each share, a cell per destination and a sum per
+-- limit
 pub record HasShape (s : StudyData) (m : MatrixData) : Type 0 where
   pub scenarios : m.scenarios ≡ length s.networks
   pub origins : m.origins ≡ length s.origins

@@ -50,11 +50,14 @@ is_some_short worked = list_any (λ w. is_short w.ending) worked
 abbrev pub IsWhy : StudyData → View → List Worked → RunFault → Type 0
 IsWhy s v worked Memory = is_some_short worked ≡ true
 IsWhy s v worked Spawn = (0 < jobs_of s) × (worked ≡ [])
-IsWhy s v worked (Unfinished scenario origin) = (0 < length worked) × (is_some_short worked ≡ false) × IsFirstUnkept s v scenario origin
+IsWhy s v worked (Unfinished scenario origin) =
+    (0 < length worked) × (is_some_short worked ≡ false) × IsFirstUnkept s v scenario origin
 
--- so many seats were split off for workers; each of those that were started ended as it promised, the seat took in theirs, and
+-- so many seats were split off for workers; each of those that were started ended as it promised, the seat took in
+-- theirs, and
 -- that is why there is no matrix
-pub record IsLeft (s : StudyData) (decides : Decides) (was_told : WasTold) (board : Board) (workers : ℕ) (start v : View) (fault : RunFault) : Type 0 where
+pub record IsLeft (s : StudyData) (decides : Decides) (was_told : WasTold) (board : Board) (workers : ℕ)
+    (start v : View) (fault : RunFault) : Type 0 where
   pub worked : List Worked
   pub ended : AreWorked board s decides was_told worked
   pub view_is : v ≡ joined (without workers start) worked
@@ -63,10 +66,12 @@ pub record IsLeft (s : StudyData) (decides : Decides) (was_told : WasTold) (boar
 -- why a run of workers gave no matrix: memory ran out before the start, and nothing was drawn; or what its workers left
 abbrev pub IsFaultOf : StudyData → Decides → WasTold → Board → ℕ → View → View → RunFault → Type 0
 IsFaultOf s decides was_told board workers start v fault =
-    ((fault ≡ Memory) × (v.drawn ≡ start.drawn) × (v.kept ≡ start.kept)) ⊎ IsLeft s decides was_told board workers start v fault
+    ((fault ≡ Memory) × (v.drawn ≡ start.drawn) × (v.kept ≡ start.kept))
+    ⊎ IsLeft s decides was_told board workers start v fault
 
 -- ... on a new board, where each job is offered so often
-pub record IsFaultOnBoard (s : StudyData) (decides : Decides) (was_told : WasTold) (workers tries : ℕ) (fault : RunFault) : Type 0 where
+pub record IsFaultOnBoard (s : StudyData) (decides : Decides) (was_told : WasTold) (workers tries : ℕ)
+    (fault : RunFault) : Type 0 where
   pub board : Board
   pub jobs : board.jobs ≡ jobs_of s
   pub tries_are : board.tries ≡ tries
@@ -75,4 +80,5 @@ pub record IsFaultOnBoard (s : StudyData) (decides : Decides) (was_told : WasTol
 
 -- ... or memory ran out for the board
 abbrev pub IsFaultOfNew : StudyData → Decides → WasTold → ℕ → ℕ → RunFault → Type 0
-IsFaultOfNew s decides was_told workers tries fault = (fault ≡ Memory) ⊎ IsFaultOnBoard s decides was_told workers tries fault
+IsFaultOfNew s decides was_told workers tries fault =
+    (fault ≡ Memory) ⊎ IsFaultOnBoard s decides was_told workers tries fault

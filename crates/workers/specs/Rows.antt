@@ -1,5 +1,7 @@
--- A row: for one network and one origin, what each share of the minutes gives: the cell of each destination, and for each limit the
--- opportunities at the stops within reach, of all stops. (Cumulative opportunities, over percentiles of the travel times of a departure window.)
+-- A row: for one network and one origin, what each share of the minutes gives: the cell of each destination, and for
+-- each limit the
+-- opportunities at the stops within reach, of all stops. (Cumulative opportunities, over percentiles of the travel
+-- times of a departure window.)
 use Rattle.std.specs.Prelude.{◌≡◌, ℕ, List, Option, Some, None, map, slice_get, slice_index_or}
 use Rattle.std.specs.List.{AllZip}
 use Rattle.timetable.specs.declared.trips.StopNo.{StopNo}
@@ -28,7 +30,8 @@ abbrev pub at_stops : List StopNo → List (Option ℕ) → List (Option ℕ)
 at_stops stops cells = map (λ (stop : StopNo). slice_index_or cells stop.0 None) stops
 
 -- what a share gives, by the cells of all stops: those of the destinations, and the access of all
-pub record IsOfShare (times : Times) (opportunities limits : List ℕ) (destinations : List StopNo) (share : ℕ) (given : CellsData) : Type 0 where
+pub record IsOfShare (times : Times) (opportunities limits : List ℕ) (destinations : List StopNo) (share : ℕ)
+    (given : CellsData) : Type 0 where
   pub all : List (Option ℕ)
   pub all_are : AreCells times share all
   pub cells_are : given.cells ≡ at_stops destinations all
@@ -36,7 +39,8 @@ pub record IsOfShare (times : Times) (opportunities limits : List ℕ) (destinat
 
 -- the access sums of a share, whichever list of all stops' cells they are taken of
 abbrev pub AreSums : Times → ℕ → List ℕ → List ℕ → List ℕ → Type 0
-AreSums times share opportunities limits sums = (all : List (Option ℕ)) → AreCells times share all → sums ≡ sums_of all opportunities limits
+AreSums times share opportunities limits sums = (all : List (Option ℕ)) → AreCells times share all →
+    sums ≡ sums_of all opportunities limits
 
 -- what a network gives for an origin, share by share: it takes no more than these, and no other scenario
 pub record IsRow (n : Net) (origin : ℕ) (opportunities : List ℕ) (q : Query) (shares : List CellsData) : Type 0 where
@@ -46,7 +50,8 @@ pub record IsRow (n : Net) (origin : ℕ) (opportunities : List ℕ) (q : Query)
 
 -- what each share gives of a study's durations
 abbrev pub AreOfShares : Times → StudyData → List CellsData → Type 0
-AreOfShares times s given = AllZip (IsOfShare times s.opportunities s.query.limits s.query.destinations) s.query.shares given
+AreOfShares times s given = AllZip (IsOfShare times s.opportunities s.query.limits s.query.destinations) s.query.shares
+    given
 
 -- the row of a study's scenario and origin, by their positions
 pub record IsRowOf (s : StudyData) (scenario origin : ℕ) (row : RowData) : Type 0 where

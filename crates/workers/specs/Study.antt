@@ -11,7 +11,8 @@ use Rattle.workers.specs.declared.study.Study.{Study}
 use Rattle.rounds.specs.declared.window.TheConstants.{MOST_RIDES}
 use Rattle.workers.specs.declared.study.TheConstants.{MOST_SCENARIOS, MOST_SHARES, MOST_LIMITS}
 
--- what is asked of a network: the departures, the most rides, the shares of minutes, the limits of reach, and the destinations, whose
+-- what is asked of a network: the departures, the most rides, the shares of minutes, the limits of reach, and the
+-- destinations, whose
 -- cells a row has
 pub record Query : Type 0 where
   pub window : Window
@@ -30,7 +31,13 @@ pub record StudyData : Type 0 where
 
 -- the data of what is asked
 abbrev pub query_of : Asked → Query
-query_of a = record { window = a.window; rides = a.rides; shares = a.shares.now; limits = a.limits.now; destinations = a.destinations.now }
+query_of a = record {
+  window = a.window;
+  rides = a.rides;
+  shares = a.shares.now;
+  limits = a.limits.now;
+  destinations = a.destinations.now;
+}
 
 -- the data of a study
 abbrev pub study_of : Study → StudyData

@@ -2,7 +2,8 @@
 ghost use Rattle.std.specs.Prelude.{◌≡◌, ◌+◌, ◌<◌, ◌≤◌, ◌*◌, true, false, length, IfOk, IfErr, OnOk, OnErr};
 ghost use Rattle.workers.specs.Study.{study_of, StudyFits};
 ghost use Rattle.workers.specs.Matrices.{IsMatrix, HasShape};
-ghost use Rattle.workers.specs.Jobs.{jobs_of, IsRowOfJob, DoesJob, HasNoJob, IsUnderWay, AreFilled, places_without_rows};
+ghost use Rattle.workers.specs.Jobs.{jobs_of, IsRowOfJob, DoesJob, HasNoJob, IsUnderWay, AreFilled};
+ghost use Rattle.workers.specs.Jobs.{places_without_rows};
 
 use crate::faults::RunFault;
 use crate::rows::row_with;

@@ -105,7 +105,8 @@ fn given_of(
     requires share { share ≤ 100 }
     requires cells { AreCellsAt durations.now study.now.asked.destinations.now share cells.items }
     ensures { IfOk result (λ given.
-        IsOfShare durations.now study.now.opportunities.now study.now.asked.limits.now study.now.asked.destinations.now share given) }
+        IsOfShare durations.now study.now.opportunities.now study.now.asked.limits.now study.now.asked.destinations.now
+        share given) }
 {
     let access = sums_of(
         alloc,

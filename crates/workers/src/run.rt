@@ -55,7 +55,8 @@ pub fn run_workers<G: Gate + Sync, R: Threads + Wait + Sync>(
     ensures kept { IfOk result (λ _. KeptEachJob (study_of study.now) (seen_by seat.new)) }
     ensures told { AreTold (G.was_told gate.now) (seen_by seat.new).kept }
     ensures fault { IfErr result (λ fault.
-        IsFaultOf (study_of study.now) (G.decides gate.now) (G.was_told gate.now) board.now workers (seen_by seat.old) (seen_by seat.new) fault) }
+        IsFaultOf (study_of study.now) (G.decides gate.now) (G.was_told gate.now) board.now workers (seen_by seat.old)
+        (seen_by seat.new) fault) }
 {
     let mut collector = empty_places(alloc, study)?;
     let seats = split_all(alloc, board, seat, workers as usize)?;
@@ -75,7 +76,8 @@ fn split_all(
     requires board { IsOf board.now seat.old }
     requires share { workers < (seen_by seat.old).share }
     ensures board { IsOf board.now seat.new }
-    ensures lists { ((seen_by seat.new).drawn ≡ (seen_by seat.old).drawn) × ((seen_by seat.new).kept ≡ (seen_by seat.old).kept) }
+    ensures lists { ((seen_by seat.new).drawn ≡ (seen_by seat.old).drawn)
+        × ((seen_by seat.new).kept ≡ (seen_by seat.old).kept) }
     ensures left { IfOk result (λ _. seen_by seat.new ≡ without workers (seen_by seat.old)) }
     ensures ready { IfOk result (λ seats. AreReady board.now seats.items) }
     ensures count { IfOk result (λ seats. vec_len seats ≡ workers) }
@@ -101,7 +103,8 @@ fn gather(
     ensures once { IsOnce (seen_by seat.new) }
     ensures joined { seen_by seat.new ≡ joined (seen_by seat.old) worked.items }
     ensures short { result ≡ is_some_short worked.items }
-    ensures filled { (s : StudyData) → StudyFits s → All (λ w. HoldsRows s w.rows.items (seen_by w.seat).kept) worked.items →
+    ensures filled { (s : StudyData) → StudyFits s →
+        All (λ w. HoldsRows s w.rows.items (seen_by w.seat).kept) worked.items →
         AreFilledAs s (seen_by seat.old).kept collector.old → AreFilledAs s (seen_by seat.new).kept collector.new }
 {
     let mut short = false;
@@ -141,7 +144,8 @@ fn offer_all(collector: &mut Collector, rows: Vec<Row>)
 fn matrix_of(collector: Collector, short: bool, started: bool) -> Result<Matrix, RunFault>
     ensures full { IfOk result (λ matrix. IsFinished collector matrix) }
     ensures fault { (s : StudyData) → (v : View) → (worked : List Worked) → AreFilledAs s v.kept collector → IsOnce v →
-        short ≡ is_some_short worked → started ≡ nat_lt 0 (length worked) → IfErr result (λ fault. IsWhy s v worked fault) }
+        short ≡ is_some_short worked → started ≡ nat_lt 0 (length worked) →
+        IfErr result (λ fault. IsWhy s v worked fault) }
 {
     match collector.finish() {
         Ok(matrix) => Ok(matrix),

@@ -51,7 +51,8 @@ impl<'a, 'b, G: Gate> Task for StudyTask<'a, 'b, G> {
 
     ghost takes = { λ t seat. AreOfOneStudy t.board.now (study_of t.study.now) × IsReady t.board.now seat };
 
-    ghost gives = { λ t w. WorkedFor t.board.now (study_of t.study.now) (G.decides t.gate.now) (G.was_told t.gate.now) w };
+    ghost gives = { λ t w. WorkedFor t.board.now (study_of t.study.now) (G.decides t.gate.now) (G.was_told t.gate.now)
+        w };
 
     fn run(&self, seat: WorkSeat) -> Worked {
         work(self.alloc, self.study, self.board, seat, self.gate)

@@ -24,7 +24,8 @@ pub(crate) fn run_all<G: Gate + Sync, R: Threads + Wait + Sync>(
 ) -> Result<Vec<Worked>, AllocError>
     requires study { AreOfOneStudy board.now (study_of study.now) }
     requires seats { AreReady board.now seats.items }
-    ensures { IfOk result (λ all. AreWorked board.now (study_of study.now) (G.decides gate.now) (G.was_told gate.now) all.items) }
+    ensures { IfOk result (λ all. AreWorked board.now (study_of study.now) (G.decides gate.now) (G.was_told gate.now)
+        all.items) }
 {
     let task = StudyTask {
         alloc,

@@ -107,9 +107,11 @@ fn take<G: Gate>(
     requires job { lease.job < board.now.jobs }
     requires rows { HoldsRows (study_of study.now) hands.old.rows.items (seen_by hands.old.seat).kept }
     ensures board { IsOf board.now hands.new.seat }
-    ensures drawn { ((seen_by hands.new.seat).drawn ≡ (seen_by hands.old.seat).drawn) × ((seen_by hands.new.seat).told ≡ (seen_by hands.old.seat).told) }
+    ensures drawn { ((seen_by hands.new.seat).drawn ≡ (seen_by hands.old.seat).drawn)
+        × ((seen_by hands.new.seat).told ≡ (seen_by hands.old.seat).told) }
     ensures rows { HoldsRows (study_of study.now) hands.new.rows.items (seen_by hands.new.seat).kept }
-    ensures told { AreTold (G.was_told gate.now) (seen_by hands.old.seat).kept → AreTold (G.was_told gate.now) (seen_by hands.new.seat).kept }
+    ensures told { AreTold (G.was_told gate.now) (seen_by hands.old.seat).kept →
+        AreTold (G.was_told gate.now) (seen_by hands.new.seat).kept }
     ensures known { KnowsAsMuch (seen_by hands.old.seat) (seen_by hands.new.seat) }
     ensures next { LeavesAs (G.decides gate.now) lease (seen_by hands.new.seat) result }
 {
@@ -167,10 +169,13 @@ fn settle_once<G: Gate>(
     requires job { lease.job < board.now.jobs }
     requires rows { HoldsRows (study_of study.now) hands.old.rows.items (seen_by hands.old.seat).kept }
     ensures board { IsOf board.now hands.new.seat }
-    ensures drawn { ((seen_by hands.new.seat).drawn ≡ (seen_by hands.old.seat).drawn) × ((seen_by hands.new.seat).told ≡ (seen_by hands.old.seat).told) }
+    ensures drawn { ((seen_by hands.new.seat).drawn ≡ (seen_by hands.old.seat).drawn)
+        × ((seen_by hands.new.seat).told ≡ (seen_by hands.old.seat).told) }
     ensures rows { HoldsRows (study_of study.now) hands.new.rows.items (seen_by hands.new.seat).kept }
-    ensures heard { IfOk result (λ _. IsHeard (G.was_told gate.now) lease (seen_by hands.old.seat) (seen_by hands.new.seat)) }
-    ensures told { AreTold (G.was_told gate.now) (seen_by hands.old.seat).kept → AreTold (G.was_told gate.now) (seen_by hands.new.seat).kept }
+    ensures heard { IfOk result (λ _. IsHeard (G.was_told gate.now) lease (seen_by hands.old.seat)
+        (seen_by hands.new.seat)) }
+    ensures told { AreTold (G.was_told gate.now) (seen_by hands.old.seat).kept →
+        AreTold (G.was_told gate.now) (seen_by hands.new.seat).kept }
     ensures known { KnowsAsMuch (seen_by hands.old.seat) (seen_by hands.new.seat) }
     ensures settled { IfOk result (λ _. knows (seen_by hands.new.seat) lease.job ≡ true) }
 {
@@ -200,11 +205,14 @@ fn settle_twice<G: Gate>(
     requires job { lease.job < board.now.jobs }
     requires rows { HoldsRows (study_of study.now) hands.old.rows.items (seen_by hands.old.seat).kept }
     ensures board { IsOf board.now hands.new.seat }
-    ensures drawn { ((seen_by hands.new.seat).drawn ≡ (seen_by hands.old.seat).drawn) × ((seen_by hands.new.seat).told ≡ (seen_by hands.old.seat).told) }
+    ensures drawn { ((seen_by hands.new.seat).drawn ≡ (seen_by hands.old.seat).drawn)
+        × ((seen_by hands.new.seat).told ≡ (seen_by hands.old.seat).told) }
     ensures rows { HoldsRows (study_of study.now) hands.new.rows.items (seen_by hands.new.seat).kept }
     ensures heard { IfOk result (λ _.
-        (between : View) × IsHeard (G.was_told gate.now) lease (seen_by hands.old.seat) between × IsHeard (G.was_told gate.now) lease between (seen_by hands.new.seat)) }
-    ensures told { AreTold (G.was_told gate.now) (seen_by hands.old.seat).kept → AreTold (G.was_told gate.now) (seen_by hands.new.seat).kept }
+        (between : View) × IsHeard (G.was_told gate.now) lease (seen_by hands.old.seat) between
+        × IsHeard (G.was_told gate.now) lease between (seen_by hands.new.seat)) }
+    ensures told { AreTold (G.was_told gate.now) (seen_by hands.old.seat).kept →
+        AreTold (G.was_told gate.now) (seen_by hands.new.seat).kept }
     ensures known { KnowsAsMuch (seen_by hands.old.seat) (seen_by hands.new.seat) }
     ensures settled { IfOk result (λ _. knows (seen_by hands.new.seat) lease.job ≡ true) }
 {

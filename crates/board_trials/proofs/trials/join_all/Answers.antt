@@ -9,5 +9,6 @@ loop-one-preserved c =
     let b = c.args.board.now in
     record {
       board = c.join.ensures.board;
-      told = All-rest (λ t. IsOf b t.seat) c.in-Some.one (into_iter_items c.next.new.self) (into_iter_items c.loop-one.one-iterator) c.in-Some.ensures.steps.0 c.loop-one.invariant.told;
+      told = All-rest (λ t. IsOf b t.seat) c.in-Some.one (into_iter_items c.next.new.self)
+          (into_iter_items c.loop-one.one-iterator) c.in-Some.ensures.steps.0 c.loop-one.invariant.told;
     }

@@ -12,5 +12,6 @@ loop-stop-preserved c =
     record {
       same = search rules;
       raised = λ p within. rw c.max.ensures
-          (raised_more c.args.changes.now now c.args.stops.now c.loop-stop.stop-index none c.args.seconds here c.loop-stop.invariant.raised p (set_within now _ _ p within));
+          (raised_more c.args.changes.now now c.args.stops.now c.loop-stop.stop-index none c.args.seconds here
+          c.loop-stop.invariant.raised p (set_within now _ _ p within));
     }

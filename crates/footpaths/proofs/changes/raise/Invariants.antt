@@ -6,5 +6,7 @@ abbrev pub invariant-loop-stop : goal.invariant-loop-stop
 invariant-loop-stop l =
     record {
       same : length l.changes ≡ length l.initial.changes;
-      raised : (p : ℕ) → p < length l.changes → slice_index l.changes p ≡ longer (has_stop p (take l.stop-index l.stops)) (slice_index l.initial.changes p) l.seconds;
+      raised : (p : ℕ) → p < length l.changes →
+          slice_index l.changes p ≡ longer (has_stop p (take l.stop-index l.stops)) (slice_index l.initial.changes p)
+          l.seconds;
     }

@@ -1,45 +1,58 @@
 use Rattle.std.proofs.Common.{◌∙◌, subst, sym}
 use Rattle.std.proofs.lemmas.Result.{err_from_is_err_and}
 use Rattle.table_files.specs.Locations.{AreLocations}
-use Rattle.gtfs_tables.specs.Files.{faults_of_calendar, faults_of_calendar_dates, faults_of_routes, faults_of_stops, faults_of_trips, files_of}
+use Rattle.gtfs_tables.specs.Files.{faults_of_calendar, faults_of_calendar_dates, faults_of_routes, faults_of_stops}
+use Rattle.gtfs_tables.specs.Files.{faults_of_trips, files_of}
 use Rattle.gtfs_tables.proofs.Sound.{is_catalog}
-use Rattle.gtfs_tables.proofs.Told.{fifth_of_five, first_of_five, fourth_of_five, none_of_five, second_of_five, third_of_five}
+use Rattle.gtfs_tables.proofs.Told.{fifth_of_five, first_of_five, fourth_of_five, none_of_five, second_of_five}
+use Rattle.gtfs_tables.proofs.Told.{third_of_five}
 use Rattle.gtfs_tables.proofs.catalog.read_catalog.Goals as goal
 
 pub returns-in_err-locations-clause-fault : goal.returns-in_err-locations-clause-fault
 returns-in_err-locations-clause-fault c =
     let f = files_of c.args.files.now in
     let (e, is, same) = err_from_is_err_and c.from_residual.result c.from_residual.ensures.1 in
-    rw (is, same) (first_of_five _ (faults_of_stops f) (faults_of_routes f) (faults_of_calendar f) (faults_of_calendar_dates f) (faults_of_trips f)
+    rw (is, same) (first_of_five _ (faults_of_stops f) (faults_of_routes f) (faults_of_calendar f)
+    (faults_of_calendar_dates f) (faults_of_trips f)
     c.in_err-locations.ensures.fault)
 
 pub returns-in_err-routes-clause-fault : goal.returns-in_err-routes-clause-fault
 returns-in_err-routes-clause-fault c =
     let f = files_of c.args.files.now in
-    let (e, is, same) = err_from_is_err_and c.from_residual-in_err-routes.result c.from_residual-in_err-routes.ensures.1 in
-    rw (is, same) (second_of_five _ (faults_of_stops f) (faults_of_routes f) (faults_of_calendar f) (faults_of_calendar_dates f) (faults_of_trips f)
+    let (e, is, same) = err_from_is_err_and c.from_residual-in_err-routes.result c.from_residual-in_err-routes.ensures.1
+    in
+    rw (is, same) (second_of_five _ (faults_of_stops f) (faults_of_routes f) (faults_of_calendar f)
+    (faults_of_calendar_dates f) (faults_of_trips f)
     c.in_ok-locations.ensures.good.0 c.in_err-routes.ensures.fault)
 
 pub returns-in_err-weekly-clause-fault : goal.returns-in_err-weekly-clause-fault
 returns-in_err-weekly-clause-fault c =
     let f = files_of c.args.files.now in
-    let (e, is, same) = err_from_is_err_and c.from_residual-in_err-weekly.result c.from_residual-in_err-weekly.ensures.1 in
-    rw (is, same) (third_of_five _ (faults_of_stops f) (faults_of_routes f) (faults_of_calendar f) (faults_of_calendar_dates f) (faults_of_trips f)
+    let (e, is, same) = err_from_is_err_and c.from_residual-in_err-weekly.result c.from_residual-in_err-weekly.ensures.1
+    in
+    rw (is, same) (third_of_five _ (faults_of_stops f) (faults_of_routes f) (faults_of_calendar f)
+    (faults_of_calendar_dates f) (faults_of_trips f)
     c.in_ok-locations.ensures.good.0 c.in_ok-routes.ensures.good.0 c.in_err-weekly.ensures.fault)
 
 pub returns-in_err-dated-clause-fault : goal.returns-in_err-dated-clause-fault
 returns-in_err-dated-clause-fault c =
     let f = files_of c.args.files.now in
-    let (e, is, same) = err_from_is_err_and c.from_residual-in_err-dated.result c.from_residual-in_err-dated.ensures.1 in
-    rw (is, same) (fourth_of_five _ (faults_of_stops f) (faults_of_routes f) (faults_of_calendar f) (faults_of_calendar_dates f) (faults_of_trips f)
-    c.in_ok-locations.ensures.good.0 c.in_ok-routes.ensures.good.0 c.in_ok-weekly.ensures.good.0 c.in_err-dated.ensures.fault)
+    let (e, is, same) = err_from_is_err_and c.from_residual-in_err-dated.result c.from_residual-in_err-dated.ensures.1
+    in
+    rw (is, same) (fourth_of_five _ (faults_of_stops f) (faults_of_routes f) (faults_of_calendar f)
+    (faults_of_calendar_dates f) (faults_of_trips f)
+    c.in_ok-locations.ensures.good.0 c.in_ok-routes.ensures.good.0 c.in_ok-weekly.ensures.good.0
+    c.in_err-dated.ensures.fault)
 
 pub returns-in_err-trips-clause-fault : goal.returns-in_err-trips-clause-fault
 returns-in_err-trips-clause-fault c =
     let f = files_of c.args.files.now in
-    let (e, is, same) = err_from_is_err_and c.from_residual-in_err-trips.result c.from_residual-in_err-trips.ensures.1 in
-    rw (is, same) (fifth_of_five _ (faults_of_stops f) (faults_of_routes f) (faults_of_calendar f) (faults_of_calendar_dates f) (faults_of_trips f)
-    c.in_ok-locations.ensures.good.0 c.in_ok-routes.ensures.good.0 c.in_ok-weekly.ensures.good.0 c.in_ok-dated.ensures.good.0 c.in_err-trips.ensures.fault)
+    let (e, is, same) = err_from_is_err_and c.from_residual-in_err-trips.result c.from_residual-in_err-trips.ensures.1
+    in
+    rw (is, same) (fifth_of_five _ (faults_of_stops f) (faults_of_routes f) (faults_of_calendar f)
+    (faults_of_calendar_dates f) (faults_of_trips f)
+    c.in_ok-locations.ensures.good.0 c.in_ok-routes.ensures.good.0 c.in_ok-weekly.ensures.good.0
+    c.in_ok-dated.ensures.good.0 c.in_err-trips.ensures.fault)
 
 pub returns-clause-good : goal.returns-clause-good
 returns-clause-good c =
@@ -49,8 +62,13 @@ returns-clause-good c =
     let (no_calendar, weekly) = c.in_ok-weekly.ensures.good in
     let (no_dates, dated) = c.in_ok-dated.ensures.good in
     let (no_trips, trips) = c.in_ok-trips.ensures.good in (
-      none_of_five (faults_of_stops f) (faults_of_routes f) (faults_of_calendar f) (faults_of_calendar_dates f) (faults_of_trips f) no_stops no_routes no_calendar no_dates no_trips,
-      is_catalog f c.into_inner.result c.in_ok-routes.routes c.in_ok-weekly.field-0 c.in_ok-dated.field-0 c.in_ok-trips.trips
-          (c.into_inner.ensures ∙ locations, subst AreLocations (sym c.into_inner.ensures) c.in_ok-locations.ensures.sound)
+      none_of_five (faults_of_stops f) (faults_of_routes f) (faults_of_calendar f) (faults_of_calendar_dates f)
+          (faults_of_trips f) no_stops no_routes no_calendar no_dates no_trips,
+      is_catalog f c.into_inner.result c.in_ok-routes.routes c.in_ok-weekly.field-0 c.in_ok-dated.field-0
+          c.in_ok-trips.trips (
+            c.into_inner.ensures ∙ locations,
+            subst AreLocations (sym c.into_inner.ensures)
+                c.in_ok-locations.ensures.sound,
+          )
           (routes, c.in_ok-routes.ensures.few) weekly (dated, c.in_ok-dated.ensures.few) (trips, no_trips),
     )

@@ -9,5 +9,6 @@ returns c =
     let count = c.stop_count-stops.result in
     let marks : c.in_ok-vec.field-0.items ≡ replicate count false = search rules in
     let zeros : c.in_ok-vec-2.field-0.items ≡ replicate count 0 = search rules in
-    none_named stops _ (none_marked stops count c.in_ok-vec.field-0.items c.stop_count-stops.ensures marks) c.new.ensures.items
+    none_named stops _ (none_marked stops count c.in_ok-vec.field-0.items c.stop_count-stops.ensures marks)
+    c.new.ensures.items
     (subst (λ n. c.in_ok-vec-2.field-0.items ≡ replicate n 0) c.stop_count-stops.ensures zeros)

@@ -4,7 +4,8 @@ use Rattle.gtfs_tables.proofs.OriginFacts.{all_below, origins_below}
 use Rattle.gtfs_tables.proofs.origins.read_origins.Goals as goal
 
 pub returns-in_default-clause-stops : goal.returns-in_default-clause-stops
-returns-in_default-clause-stops c = all_below (length c.args.feed.now.stops) c.in_ok-all_stops.field-0.items c.in_ok-all_stops.ensures
+returns-in_default-clause-stops c = all_below (length c.args.feed.now.stops) c.in_ok-all_stops.field-0.items
+    c.in_ok-all_stops.ensures
 
 pub returns-in-Ok-clause-stops : goal.returns-in-Ok-clause-stops
 returns-in-Ok-clause-stops c =

@@ -9,6 +9,7 @@ invariant-loop-events l = record {
   left : into_iter_len l.events-iterator ≡ length (into_iter_items l.events-iterator);
   as_many : length (into_iter_items l.departures) ≡ length (into_iter_items l.events-iterator);
   trips : l.done.items
-      ++ trips_of (drop (length l.done.items) l.trips.ids) (drop (length l.done.items) l.trips.numbers.items) (into_iter_items l.events-iterator) (map (λ rows. rows.items) (into_iter_items l.departures))
+      ++ trips_of (drop (length l.done.items) l.trips.ids) (drop (length l.done.items) l.trips.numbers.items)
+      (into_iter_items l.events-iterator) (map (λ rows. rows.items) (into_iter_items l.departures))
       ≡ trips_of l.trips.ids l.trips.numbers.items l.fn.events.items (map (λ rows. rows.items) l.fn.departures.items);
 }

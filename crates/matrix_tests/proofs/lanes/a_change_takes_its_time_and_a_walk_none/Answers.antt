@@ -6,5 +6,6 @@ use Rattle.matrix_tests.proofs.lanes.a_change_takes_its_time_and_a_walk_none.Goa
 
 pub transfer-requires-clause-rides : goal.transfer-requires-clause-rides
 transfer-requires-clause-rides g c l p h ne =
-    let low = early 100 (slice_index c.two.result l) (slice_index (replicate 16 NEVER) l) (c.two.ensures l h) (get_or-replicate 16 l NEVER 0 h) p ne in
+    let low = early 100 (slice_index c.two.result l) (slice_index (replicate 16 NEVER) l) (c.two.ensures l h)
+    (get_or-replicate 16 l NEVER 0 h) p ne in
     omega (arith, low)

@@ -6,5 +6,6 @@ use Rattle.matrix_tests.proofs.lanes.a_walk_takes_its_seconds.Goals as goal
 
 pub walk-requires-clause-rides : goal.walk-requires-clause-rides
 walk-requires-clause-rides g c l p h ne =
-    let low = early 100 (slice_index c.two.result l) (slice_index (replicate 16 NEVER) l) (c.two.ensures l h) (get_or-replicate 16 l NEVER 0 h) p ne in
+    let low = early 100 (slice_index c.two.result l) (slice_index (replicate 16 NEVER) l) (c.two.ensures l h)
+    (get_or-replicate 16 l NEVER 0 h) p ne in
     omega (arith, low)

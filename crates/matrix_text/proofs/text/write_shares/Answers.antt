@@ -17,10 +17,13 @@ loop-share-preserved g c =
     let line = share_line c.args.name.now c.args.stop.now in
     let yielded = c.loop-share.yielded in
     let next : ℕ × CellsData = (c.in-Some.share.now, c.in-Some.given.now) in
-    let items = YieldsList-from_zip (YieldsList-from_slice c.args.shares.now cc) (YieldsList-from_slice c.args.rows.now cc) in
+    let items = YieldsList-from_zip (YieldsList-from_slice c.args.shares.now cc)
+    (YieldsList-from_slice c.args.rows.now cc) in
     let turn : (length yielded < length pairs) × (next ≡ get_or pairs (length yielded) next) =
-    YieldsList-turn items yielded c.loop-share.share-iterator c.loop-share.yielded_by c.next.result c.next.new.self (c.in-Some.share, c.in-Some.given) c.in-Some.is c.next.ensures.steps in
-    let out = subst (λ (p : ℕ × CellsData). Appends (contents c.loop-share.w) (contents c.write_share.new.w) (line p)) turn.1 c.in_ok-write_share.ensures.ok in
+    YieldsList-turn items yielded c.loop-share.share-iterator c.loop-share.yielded_by c.next.result c.next.new.self
+    (c.in-Some.share, c.in-Some.given) c.in-Some.is c.next.ensures.steps in
+    let out = subst (λ (p : ℕ × CellsData). Appends (contents c.loop-share.w) (contents c.write_share.new.w) (line p))
+    turn.1 c.in_ok-write_share.ensures.ok in
     subst (λ (k : ℕ). Appends (contents c.args.w.now) (contents c.write_share.new.w) (flat_map line (take k pairs)))
     (sym (length_push yielded (c.in-Some.share, c.in-Some.given)))
     (line_out line pairs _ _ _ (length yielded) next turn.0 c.loop-share.invariant out)
@@ -32,10 +35,13 @@ returns-in_err-write_share-clause-err g c =
     let line = share_line c.args.name.now c.args.stop.now in
     let yielded = c.loop-share.yielded in
     let next : ℕ × CellsData = (c.in-Some.share.now, c.in-Some.given.now) in
-    let items = YieldsList-from_zip (YieldsList-from_slice c.args.shares.now cc) (YieldsList-from_slice c.args.rows.now cc) in
+    let items = YieldsList-from_zip (YieldsList-from_slice c.args.shares.now cc)
+    (YieldsList-from_slice c.args.rows.now cc) in
     let turn : (length yielded < length pairs) × (next ≡ get_or pairs (length yielded) next) =
-    YieldsList-turn items yielded c.loop-share.share-iterator c.loop-share.yielded_by c.next.result c.next.new.self (c.in-Some.share, c.in-Some.given) c.in-Some.is c.next.ensures.steps in
-    let cut = subst (λ (p : ℕ × CellsData). PutsPrefix (contents c.loop-share.w) (contents c.write_share.new.w) (line p)) turn.1 c.in_err-write_share.ensures.err in
+    YieldsList-turn items yielded c.loop-share.share-iterator c.loop-share.yielded_by c.next.result c.next.new.self
+    (c.in-Some.share, c.in-Some.given) c.in-Some.is c.next.ensures.steps in
+    let cut = subst (λ (p : ℕ × CellsData). PutsPrefix (contents c.loop-share.w) (contents c.write_share.new.w)
+    (line p)) turn.1 c.in_err-write_share.ensures.err in
     let all = line_cut line pairs _ _ _ (length yielded) next turn.0 c.loop-share.invariant cut in
     search rules
 
@@ -45,7 +51,9 @@ returns-clause-ok g c =
     let pairs : List (ℕ × CellsData) = zip c.args.shares.now c.args.rows.now in
     let line = share_line c.args.name.now c.args.stop.now in
     let yielded = c.loop-share.yielded in
-    let items = YieldsList-from_zip (YieldsList-from_slice c.args.shares.now cc) (YieldsList-from_slice c.args.rows.now cc) in
-    let end = YieldsList-end items yielded c.loop-share.share-iterator c.loop-share.yielded_by c.next.result c.next.new.self c.in-None.is c.next.ensures.steps in
+    let items = YieldsList-from_zip (YieldsList-from_slice c.args.shares.now cc)
+    (YieldsList-from_slice c.args.rows.now cc) in
+    let end = YieldsList-end items yielded c.loop-share.share-iterator c.loop-share.yielded_by c.next.result
+    c.next.new.self c.in-None.is c.next.ensures.steps in
     let few : length pairs ≤ length yielded = omega (arith, end.1) in
     lines_out line pairs _ _ (length yielded) few c.loop-share.invariant

@@ -1,7 +1,8 @@
 use Rattle.std.proofs.Common.{◌≡◌, ◌≢◌, ℕ, ◌<◌, inl, inr, ◌∙◌, sym, slice_index, arith}
 use Rattle.std.proofs.lemmas.Bool.{cases_lt, false≢true}
 use Rattle.rounds.proofs.BatchRows.{lower_arrival}
-use Rattle.rounds.proofs.batches.are_told.Goals.{else-not-is_near-via-then-not-is_near+else-not-is_reached, else-not-is_near-via-else-not-is_near}
+use Rattle.rounds.proofs.batches.are_told.Goals.{else-not-is_near-via-then-not-is_near+else-not-is_reached}
+use Rattle.rounds.proofs.batches.are_told.Goals.{else-not-is_near-via-else-not-is_near}
 use Rattle.rounds.proofs.batches.are_told.Goals as goal
 
 pub loop-stop-preserved : goal.loop-stop-preserved
@@ -13,8 +14,12 @@ loop-stop-preserved g c l p h below departs never = elim (cases_lt p c.loop-stop
       rw e (elim c.else-not-is_near.branch [
         | else-not-is_near-via-then-not-is_near+else-not-is_reached w ↦
             let low =
-            lower_arrival g.R.Row.labels c.args.ride.now c.args.ready.now s l w.index-ride-stop.result w.index-ready-stop.result w.index-ride-stop.result w.index-ready-stop.result w.lower_of.result
-            w.index-ride-stop.is w.index-ready-stop.is (omega (arith, c.requires.same)) c.loop-stop-test.true (w.lower_of.ensures l h) in
+            lower_arrival g.R.Row.labels c.args.ride.now c.args.ready.now s l w.index-ride-stop.result
+            w.index-ready-stop.result w.index-ride-stop.result w.index-ready-stop.result w.lower_of.result
+            w.index-ride-stop.is w.index-ready-stop.is (omega (
+              arith,
+              c.requires.same,
+            )) c.loop-stop-test.true (w.lower_of.ensures l h) in
             absurd (w.is_reached.ensures.0 w.if-not-is_reached.false l h departs (low ∙ rw e at never))
         | else-not-is_near-via-else-not-is_near w ↦ c.is_near.ensures.0 w.if-not-is_near.false
       ])
@@ -27,11 +32,17 @@ returns-then-not-is_reached g c =
       told = (
         λ no. absurd (false≢true no),
         λ h.
-            let reached : (l : ℕ) → l < g.R.Row.LANES → slice_index (g.R.Row.labels c.args.departs) l ≢ g.R.Row.NEVER → slice_index (g.R.Row.labels c.lower_of.result) l ≢ g.R.Row.NEVER = λ l lt departs never. (
+            let reached : (l : ℕ) → l < g.R.Row.LANES → slice_index (g.R.Row.labels c.args.departs) l ≢ g.R.Row.NEVER →
+            slice_index (g.R.Row.labels c.lower_of.result) l ≢ g.R.Row.NEVER = λ l lt departs never. (
             let low =
-            lower_arrival g.R.Row.labels c.args.ride.now c.args.ready.now s l c.index-ride-stop.result c.index-ready-stop.result c.index-ride-stop.result c.index-ready-stop.result c.lower_of.result
-            c.index-ride-stop.is c.index-ready-stop.is (omega (arith, c.requires.same)) c.loop-stop-test.true (c.lower_of.ensures l lt) in
-            false≢true (sym c.if-not-is_near.true ∙ c.is_near.ensures.1 (h l s lt c.loop-stop-test.true departs (sym low ∙ never)))) in
+            lower_arrival g.R.Row.labels c.args.ride.now c.args.ready.now s l c.index-ride-stop.result
+            c.index-ready-stop.result c.index-ride-stop.result c.index-ready-stop.result c.lower_of.result
+            c.index-ride-stop.is c.index-ready-stop.is (omega (
+              arith,
+              c.requires.same,
+            )) c.loop-stop-test.true (c.lower_of.ensures l lt) in
+            false≢true (sym c.if-not-is_near.true ∙ c.is_near.ensures.1
+            (h l s lt c.loop-stop-test.true departs (sym low ∙ never)))) in
             absurd (false≢true (sym c.if-not-is_reached.true ∙ c.is_reached.ensures.1 reached)),
       );
     }

@@ -20,11 +20,17 @@ invariant-loop-i g v =
       late : AreLastFrom v.query.network.now v.query.origin.0 v.query.window.first v.query.rides v.last;
       few : (p : ℕ) → slice_index v.last p ≤ END_OF_AXIS + MOST_FOOT_SECONDS;
       last : v.i ≡ 0 → v.later ≡ NEVER;
-      next : (batch : ℕ) → batch + v.i ≡ v.batches → 0 < v.i → v.later ≡ departure v.query.window (g.R.Row.LANES * batch);
+      next : (batch : ℕ) → batch + v.i ≡ v.batches → 0 < v.i →
+          v.later ≡ departure v.query.window (g.R.Row.LANES * batch);
       many : length v.kept ≡ v.query.rides + 1;
-      bounds : (base : ℕ) → IsBaseTo g.R.Row.NEVER v.later base → AreKept g.R.Row.NEVER base v.query.network.now (start_at v.query (cut base g.R.Row.NEVER v.later)) v.query.rides v.kept;
-      each : (batch p m : ℕ) → batch + v.i ≡ v.batches → p < v.query.network.now.stops → m < v.query.window.minutes → g.R.Row.LANES * batch ≤ m →
-          IsLeastOrNever (IsDuration v.query.network.now v.query.origin.0 (departure v.query.window m) v.query.rides p) (label_of v.query.window.minutes v.labels p m);
-      dead : (batch p m : ℕ) → batch + v.i ≡ v.batches → p < v.query.network.now.stops → v.query.window.minutes ≤ m → m < 16 * batches_of v.query.window.minutes → g.R.Row.LANES * batch ≤ m →
+      bounds : (base : ℕ) → IsBaseTo g.R.Row.NEVER v.later base →
+          AreKept g.R.Row.NEVER base v.query.network.now (start_at v.query (cut base g.R.Row.NEVER v.later))
+          v.query.rides v.kept;
+      each : (batch p m : ℕ) → batch + v.i ≡ v.batches → p < v.query.network.now.stops → m < v.query.window.minutes →
+          g.R.Row.LANES * batch ≤ m →
+          IsLeastOrNever (IsDuration v.query.network.now v.query.origin.0 (departure v.query.window m) v.query.rides p)
+          (label_of v.query.window.minutes v.labels p m);
+      dead : (batch p m : ℕ) → batch + v.i ≡ v.batches → p < v.query.network.now.stops → v.query.window.minutes ≤ m →
+          m < 16 * batches_of v.query.window.minutes → g.R.Row.LANES * batch ≤ m →
           label_of v.query.window.minutes v.labels p m ≡ NEVER;
     }

@@ -1,4 +1,5 @@
-use Rattle.std.proofs.Common.{◌≡◌, ◌≢◌, ℕ, ◌+◌, ◌*◌, ◌<◌, ◌≤◌, inl, inr, List, length, slice_index, ap, arith, sym, subst, ◌∙◌}
+use Rattle.std.proofs.Common.{◌≡◌, ◌≢◌, ℕ, ◌+◌, ◌*◌, ◌<◌, ◌≤◌, inl, inr, List, length, slice_index, ap, arith, sym}
+use Rattle.std.proofs.Common.{subst, ◌∙◌}
 use Rattle.std.proofs.lemmas.Bool.{cases_lt}
 use Rattle.std.proofs.lemmas.List.{length-set}
 use Rattle.trip_lanes.specs.Lane.{lane, labels_in}
@@ -13,9 +14,18 @@ since-requires-clause-fits g c l h =
     let s = c.loop-stop.stop in
     let ride = c.as_slice-ride.result.now in
     let ready = c.as_slice-ready.result.now in
-    let in_ride : s < length ride = omega (arith, c.loop-stop-test.true, c.requires.same, ap length c.as_slice-ride.ensures.value, ap length c.as_slice-ready.ensures.value) in
-    let low = lower_arrival g.R.Row.labels ride ready s l c.index-ride-stop.result c.index-ready-stop.result c.index-ride-stop.result c.index-ready-stop.result c.lower_of-arrived.result c.index-ride-stop.is c.index-ready-stop.is in_ride c.loop-stop-test.true (c.lower_of-arrived.ensures l h) in
-    let fits : slice_index (lane l (labels_in g.R.Row.labels ready)) s ≤ g.R.Row.NEVER = rw c.as_slice-ready.ensures.value (c.requires.fits l s h) in
+    let in_ride : s < length ride = omega (
+      arith,
+      c.loop-stop-test.true,
+      c.requires.same,
+      ap length c.as_slice-ride.ensures.value,
+      ap length c.as_slice-ready.ensures.value,
+    ) in
+    let low = lower_arrival g.R.Row.labels ride ready s l c.index-ride-stop.result c.index-ready-stop.result
+    c.index-ride-stop.result c.index-ready-stop.result c.lower_of-arrived.result c.index-ride-stop.is
+    c.index-ready-stop.is in_ride c.loop-stop-test.true (c.lower_of-arrived.ensures l h) in
+    let fits : slice_index (lane l (labels_in g.R.Row.labels ready)) s ≤ g.R.Row.NEVER =
+    rw c.as_slice-ready.ensures.value (c.requires.fits l s h) in
     omega (arith, low, fits)
 
 pub since-requires-clause-later : goal.since-requires-clause-later
@@ -24,10 +34,18 @@ since-requires-clause-later g c l h reached =
     let ride = c.as_slice-ride.result.now in
     let ready = c.as_slice-ready.result.now in
     let labels = g.R.Row.labels in
-    let in_ready : s < length c.args.tables.now.ready.items = omega (arith, c.loop-stop-test.true, ap length c.as_slice-ready.ensures.value) in
+    let in_ready : s < length c.args.tables.now.ready.items =
+    omega (arith, c.loop-stop-test.true, ap length c.as_slice-ready.ensures.value) in
     let in_ride : s < length ride = omega (arith, in_ready, c.requires.same, ap length c.as_slice-ride.ensures.value) in
-    let low = lower_arrival labels ride ready s l c.index-ride-stop.result c.index-ready-stop.result c.index-ride-stop.result c.index-ready-stop.result c.lower_of-arrived.result c.index-ride-stop.is c.index-ready-stop.is in_ride c.loop-stop-test.true (c.lower_of-arrived.ensures l h) in
-    let late : arrival (lane l (labels_in labels ride)) (lane l (labels_in labels ready)) s ≢ g.R.Row.NEVER → slice_index (labels c.args.departs) l ≤ arrival (lane l (labels_in labels ride)) (lane l (labels_in labels ready)) s = rw (c.as_slice-ride.ensures.value, c.as_slice-ready.ensures.value) (c.requires.since l s h in_ready) in
+    let low = lower_arrival labels ride ready s l c.index-ride-stop.result c.index-ready-stop.result
+    c.index-ride-stop.result c.index-ready-stop.result c.lower_of-arrived.result c.index-ride-stop.is
+    c.index-ready-stop.is in_ride c.loop-stop-test.true (c.lower_of-arrived.ensures l h) in
+    let late : arrival (lane l (labels_in labels ride)) (lane l (labels_in labels ready)) s ≢ g.R.Row.NEVER →
+    slice_index (labels c.args.departs) l ≤ arrival (lane l (labels_in labels ride))
+    (lane l (labels_in labels ready)) s = rw (
+      c.as_slice-ride.ensures.value,
+      c.as_slice-ready.ensures.value,
+    ) (c.requires.since l s h in_ready) in
     let then = late (λ e. reached (low ∙ e)) in
     omega (arith, low, then)
 
@@ -42,7 +60,8 @@ loop-stop-preserved g c =
     let labels = g.R.Row.labels in
     let ride = c.as_slice-ride.result.now in
     let ready = c.as_slice-ready.result.now in
-    let in_ready : s < length c.args.tables.now.ready.items = omega (arith, c.loop-stop-test.true, ap length c.as_slice-ready.ensures.value) in
+    let in_ready : s < length c.args.tables.now.ready.items =
+    omega (arith, c.loop-stop-test.true, ap length c.as_slice-ready.ensures.value) in
     let in_ride : s < length ride = omega (arith, in_ready, c.requires.same, ap length c.as_slice-ride.ensures.value) in
     let place = place_before w s (length c.args.tables.now.ready.items) b in_ready c.requires.at in
     let room : s * w + b < length rows = omega (arith, place, old.same, c.requires.room) in
@@ -51,14 +70,25 @@ loop-stop-preserved g c =
       written = λ l p h below. elim (cases_lt p s) [
         | inl less ↦
             let kept = apart rows times w s b p b c.requires.at c.requires.at (λ e. let same = e.0 in omega arith) in
-            subst (λ (row : List ℕ). IsSinceTo g.R.Row.NEVER (slice_index (labels c.args.departs) (16 * c.args.part + l)) (arrival (lane (16 * c.args.part + l) (labels_in labels ride)) (lane (16 * c.args.part + l) (labels_in labels ready)) p) (slice_index row l)) (sym kept) (old.written l p h less)
+            subst (λ (row : List ℕ). IsSinceTo g.R.Row.NEVER
+            (slice_index (labels c.args.departs) (16 * c.args.part + l))
+            (arrival (lane (16 * c.args.part + l) (labels_in labels ride))
+            (lane (16 * c.args.part + l) (labels_in labels ready)) p) (slice_index row l)) (sym kept)
+            (old.written l p h less)
         | inr ge ↦
             let e : p ≡ s = omega arith in
             let here = placed rows times w s b room in
             let at : 16 * c.args.part + l < g.R.Row.LANES = omega (arith, h, c.requires.part) in
-            let low = lower_arrival labels ride ready s (16 * c.args.part + l) c.index-ride-stop.result c.index-ready-stop.result c.index-ride-stop.result c.index-ready-stop.result c.lower_of-arrived.result c.index-ride-stop.is c.index-ready-stop.is in_ride c.loop-stop-test.true (c.lower_of-arrived.ensures (16 * c.args.part + l) at) in
-            rw e (subst (λ (row : List ℕ). IsSinceTo g.R.Row.NEVER (slice_index (labels c.args.departs) (16 * c.args.part + l)) (arrival (lane (16 * c.args.part + l) (labels_in labels ride)) (lane (16 * c.args.part + l) (labels_in labels ready)) s) (slice_index row l)) (sym here)
-            (subst (λ (x : ℕ). IsSinceTo g.R.Row.NEVER (slice_index (labels c.args.departs) (16 * c.args.part + l)) x (slice_index times l)) low (c.since.ensures l h)))
+            let low = lower_arrival labels ride ready s (16 * c.args.part + l) c.index-ride-stop.result
+            c.index-ready-stop.result c.index-ride-stop.result c.index-ready-stop.result
+            c.lower_of-arrived.result c.index-ride-stop.is c.index-ready-stop.is in_ride c.loop-stop-test.true
+            (c.lower_of-arrived.ensures (16 * c.args.part + l) at) in
+            rw e (subst (λ (row : List ℕ). IsSinceTo g.R.Row.NEVER
+            (slice_index (labels c.args.departs) (16 * c.args.part + l))
+            (arrival (lane (16 * c.args.part + l) (labels_in labels ride))
+            (lane (16 * c.args.part + l) (labels_in labels ready)) s) (slice_index row l)) (sym here)
+            (subst (λ (x : ℕ). IsSinceTo g.R.Row.NEVER (slice_index (labels c.args.departs) (16 * c.args.part + l)) x
+            (slice_index times l)) low (c.since.ensures l h)))
       ];
       kept = λ p k l ne. apart rows times w s b p k c.requires.at l (λ e. ne e.1) ∙ old.kept p k l ne;
     }

@@ -7,8 +7,10 @@ use Rattle.rounds.proofs.bounded.lower_to.Goals as goal
 
 pub loop-stop-preserved : goal.loop-stop-preserved
 loop-stop-preserved g c l h =
-    one_more_row g.R.Row.labels c.loop-stop.labels c.loop-stop.stop l c.index-labels-stop.result c.lower_of.result c.args.base g.R.Row.NEVER c.args.bound.now (slice_index (g.R.Row.labels c.bound_of.result) l)
-    c.index-labels-stop.is (omega arith) (omega arith) (c.lower_of.ensures l h) (c.bound_of.ensures l h) (c.loop-stop.invariant l h)
+    one_more_row g.R.Row.labels c.loop-stop.labels c.loop-stop.stop l c.index-labels-stop.result c.lower_of.result
+    c.args.base g.R.Row.NEVER c.args.bound.now (slice_index (g.R.Row.labels c.bound_of.result) l)
+    c.index-labels-stop.is (omega arith) (omega arith) (c.lower_of.ensures l h) (c.bound_of.ensures l h)
+    (c.loop-stop.invariant l h)
 
 pub returns : goal.returns
 returns g c l h =

@@ -6,5 +6,6 @@ abbrev pub invariant-loop : goal.invariant-loop
 invariant-loop l =
     record {
       many : length l.kept.items ≡ l.counter;
-      never : All (λ x. (x.ride.items ≡ replicate l.stops NEVER) × (x.ready.items ≡ replicate l.stops NEVER)) l.kept.items;
+      never : All (λ x. (x.ride.items ≡ replicate l.stops NEVER)
+          × (x.ready.items ≡ replicate l.stops NEVER)) l.kept.items;
     }

@@ -1,4 +1,5 @@
-use Rattle.std.proofs.Common.{rules, ◌≡◌, ◌≢◌, ◌<◌, ◌≤◌, ◌+◌, inl, inr, ℕ, List, Bool, length, replicate, slice_index, slice_get, get_or, Some, true, ap, refl, sym, ◌∙◌, arith}
+use Rattle.std.proofs.Common.{rules, ◌≡◌, ◌≢◌, ◌<◌, ◌≤◌, ◌+◌, inl, inr, ℕ, List, Bool, length, replicate, slice_index}
+use Rattle.std.proofs.Common.{slice_get, get_or, Some, true, ap, refl, sym, ◌∙◌, arith}
 use Rattle.std.specs.Vec.{with_items}
 use Rattle.std.proofs.lemmas.Bool.{cases_lt}
 use Rattle.std.proofs.lemmas.List.{length-map, get_or_past, with_items_is}
@@ -24,11 +25,14 @@ use Rattle.rounds.proofs.LaneRounds.{unnoted_same, start_walks, start_settled, r
 use Rattle.rounds.proofs.bounded.run_bounded.Goals as goal
 
 -- a lane of rows that were cleared, of which it is known how many there are
-cleared : (never m n l : ℕ) (rows : List (List ℕ)) → lane l rows ≡ replicate m never → m ≡ n → lane l rows ≡ replicate n never
+cleared : (never m n l : ℕ) (rows : List (List ℕ)) → lane l rows ≡ replicate m never → m ≡ n →
+    lane l rows ≡ replicate n never
 cleared never m n l rows e f = e ∙ ap (λ (i : ℕ). replicate i never) f
 
 -- where no fall was noted, the labels are as they were
-unfallen_same : {C : ℕ → ℕ → Type 0} (lanes : ℕ) (old new : List (List ℕ)) (was is : List Bool) (l p : ℕ) → MarksFallenOf lanes old new was is → length old ≡ length was → Lowers C (lane l old) (lane l new) → l < lanes → (slice_get is p ≡ Some true → ⊥) → slice_index (lane l old) p ≡ slice_index (lane l new) p
+unfallen_same : {C : ℕ → ℕ → Type 0} (lanes : ℕ) (old new : List (List ℕ)) (was is : List Bool) (l p : ℕ) →
+    MarksFallenOf lanes old new was is → length old ≡ length was → Lowers C (lane l old) (lane l new) → l < lanes →
+    (slice_get is p ≡ Some true → ⊥) → slice_index (lane l old) p ≡ slice_index (lane l new) p
 unfallen_same lanes old new was is l p marks long low h none = elim (cases_lt p (length was)) [
   | inl within ↦ unnoted_same (lane l old) (lane l new) is p low (λ lt. (marks.marks p within).1 (inr (l, h, lt))) none
   | inr past ↦
@@ -37,8 +41,13 @@ unfallen_same lanes old new was is l p marks long low h none = elim (cases_lt p 
 ]
 
 -- what is kept of labels has a place for each stop
-kept_long : (base never k : ℕ) (n : Net) (o : Whereabouts) (x : Kept) → LaneStateTo never (cut_net base never n) o k (bounds_in base never x.ride.items) (bounds_in base never x.ready.items) → (length x.ride.items ≡ n.stops) × (length x.ready.items ≡ n.stops)
-kept_long base never k n o x s = (sym (length-map x.ride.items (cut base never)) ∙ s.ride_len, sym (length-map x.ready.items (cut base never)) ∙ s.ready_len)
+kept_long : (base never k : ℕ) (n : Net) (o : Whereabouts) (x : Kept) →
+    LaneStateTo never (cut_net base never n) o k (bounds_in base never x.ride.items)
+    (bounds_in base never x.ready.items) → (length x.ride.items ≡ n.stops) × (length x.ready.items ≡ n.stops)
+kept_long base never k n o x s = (
+  sym (length-map x.ride.items (cut base never)) ∙ s.ride_len,
+  sym (length-map x.ready.items (cut base never)) ∙ s.ready_len,
+)
 
 pub begin-requires-clause-bound : goal.begin-requires-clause-bound
 begin-requires-clause-bound g c =
@@ -48,15 +57,28 @@ begin-requires-clause-bound g c =
     let later = start_at c.args.query (cut base never c.args.batch.later) in
     let was = c.args.kept.now in
     let x = get_or was 0 c.index-kept-0.result in
-    let long = kept_long base never 0 n later x (c.requires.bounds 0 x (omega arith) (slice_get-get_or was 0 c.index-kept-0.result (omega (arith, c.requires.many)))) in
-    omega (arith, long.1, ap length c.as_slice.ensures.value, c.clear-2.auto.labels, ap length c.as_mut_slice-ready.ensures.value, c.requires.tables.ready)
+    let long = kept_long base never 0 n later x
+    (c.requires.bounds 0 x (omega arith) (slice_get-get_or was 0 c.index-kept-0.result (omega (
+      arith,
+      c.requires.many,
+    )))) in
+    omega (
+      arith,
+      long.1,
+      ap length c.as_slice.ensures.value,
+      c.clear-2.auto.labels,
+      ap length c.as_mut_slice-ready.ensures.value,
+      c.requires.tables.ready,
+    )
 
 pub walk_marked-requires-clause-fits : goal.walk_marked-requires-clause-fits
 walk_marked-requires-clause-fits g c l p h =
     let never = g.R.Row.NEVER in
     let rows = labels_in g.R.Row.labels in
     let stops = c.args.query.network.now.stops in
-    let start = rw (cleared never (length c.as_mut_slice-ready.result.now) stops l (rows c.clear-2.new.labels) (c.clear-2.ensures l h) (ap length c.as_mut_slice-ready.ensures.value ∙ c.requires.tables.ready)) at (c.begin.ensures.lanes l h) in
+    let start = rw (cleared never (length c.as_mut_slice-ready.result.now) stops l (rows c.clear-2.new.labels)
+    (c.clear-2.ensures l h) (ap length c.as_mut_slice-ready.ensures.value
+    ∙ c.requires.tables.ready)) at (c.begin.ensures.lanes l h) in
     fits_after never (replicate stops never) (lane l (rows c.begin.new.labels)) (fits_of never stops) start p
 
 pub walk_marked-requires-clause-settled : goal.walk_marked-requires-clause-settled
@@ -68,11 +90,24 @@ walk_marked-requires-clause-settled g c l x h within none =
     let ok = cut_net_is_net base never n c.known.ensures in
     let origin = c.args.query.origin.0 in
     let later = start_at c.args.query (cut base never c.args.batch.later) in
-    let start = rw (cleared never (length c.as_mut_slice-ready.result.now) n.stops l (rows c.clear-2.new.labels) (c.clear-2.ensures l h) (ap length c.as_mut_slice-ready.ensures.value ∙ c.requires.tables.ready)) at (c.begin.ensures.lanes l h) in
-    let low = rw (cleared never (length c.as_mut_slice-ride.result.now) n.stops l (rows c.clear.new.labels) (c.clear.ensures l h) (ap length c.as_mut_slice-ride.ensures.value ∙ c.requires.tables.ride)) at (c.set_out.ensures.lanes l h) in
-    let there : x < n.stops = omega (arith, within, ap (λ (f : FeetData). length f.walks) c.feet.ensures, c.known.ensures.in_range.lists) in
+    let start = rw (cleared never (length c.as_mut_slice-ready.result.now) n.stops l (rows c.clear-2.new.labels)
+    (c.clear-2.ensures l h) (ap length c.as_mut_slice-ready.ensures.value
+    ∙ c.requires.tables.ready)) at (c.begin.ensures.lanes l h) in
+    let low = rw (cleared never (length c.as_mut_slice-ride.result.now) n.stops l (rows c.clear.new.labels)
+    (c.clear.ensures l h) (ap length c.as_mut_slice-ride.ensures.value
+    ∙ c.requires.tables.ride)) at (c.set_out.ensures.lanes l h) in
+    let there : x < n.stops = omega (
+      arith,
+      within,
+      ap (λ (f : FeetData). length f.walks) c.feet.ensures,
+      c.known.ensures.in_range.lists,
+    ) in
     let other : x ≢ origin = λ e. none (ap (slice_get c.set_out.new.marked) e ∙ c.set_out.ensures.here) in
-    rw c.feet.ensures (start_walks never (cut_net base never n) ok later origin (slice_index (g.R.Row.labels c.args.batch.departs) l) (lane l (rows c.set_out.new.ride)) (lane l (rows c.begin.new.labels)) (bounds_in base never (get_or c.args.kept.now 0 c.index-kept-0.result).ready.items) low (rw c.as_slice.ensures.value at start) x there other)
+    rw c.feet.ensures (start_walks never (cut_net base never n) ok later origin
+    (slice_index (g.R.Row.labels c.args.batch.departs) l) (lane l (rows c.set_out.new.ride))
+    (lane l (rows c.begin.new.labels)) (bounds_in base never
+    (get_or c.args.kept.now 0 c.index-kept-0.result).ready.items) low (rw c.as_slice.ensures.value at start) x
+    there other)
 
 pub keep_both-requires-clause-ride : goal.keep_both-requires-clause-ride
 keep_both-requires-clause-ride g c =
@@ -82,8 +117,20 @@ keep_both-requires-clause-ride g c =
     let later = start_at c.args.query (cut base never c.args.batch.later) in
     let was = c.args.kept.now in
     let x = get_or was 0 c.index-kept-0.result in
-    let long = kept_long base never 0 n later x (c.requires.bounds 0 x (omega arith) (slice_get-get_or was 0 c.index-kept-0.result (omega (arith, c.requires.many)))) in
-    omega (arith, long.0, ap (λ (y : Kept). length y.ride.items) c.index-kept-0.is, c.set_out.auto.ride, c.clear.auto.labels, ap length c.as_mut_slice-ride.ensures.value, c.requires.tables.ride)
+    let long = kept_long base never 0 n later x
+    (c.requires.bounds 0 x (omega arith) (slice_get-get_or was 0 c.index-kept-0.result (omega (
+      arith,
+      c.requires.many,
+    )))) in
+    omega (
+      arith,
+      long.0,
+      ap (λ (y : Kept). length y.ride.items) c.index-kept-0.is,
+      c.set_out.auto.ride,
+      c.clear.auto.labels,
+      ap length c.as_mut_slice-ride.ensures.value,
+      c.requires.tables.ride,
+    )
 
 pub keep_both-requires-clause-ready : goal.keep_both-requires-clause-ready
 keep_both-requires-clause-ready g c =
@@ -93,8 +140,21 @@ keep_both-requires-clause-ready g c =
     let later = start_at c.args.query (cut base never c.args.batch.later) in
     let was = c.args.kept.now in
     let x = get_or was 0 c.index-kept-0.result in
-    let long = kept_long base never 0 n later x (c.requires.bounds 0 x (omega arith) (slice_get-get_or was 0 c.index-kept-0.result (omega (arith, c.requires.many)))) in
-    omega (arith, long.1, ap (λ (y : Kept). length y.ready.items) c.index-kept-0.is, c.walk_marked.auto.ready, c.begin.auto.labels, c.clear-2.auto.labels, ap length c.as_mut_slice-ready.ensures.value, c.requires.tables.ready)
+    let long = kept_long base never 0 n later x
+    (c.requires.bounds 0 x (omega arith) (slice_get-get_or was 0 c.index-kept-0.result (omega (
+      arith,
+      c.requires.many,
+    )))) in
+    omega (
+      arith,
+      long.1,
+      ap (λ (y : Kept). length y.ready.items) c.index-kept-0.is,
+      c.walk_marked.auto.ready,
+      c.begin.auto.labels,
+      c.clear-2.auto.labels,
+      ap length c.as_mut_slice-ready.ensures.value,
+      c.requires.tables.ready,
+    )
 
 pub keep_both-requires-clause-ready_fits : goal.keep_both-requires-clause-ready_fits
 keep_both-requires-clause-ready_fits g c p =
@@ -102,8 +162,12 @@ keep_both-requires-clause-ready_fits g c p =
     let rows = labels_in g.R.Row.labels in
     let stops = c.args.query.network.now.stops in
     let some : 0 < g.R.Row.LANES = omega (arith, g.met.R.Row.some) in
-    let start = rw (cleared never (length c.as_mut_slice-ready.result.now) stops 0 (rows c.clear-2.new.labels) (c.clear-2.ensures 0 some) (ap length c.as_mut_slice-ready.ensures.value ∙ c.requires.tables.ready)) at (c.begin.ensures.lanes 0 some) in
-    fits_after never (lane 0 (rows c.begin.new.labels)) (lane 0 (rows c.walk_marked.new.ready)) (fits_after never (replicate stops never) (lane 0 (rows c.begin.new.labels)) (fits_of never stops) start) (c.walk_marked.ensures.lanes 0 some) p
+    let start = rw (cleared never (length c.as_mut_slice-ready.result.now) stops 0 (rows c.clear-2.new.labels)
+    (c.clear-2.ensures 0 some) (ap length c.as_mut_slice-ready.ensures.value
+    ∙ c.requires.tables.ready)) at (c.begin.ensures.lanes 0 some) in
+    fits_after never (lane 0 (rows c.begin.new.labels)) (lane 0 (rows c.walk_marked.new.ready))
+    (fits_after never (replicate stops never) (lane 0 (rows c.begin.new.labels)) (fits_of never stops) start)
+    (c.walk_marked.ensures.lanes 0 some) p
 
 pub loop-k-init : goal.loop-k-init
 loop-k-init g c =
@@ -117,17 +181,34 @@ loop-k-init g c =
     let later = start_at c.args.query (cut base never c.args.batch.later) in
     let departs = g.R.Row.labels c.args.batch.departs in
     let some : 0 < g.R.Row.LANES = omega (arith, g.met.R.Row.some) in
-    let start : (l : ℕ) → l < g.R.Row.LANES → Lowers (λ p x. x ≡ slice_index (bounds_in base never (get_or c.args.kept.now 0 c.index-kept-0.result).ready.items) p) (replicate n.stops never) (lane l (rows c.begin.new.labels)) = λ l h.
-    rw (cleared never (length c.as_mut_slice-ready.result.now) n.stops l (rows c.clear-2.new.labels) (c.clear-2.ensures l h) (ap length c.as_mut_slice-ready.ensures.value ∙ c.requires.tables.ready), c.as_slice.ensures.value) at (c.begin.ensures.lanes l h) in
-    let low : (l : ℕ) → l < g.R.Row.LANES → Lowers (λ p x. (p ≡ c.args.query.origin.0) × (x ≡ slice_index departs l)) (replicate n.stops never) (lane l (rows c.set_out.new.ride)) = λ l h.
-    rw (cleared never (length c.as_mut_slice-ride.result.now) n.stops l (rows c.clear.new.labels) (c.clear.ensures l h) (ap length c.as_mut_slice-ride.ensures.value ∙ c.requires.tables.ride)) at (c.set_out.ensures.lanes l h) in
+    let start : (l : ℕ) → l < g.R.Row.LANES →
+    Lowers (λ p x. x ≡ slice_index (bounds_in base never
+    (get_or c.args.kept.now 0 c.index-kept-0.result).ready.items) p) (replicate n.stops never)
+    (lane l (rows c.begin.new.labels)) = λ l h.
+    rw (
+      cleared never (length c.as_mut_slice-ready.result.now) n.stops l (rows c.clear-2.new.labels)
+          (c.clear-2.ensures l h) (ap length c.as_mut_slice-ready.ensures.value ∙ c.requires.tables.ready),
+      c.as_slice.ensures.value,
+    ) at (c.begin.ensures.lanes l h) in
+    let low : (l : ℕ) → l < g.R.Row.LANES → Lowers (λ p x. (p ≡ c.args.query.origin.0)
+    × (x ≡ slice_index departs l)) (replicate n.stops never) (lane l (rows c.set_out.new.ride)) = λ l h.
+    rw (cleared never (length c.as_mut_slice-ride.result.now) n.stops l (rows c.clear.new.labels) (c.clear.ensures l h)
+    (ap length c.as_mut_slice-ride.ensures.value ∙ c.requires.tables.ride)) at (c.set_out.ensures.lanes l h) in
     let was = c.args.kept.now in
-    let first = c.requires.bounds 0 (get_or c.args.kept.now 0 c.index-kept-0.result) (omega arith) (slice_get-get_or was 0 c.index-kept-0.result (omega (arith, c.requires.many))) in
-    let lanes : (l : ℕ) → l < g.R.Row.LANES → LaneStateTo never cn (start_at c.args.query (slice_index departs l)) 0 (lane l (rows c.set_out.new.ride)) (lane l (rows c.walk_marked.new.ready)) = λ l h.
-    bounded_start never cn ok (start_at c.args.query (slice_index departs l)) later c.requires.asked.origin refl (c.requires.batch.none_later l h) limit (lane l (rows c.set_out.new.ride)) (lane l (rows c.begin.new.labels)) (lane l (rows c.walk_marked.new.ready))
-    (bounds_in base never (get_or c.args.kept.now 0 c.index-kept-0.result).ride.items) (bounds_in base never (get_or c.args.kept.now 0 c.index-kept-0.result).ready.items)
+    let first = c.requires.bounds 0 (get_or c.args.kept.now 0 c.index-kept-0.result) (omega arith)
+    (slice_get-get_or was 0 c.index-kept-0.result (omega (arith, c.requires.many))) in
+    let lanes : (l : ℕ) → l < g.R.Row.LANES →
+    LaneStateTo never cn (start_at c.args.query (slice_index departs l)) 0 (lane l (rows c.set_out.new.ride))
+    (lane l (rows c.walk_marked.new.ready)) = λ l h.
+    bounded_start never cn ok (start_at c.args.query (slice_index departs l)) later c.requires.asked.origin refl
+    (c.requires.batch.none_later l h) limit (lane l (rows c.set_out.new.ride))
+    (lane l (rows c.begin.new.labels)) (lane l (rows c.walk_marked.new.ready))
+    (bounds_in base never (get_or c.args.kept.now 0 c.index-kept-0.result).ride.items)
+    (bounds_in base never (get_or c.args.kept.now 0 c.index-kept-0.result).ready.items)
     first (low l h) (start l h) (rw c.feet.ensures at (c.walk_marked.ensures.lanes l h)) in
-    let begun : length c.begin.new.labels ≡ n.stops = c.begin.auto.labels ∙ (c.clear-2.auto.labels ∙ (ap length c.as_mut_slice-ready.ensures.value ∙ c.requires.tables.ready)) in
+    let begun : length c.begin.new.labels ≡ n.stops =
+    c.begin.auto.labels ∙ (c.clear-2.auto.labels
+    ∙ (ap length c.as_mut_slice-ready.ensures.value ∙ c.requires.tables.ready)) in
     record {
       rides = search rules;
       readies = c.walk_marked.auto.ready ∙ begun;
@@ -141,16 +222,27 @@ loop-k-init g c =
       kept = λ j x below here.
           let e : j ≡ 0 = omega arith in
           let here' = rw e at here in
-          let is : c.keep_both.new.kept ≡ x = same_Some _ _ (sym (set_same was 0 c.keep_both.new.kept (omega (arith, c.requires.many))) ∙ here') in
+          let is : c.keep_both.new.kept ≡ x = same_Some _ _
+          (sym (set_same was 0 c.keep_both.new.kept (omega (arith, c.requires.many))) ∙ here') in
           rw (e, ← is, c.keep_both.ensures.ride, c.keep_both.ensures.ready) (lanes 0 some);
-      bounds = λ j x more few here. c.requires.bounds j x few (sym (set_other was 0 j c.keep_both.new.kept (λ e. omega arith)) ∙ here);
+      bounds = λ j x more few here. c.requires.bounds j x few
+          (sym (set_other was 0 j c.keep_both.new.kept (λ e. omega arith)) ∙ here);
       unfallen = λ l p h out.
-          let long : length (rows c.begin.new.labels) ≡ length c.begin.new.fallen = length-map c.begin.new.labels g.R.Row.labels ∙ begun ∙ sym (c.begin.ensures.fallen ∙ ap length c.as_mut_slice-fallen.ensures.value ∙ c.requires.tables.fallen) in
-          rw c.begin.ensures.before (unfallen_same g.R.Row.LANES (rows c.begin.new.labels) (rows c.walk_marked.new.ready) c.begin.new.fallen c.walk_marked.new.fallen l p c.walk_marked.ensures.fallen long (c.walk_marked.ensures.lanes l h) h out);
+          let long : length (rows c.begin.new.labels) ≡ length c.begin.new.fallen =
+          length-map c.begin.new.labels g.R.Row.labels ∙ begun
+          ∙ sym (c.begin.ensures.fallen ∙ ap length c.as_mut_slice-fallen.ensures.value
+          ∙ c.requires.tables.fallen) in
+          rw c.begin.ensures.before (unfallen_same g.R.Row.LANES (rows c.begin.new.labels)
+          (rows c.walk_marked.new.ready) c.begin.new.fallen c.walk_marked.new.fallen l p
+          c.walk_marked.ensures.fallen long (c.walk_marked.ensures.lanes l h) h out);
       settled = λ trip l t x lowered runs h room here lower.
-          let next = c.requires.bounds 1 x (omega arith) (sym (set_other was 0 1 c.keep_both.new.kept (λ e. omega arith)) ∙ here) in
-          rw c.begin.ensures.before (start_settled never cn ok later (slice_index departs l) c.args.query.origin.0 (lane l (rows c.set_out.new.ride)) (lane l (rows c.begin.new.labels)) lowered
-          (bounds_in base never (get_or c.args.kept.now 0 c.index-kept-0.result).ride.items) (bounds_in base never (get_or c.args.kept.now 0 c.index-kept-0.result).ready.items) (bounds_in base never x.ride.items) (bounds_in base never x.ready.items)
+          let next = c.requires.bounds 1 x (omega arith)
+          (sym (set_other was 0 1 c.keep_both.new.kept (λ e. omega arith)) ∙ here) in
+          rw c.begin.ensures.before (start_settled never cn ok later (slice_index departs l) c.args.query.origin.0
+          (lane l (rows c.set_out.new.ride)) (lane l (rows c.begin.new.labels)) lowered
+          (bounds_in base never (get_or c.args.kept.now 0 c.index-kept-0.result).ride.items)
+          (bounds_in base never (get_or c.args.kept.now 0 c.index-kept-0.result).ready.items)
+          (bounds_in base never x.ride.items) (bounds_in base never x.ready.items)
           first next (low l h) (start l h) lower trip t runs);
     }
 
@@ -163,7 +255,9 @@ lower_to-requires g c =
     let k = c.loop-k.k in
     let was = c.loop-k.kept in
     let x = get_or was (k + 1) c.index-kept-k.result in
-    let long = kept_long base never (k + 1) n later x (c.loop-k.invariant.bounds (k + 1) x (omega arith) (omega arith) (slice_get-get_or was (k + 1) c.index-kept-k.result (omega (arith, c.loop-k.invariant.many)))) in
+    let long = kept_long base never (k + 1) n later x
+    (c.loop-k.invariant.bounds (k + 1) x (omega arith) (omega arith)
+    (slice_get-get_or was (k + 1) c.index-kept-k.result (omega (arith, c.loop-k.invariant.many)))) in
     omega (arith, long.0, ap length c.as_slice-in-loop-k.ensures.value, c.loop-k.invariant.rides)
 
 pub falls_of-requires-clause-same : goal.falls_of-requires-clause-same
@@ -172,11 +266,18 @@ falls_of-requires-clause-same g c = c.loop-k.invariant.unfallen
 pub scan_lines-requires-clause-fits : goal.scan_lines-requires-clause-fits
 scan_lines-requires-clause-fits g c l p h =
     let rows = labels_in g.R.Row.labels in
-    fits_after g.R.Row.NEVER (lane l (rows c.loop-k.ride)) (lane l (rows c.lower_to.new.labels)) (c.loop-k.invariant.lanes l h).ride_fits (c.lower_to.ensures l h) p
+    fits_after g.R.Row.NEVER (lane l (rows c.loop-k.ride)) (lane l (rows c.lower_to.new.labels))
+    (c.loop-k.invariant.lanes l h).ride_fits (c.lower_to.ensures l h) p
 
 pub scan_lines-requires-clause-settled : goal.scan_lines-requires-clause-settled
 scan_lines-requires-clause-settled g c l h p x within o =
-    c.loop-k.invariant.settled o.trip l o.t (get_or c.loop-k.kept (c.loop-k.k + 1) c.index-kept-k.result) (lane l (labels_in g.R.Row.labels c.lower_to.new.labels)) (rw c.trips.ensures at o.runs) h (omega arith) (slice_get-get_or c.loop-k.kept (c.loop-k.k + 1) c.index-kept-k.result (omega (arith, c.loop-k.invariant.many))) (rw c.as_slice-in-loop-k.ensures.value at (c.lower_to.ensures l h)) p x within o.carries
+    c.loop-k.invariant.settled o.trip l o.t (get_or c.loop-k.kept (c.loop-k.k + 1) c.index-kept-k.result)
+    (lane l (labels_in g.R.Row.labels c.lower_to.new.labels)) (rw c.trips.ensures at o.runs) h (omega arith)
+    (slice_get-get_or c.loop-k.kept (c.loop-k.k + 1) c.index-kept-k.result (omega (
+      arith,
+      c.loop-k.invariant.many,
+    ))) (rw c.as_slice-in-loop-k.ensures.value at (c.lower_to.ensures l h)) p x within
+    o.carries
 
 pub begin-requires-in-loop-k-clause-bound : goal.begin-requires-in-loop-k-clause-bound
 begin-requires-in-loop-k-clause-bound g c =
@@ -187,13 +288,16 @@ begin-requires-in-loop-k-clause-bound g c =
     let k = c.loop-k.k in
     let was = c.loop-k.kept in
     let x = get_or was (k + 1) c.index-kept-k.result in
-    let long = kept_long base never (k + 1) n later x (c.loop-k.invariant.bounds (k + 1) x (omega arith) (omega arith) (slice_get-get_or was (k + 1) c.index-kept-k.result (omega (arith, c.loop-k.invariant.many)))) in
+    let long = kept_long base never (k + 1) n later x
+    (c.loop-k.invariant.bounds (k + 1) x (omega arith) (omega arith)
+    (slice_get-get_or was (k + 1) c.index-kept-k.result (omega (arith, c.loop-k.invariant.many)))) in
     omega (arith, long.1, ap length c.as_slice-in-loop-k-2.ensures.value, c.loop-k.invariant.readies)
 
 pub transfer_marked-requires-clause-fits : goal.transfer_marked-requires-clause-fits
 transfer_marked-requires-clause-fits g c l p h =
     let rows = labels_in g.R.Row.labels in
-    fits_after g.R.Row.NEVER (lane l (rows c.loop-k.ready)) (lane l (rows c.begin-in-loop-k.new.labels)) (c.loop-k.invariant.lanes l h).ready_fits (c.begin-in-loop-k.ensures.lanes l h) p
+    fits_after g.R.Row.NEVER (lane l (rows c.loop-k.ready)) (lane l (rows c.begin-in-loop-k.new.labels))
+    (c.loop-k.invariant.lanes l h).ready_fits (c.begin-in-loop-k.ensures.lanes l h) p
 
 pub transfer_marked-requires-clause-settled : goal.transfer_marked-requires-clause-settled
 transfer_marked-requires-clause-settled g c l x h within none =
@@ -205,15 +309,27 @@ transfer_marked-requires-clause-settled g c l x h within none =
     let k = c.loop-k.k in
     let later = start_at c.args.query (cut base never c.args.batch.later) in
     let o = start_at c.args.query (slice_index (g.R.Row.labels c.args.batch.departs) l) in
-    let bound = c.loop-k.invariant.bounds (k + 1) (get_or c.loop-k.kept (c.loop-k.k + 1) c.index-kept-k.result) (omega arith) (omega arith) (slice_get-get_or c.loop-k.kept (c.loop-k.k + 1) c.index-kept-k.result (omega (arith, c.loop-k.invariant.many))) in
+    let bound = c.loop-k.invariant.bounds (k + 1) (get_or c.loop-k.kept (c.loop-k.k + 1) c.index-kept-k.result)
+    (omega arith) (omega arith) (slice_get-get_or c.loop-k.kept (c.loop-k.k + 1) c.index-kept-k.result
+    (omega (arith, c.loop-k.invariant.many))) in
     let lowered = rows c.lower_to.new.labels in
     let ridden = rows c.scan_lines.new.ride in
-    let there : x < n.stops = omega (arith, within, ap (λ (f : FeetData). length f.walks) c.feet-in-loop-k.ensures, c.known.ensures.in_range.lists) in
+    let there : x < n.stops = omega (
+      arith,
+      within,
+      ap (λ (f : FeetData). length f.walks) c.feet-in-loop-k.ensures,
+      c.known.ensures.in_range.lists,
+    ) in
     let falls = lane_falls (lane l lowered) (lane l ridden) (c.scan_lines.ensures.lanes l h) x in
     let marks_long : length c.fill.new.self ≡ n.stops = c.fill.ensures.len ∙ c.loop-k.invariant.marked in
-    let still = unmarked_still lowered ridden c.fill.new.self c.scan_lines.new.marked x l c.scan_lines.ensures.marks (omega (arith, there, marks_long)) none h falls in
-    rw c.feet-in-loop-k.ensures (round_walks never (cut_net base never n) ok later o k (lane l (rows c.loop-k.ride)) (lane l (rows c.loop-k.ready)) (lane l lowered) (lane l ridden) (lane l (rows c.begin-in-loop-k.new.labels))
-    (bounds_in base never (get_or c.loop-k.kept (c.loop-k.k + 1) c.index-kept-k.result).ride.items) (bounds_in base never (get_or c.loop-k.kept (c.loop-k.k + 1) c.index-kept-k.result).ready.items) (c.loop-k.invariant.lanes l h) bound (rw c.as_slice-in-loop-k.ensures.value at (c.lower_to.ensures l h)) (rw c.as_slice-in-loop-k-2.ensures.value at (c.begin-in-loop-k.ensures.lanes l h)) x there still)
+    let still = unmarked_still lowered ridden c.fill.new.self c.scan_lines.new.marked x l c.scan_lines.ensures.marks
+    (omega (arith, there, marks_long)) none h falls in
+    rw c.feet-in-loop-k.ensures (round_walks never (cut_net base never n) ok later o k (lane l (rows c.loop-k.ride))
+    (lane l (rows c.loop-k.ready)) (lane l lowered) (lane l ridden) (lane l (rows c.begin-in-loop-k.new.labels))
+    (bounds_in base never (get_or c.loop-k.kept (c.loop-k.k + 1) c.index-kept-k.result).ride.items)
+    (bounds_in base never (get_or c.loop-k.kept (c.loop-k.k + 1) c.index-kept-k.result).ready.items)
+    (c.loop-k.invariant.lanes l h) bound (rw c.as_slice-in-loop-k.ensures.value at (c.lower_to.ensures l h))
+    (rw c.as_slice-in-loop-k-2.ensures.value at (c.begin-in-loop-k.ensures.lanes l h)) x there still)
 
 pub keep_both-requires-in-loop-k-clause-ride : goal.keep_both-requires-in-loop-k-clause-ride
 keep_both-requires-in-loop-k-clause-ride g c =
@@ -224,8 +340,17 @@ keep_both-requires-in-loop-k-clause-ride g c =
     let k = c.loop-k.k in
     let was = c.loop-k.kept in
     let x = get_or was (k + 1) c.index-kept-k.result in
-    let long = kept_long base never (k + 1) n later x (c.loop-k.invariant.bounds (k + 1) x (omega arith) (omega arith) (slice_get-get_or was (k + 1) c.index-kept-k.result (omega (arith, c.loop-k.invariant.many)))) in
-    omega (arith, long.0, ap (λ (y : Kept). length y.ride.items) c.index-kept-k.is, c.lower_to.auto.labels, c.scan_lines.auto.ride, c.loop-k.invariant.rides)
+    let long = kept_long base never (k + 1) n later x
+    (c.loop-k.invariant.bounds (k + 1) x (omega arith) (omega arith)
+    (slice_get-get_or was (k + 1) c.index-kept-k.result (omega (arith, c.loop-k.invariant.many)))) in
+    omega (
+      arith,
+      long.0,
+      ap (λ (y : Kept). length y.ride.items) c.index-kept-k.is,
+      c.lower_to.auto.labels,
+      c.scan_lines.auto.ride,
+      c.loop-k.invariant.rides,
+    )
 
 pub keep_both-requires-in-loop-k-clause-ready : goal.keep_both-requires-in-loop-k-clause-ready
 keep_both-requires-in-loop-k-clause-ready g c =
@@ -236,8 +361,17 @@ keep_both-requires-in-loop-k-clause-ready g c =
     let k = c.loop-k.k in
     let was = c.loop-k.kept in
     let x = get_or was (k + 1) c.index-kept-k.result in
-    let long = kept_long base never (k + 1) n later x (c.loop-k.invariant.bounds (k + 1) x (omega arith) (omega arith) (slice_get-get_or was (k + 1) c.index-kept-k.result (omega (arith, c.loop-k.invariant.many)))) in
-    omega (arith, long.1, ap (λ (y : Kept). length y.ready.items) c.index-kept-k.is, c.begin-in-loop-k.auto.labels, c.transfer_marked.auto.ready, c.loop-k.invariant.readies)
+    let long = kept_long base never (k + 1) n later x
+    (c.loop-k.invariant.bounds (k + 1) x (omega arith) (omega arith)
+    (slice_get-get_or was (k + 1) c.index-kept-k.result (omega (arith, c.loop-k.invariant.many)))) in
+    omega (
+      arith,
+      long.1,
+      ap (λ (y : Kept). length y.ready.items) c.index-kept-k.is,
+      c.begin-in-loop-k.auto.labels,
+      c.transfer_marked.auto.ready,
+      c.loop-k.invariant.readies,
+    )
 
 pub keep_both-requires-in-loop-k-clause-ride_fits : goal.keep_both-requires-in-loop-k-clause-ride_fits
 keep_both-requires-in-loop-k-clause-ride_fits g c p =
@@ -245,7 +379,8 @@ keep_both-requires-in-loop-k-clause-ride_fits g c p =
     let rows = labels_in g.R.Row.labels in
     let some : 0 < g.R.Row.LANES = omega (arith, g.met.R.Row.some) in
     fits_after never (lane 0 (rows c.lower_to.new.labels)) (lane 0 (rows c.scan_lines.new.ride))
-    (fits_after never (lane 0 (rows c.loop-k.ride)) (lane 0 (rows c.lower_to.new.labels)) (c.loop-k.invariant.lanes 0 some).ride_fits (c.lower_to.ensures 0 some))
+    (fits_after never (lane 0 (rows c.loop-k.ride)) (lane 0 (rows c.lower_to.new.labels))
+    (c.loop-k.invariant.lanes 0 some).ride_fits (c.lower_to.ensures 0 some))
     (c.scan_lines.ensures.lanes 0 some) p
 
 pub keep_both-requires-in-loop-k-clause-ready_fits : goal.keep_both-requires-in-loop-k-clause-ready_fits
@@ -254,7 +389,8 @@ keep_both-requires-in-loop-k-clause-ready_fits g c p =
     let rows = labels_in g.R.Row.labels in
     let some : 0 < g.R.Row.LANES = omega (arith, g.met.R.Row.some) in
     fits_after never (lane 0 (rows c.begin-in-loop-k.new.labels)) (lane 0 (rows c.transfer_marked.new.ready))
-    (fits_after never (lane 0 (rows c.loop-k.ready)) (lane 0 (rows c.begin-in-loop-k.new.labels)) (c.loop-k.invariant.lanes 0 some).ready_fits (c.begin-in-loop-k.ensures.lanes 0 some))
+    (fits_after never (lane 0 (rows c.loop-k.ready)) (lane 0 (rows c.begin-in-loop-k.new.labels))
+    (c.loop-k.invariant.lanes 0 some).ready_fits (c.begin-in-loop-k.ensures.lanes 0 some))
     (c.transfer_marked.ensures.lanes 0 some) p
 
 pub loop-k-preserved : goal.loop-k-preserved
@@ -270,11 +406,24 @@ loop-k-preserved g c =
     let departs = g.R.Row.labels c.args.batch.departs in
     let some : 0 < g.R.Row.LANES = omega (arith, g.met.R.Row.some) in
     let k = c.loop-k.k in
-    let bound = c.loop-k.invariant.bounds (k + 1) (get_or c.loop-k.kept (c.loop-k.k + 1) c.index-kept-k.result) (omega arith) (omega arith) (slice_get-get_or c.loop-k.kept (c.loop-k.k + 1) c.index-kept-k.result (omega (arith, c.loop-k.invariant.many))) in
-    let lanes : (l : ℕ) → l < g.R.Row.LANES → LaneStateTo never cn (start_at c.args.query (slice_index departs l)) (k + 1) (lane l (rows c.scan_lines.new.ride)) (lane l (rows c.transfer_marked.new.ready)) = λ l h.
-    bounded_next never cn ok (start_at c.args.query (slice_index departs l)) later c.requires.asked.origin refl (c.requires.batch.none_later l h) limit k (lane l (rows c.loop-k.ride)) (lane l (rows c.loop-k.ready)) (lane l (rows c.lower_to.new.labels)) (lane l (rows c.scan_lines.new.ride)) (lane l (rows c.begin-in-loop-k.new.labels)) (lane l (rows c.transfer_marked.new.ready))
-    (bounds_in base never (get_or c.loop-k.kept (c.loop-k.k + 1) c.index-kept-k.result).ride.items) (bounds_in base never (get_or c.loop-k.kept (c.loop-k.k + 1) c.index-kept-k.result).ready.items) (c.loop-k.invariant.lanes l h) bound (rw c.as_slice-in-loop-k.ensures.value at (c.lower_to.ensures l h)) (rw c.trips.ensures at (c.scan_lines.ensures.lanes l h)) (rw c.as_slice-in-loop-k-2.ensures.value at (c.begin-in-loop-k.ensures.lanes l h)) (rw c.feet-in-loop-k.ensures at (c.transfer_marked.ensures.lanes l h)) in
-    let begun : length c.begin-in-loop-k.new.labels ≡ n.stops = c.begin-in-loop-k.auto.labels ∙ c.loop-k.invariant.readies in
+    let bound = c.loop-k.invariant.bounds (k + 1) (get_or c.loop-k.kept (c.loop-k.k + 1) c.index-kept-k.result)
+    (omega arith) (omega arith) (slice_get-get_or c.loop-k.kept (c.loop-k.k + 1) c.index-kept-k.result
+    (omega (arith, c.loop-k.invariant.many))) in
+    let lanes : (l : ℕ) → l < g.R.Row.LANES →
+    LaneStateTo never cn (start_at c.args.query (slice_index departs l)) (k + 1)
+    (lane l (rows c.scan_lines.new.ride)) (lane l (rows c.transfer_marked.new.ready)) = λ l h.
+    bounded_next never cn ok (start_at c.args.query (slice_index departs l)) later c.requires.asked.origin refl
+    (c.requires.batch.none_later l h) limit k (lane l (rows c.loop-k.ride)) (lane l (rows c.loop-k.ready))
+    (lane l (rows c.lower_to.new.labels)) (lane l (rows c.scan_lines.new.ride))
+    (lane l (rows c.begin-in-loop-k.new.labels)) (lane l (rows c.transfer_marked.new.ready))
+    (bounds_in base never (get_or c.loop-k.kept (c.loop-k.k + 1) c.index-kept-k.result).ride.items)
+    (bounds_in base never (get_or c.loop-k.kept (c.loop-k.k + 1) c.index-kept-k.result).ready.items)
+    (c.loop-k.invariant.lanes l h) bound (rw c.as_slice-in-loop-k.ensures.value at (c.lower_to.ensures l h))
+    (rw c.trips.ensures at (c.scan_lines.ensures.lanes l h))
+    (rw c.as_slice-in-loop-k-2.ensures.value at (c.begin-in-loop-k.ensures.lanes l h))
+    (rw c.feet-in-loop-k.ensures at (c.transfer_marked.ensures.lanes l h)) in
+    let begun : length c.begin-in-loop-k.new.labels ≡ n.stops =
+    c.begin-in-loop-k.auto.labels ∙ c.loop-k.invariant.readies in
     record {
       rides = search rules;
       readies = c.transfer_marked.auto.ready ∙ begun;
@@ -287,43 +436,76 @@ loop-k-preserved g c =
       lanes = lanes;
       kept = λ j x below here.
           elim (cases_lt j (k + 1)) [
-            | inl lt ↦ c.loop-k.invariant.kept j x (omega arith) (sym (set_other c.loop-k.kept (k + 1) j c.keep_both-in-loop-k.new.kept (λ e. omega arith)) ∙ here)
+            | inl lt ↦ c.loop-k.invariant.kept j x (omega arith)
+                (sym (set_other c.loop-k.kept (k + 1) j c.keep_both-in-loop-k.new.kept (λ e. omega arith)) ∙ here)
             | inr ge ↦
                 let e : j ≡ k + 1 = omega arith in
                 let here' = rw e at here in
-                let is : c.keep_both-in-loop-k.new.kept ≡ x = same_Some _ _ (sym (set_same c.loop-k.kept (k + 1) c.keep_both-in-loop-k.new.kept (omega arith)) ∙ here') in
+                let is : c.keep_both-in-loop-k.new.kept ≡ x =
+                same_Some _ _ (sym (set_same c.loop-k.kept (k + 1) c.keep_both-in-loop-k.new.kept (omega arith))
+                ∙ here') in
                 rw (e, ← is, c.keep_both-in-loop-k.ensures.ride, c.keep_both-in-loop-k.ensures.ready) (lanes 0 some)
           ];
-      bounds = λ j x more few here. c.loop-k.invariant.bounds j x (omega arith) few (sym (set_other c.loop-k.kept (k + 1) j c.keep_both-in-loop-k.new.kept (λ e. omega arith)) ∙ here);
+      bounds = λ j x more few here. c.loop-k.invariant.bounds j x (omega arith) few
+          (sym (set_other c.loop-k.kept (k + 1) j c.keep_both-in-loop-k.new.kept (λ e. omega arith)) ∙ here);
       unfallen = λ l p h out.
-          let long : length (rows c.begin-in-loop-k.new.labels) ≡ length c.begin-in-loop-k.new.fallen = length-map c.begin-in-loop-k.new.labels g.R.Row.labels ∙ begun ∙ sym (c.begin-in-loop-k.ensures.fallen ∙ c.loop-k.invariant.fallen) in
-          rw c.begin-in-loop-k.ensures.before (unfallen_same g.R.Row.LANES (rows c.begin-in-loop-k.new.labels) (rows c.transfer_marked.new.ready) c.begin-in-loop-k.new.fallen c.transfer_marked.new.fallen l p c.transfer_marked.ensures.fallen long (c.transfer_marked.ensures.lanes l h) h out);
+          let long : length (rows c.begin-in-loop-k.new.labels) ≡ length c.begin-in-loop-k.new.fallen =
+          length-map c.begin-in-loop-k.new.labels g.R.Row.labels ∙ begun
+          ∙ sym (c.begin-in-loop-k.ensures.fallen ∙ c.loop-k.invariant.fallen) in
+          rw c.begin-in-loop-k.ensures.before (unfallen_same g.R.Row.LANES (rows c.begin-in-loop-k.new.labels)
+          (rows c.transfer_marked.new.ready) c.begin-in-loop-k.new.fallen c.transfer_marked.new.fallen l p
+          c.transfer_marked.ensures.fallen long (c.transfer_marked.ensures.lanes l h) h out);
       settled = λ trip l t x lowered runs h room here lower.
-          let next = c.loop-k.invariant.bounds (k + 1 + 1) x (omega arith) (omega arith) (sym (set_other c.loop-k.kept (k + 1) (k + 1 + 1) c.keep_both-in-loop-k.new.kept (λ e. omega arith)) ∙ here) in
-          rw c.begin-in-loop-k.ensures.before (round_settled never cn ok later (start_at c.args.query (slice_index departs l)) k (lane l (rows c.loop-k.ride)) (lane l (rows c.loop-k.ready)) (lane l (rows c.lower_to.new.labels)) (lane l (rows c.scan_lines.new.ride)) (lane l (rows c.begin-in-loop-k.new.labels)) lowered
-          (bounds_in base never (get_or c.loop-k.kept (c.loop-k.k + 1) c.index-kept-k.result).ride.items) (bounds_in base never (get_or c.loop-k.kept (c.loop-k.k + 1) c.index-kept-k.result).ready.items) (bounds_in base never x.ride.items) (bounds_in base never x.ready.items)
-          (c.loop-k.invariant.lanes l h) (lanes l h).ride_len bound next (rw c.trips.ensures at (c.scan_lines.ensures.lanes l h)) (rw c.as_slice-in-loop-k-2.ensures.value at (c.begin-in-loop-k.ensures.lanes l h)) lower trip t runs);
+          let next = c.loop-k.invariant.bounds (k + 1 + 1) x (omega arith) (omega arith)
+          (sym (set_other c.loop-k.kept (k + 1) (k + 1 + 1) c.keep_both-in-loop-k.new.kept (λ e. omega arith))
+          ∙ here) in
+          rw c.begin-in-loop-k.ensures.before (round_settled never cn ok later
+          (start_at c.args.query (slice_index departs l)) k (lane l (rows c.loop-k.ride))
+          (lane l (rows c.loop-k.ready)) (lane l (rows c.lower_to.new.labels))
+          (lane l (rows c.scan_lines.new.ride)) (lane l (rows c.begin-in-loop-k.new.labels)) lowered
+          (bounds_in base never (get_or c.loop-k.kept (c.loop-k.k + 1) c.index-kept-k.result).ride.items)
+          (bounds_in base never (get_or c.loop-k.kept (c.loop-k.k + 1) c.index-kept-k.result).ready.items)
+          (bounds_in base never x.ride.items) (bounds_in base never x.ready.items)
+          (c.loop-k.invariant.lanes l h) (lanes l h).ride_len bound next
+          (rw c.trips.ensures at (c.scan_lines.ensures.lanes l h))
+          (rw c.as_slice-in-loop-k-2.ensures.value at (c.begin-in-loop-k.ensures.lanes l h)) lower trip t runs);
     }
 
 pub returns-clause-tables : goal.returns-clause-tables
 returns-clause-tables g c =
     let t = c.args.tables.now in
     record {
-      ride = ap length (with_items_is t.ride c.loop-k.ride (c.loop-k.invariant.rides ∙ (sym c.requires.tables.ride ∙ (sym (ap length c.as_mut_slice-ride.ensures.value) ∙ c.as_mut_slice-ride.ensures.len)))) ∙ c.loop-k.invariant.rides;
-      ready = ap length (with_items_is t.ready c.loop-k.ready (c.loop-k.invariant.readies ∙ (sym c.requires.tables.ready ∙ (sym (ap length c.as_mut_slice-ready.ensures.value) ∙ c.as_mut_slice-ready.ensures.len)))) ∙ c.loop-k.invariant.readies;
+      ride = ap length (with_items_is t.ride c.loop-k.ride (c.loop-k.invariant.rides
+          ∙ (sym c.requires.tables.ride ∙ (sym (ap length c.as_mut_slice-ride.ensures.value)
+          ∙ c.as_mut_slice-ride.ensures.len)))) ∙ c.loop-k.invariant.rides;
+      ready = ap length (with_items_is t.ready c.loop-k.ready (c.loop-k.invariant.readies
+          ∙ (sym c.requires.tables.ready ∙ (sym (ap length c.as_mut_slice-ready.ensures.value)
+          ∙ c.as_mut_slice-ready.ensures.len)))) ∙ c.loop-k.invariant.readies;
       before = search rules;
       falls = search rules;
-      marked = ap length (with_items_is t.marked c.loop-k.marked (c.loop-k.invariant.marked ∙ (sym c.requires.tables.marked ∙ (sym (ap length c.as_mut_slice-marked.ensures.value) ∙ c.as_mut_slice-marked.ensures.len)))) ∙ c.loop-k.invariant.marked;
-      fallen = ap length (with_items_is t.fallen c.loop-k.fallen (c.loop-k.invariant.fallen ∙ (sym c.requires.tables.fallen ∙ (sym (ap length c.as_mut_slice-fallen.ensures.value) ∙ c.as_mut_slice-fallen.ensures.len)))) ∙ c.loop-k.invariant.fallen;
-      due = ap length (with_items_is t.due c.loop-k.due (c.loop-k.invariant.due ∙ (sym c.requires.tables.due ∙ (sym (ap length c.as_mut_slice-due.ensures.value) ∙ c.as_mut_slice-due.ensures.len)))) ∙ c.loop-k.invariant.due;
+      marked = ap length (with_items_is t.marked c.loop-k.marked (c.loop-k.invariant.marked
+          ∙ (sym c.requires.tables.marked ∙ (sym (ap length c.as_mut_slice-marked.ensures.value)
+          ∙ c.as_mut_slice-marked.ensures.len)))) ∙ c.loop-k.invariant.marked;
+      fallen = ap length (with_items_is t.fallen c.loop-k.fallen (c.loop-k.invariant.fallen
+          ∙ (sym c.requires.tables.fallen ∙ (sym (ap length c.as_mut_slice-fallen.ensures.value)
+          ∙ c.as_mut_slice-fallen.ensures.len)))) ∙ c.loop-k.invariant.fallen;
+      due = ap length (with_items_is t.due c.loop-k.due (c.loop-k.invariant.due
+          ∙ (sym c.requires.tables.due ∙ (sym (ap length c.as_mut_slice-due.ensures.value)
+          ∙ c.as_mut_slice-due.ensures.len)))) ∙ c.loop-k.invariant.due;
     }
 
 pub returns-clause-states : goal.returns-clause-states
 returns-clause-states g c l h =
     let t = c.args.tables.now in
     let e : c.args.query.rides ≡ c.loop-k.k = omega arith in
-    let is_ride : (with_items t.ride c.loop-k.ride).items ≡ c.loop-k.ride = with_items_is t.ride c.loop-k.ride (c.loop-k.invariant.rides ∙ (sym c.requires.tables.ride ∙ (sym (ap length c.as_mut_slice-ride.ensures.value) ∙ c.as_mut_slice-ride.ensures.len))) in
-    let is_ready : (with_items t.ready c.loop-k.ready).items ≡ c.loop-k.ready = with_items_is t.ready c.loop-k.ready (c.loop-k.invariant.readies ∙ (sym c.requires.tables.ready ∙ (sym (ap length c.as_mut_slice-ready.ensures.value) ∙ c.as_mut_slice-ready.ensures.len))) in
+    let is_ride : (with_items t.ride c.loop-k.ride).items ≡ c.loop-k.ride =
+    with_items_is t.ride c.loop-k.ride (c.loop-k.invariant.rides
+    ∙ (sym c.requires.tables.ride ∙ (sym (ap length c.as_mut_slice-ride.ensures.value)
+    ∙ c.as_mut_slice-ride.ensures.len))) in
+    let is_ready : (with_items t.ready c.loop-k.ready).items ≡ c.loop-k.ready =
+    with_items_is t.ready c.loop-k.ready (c.loop-k.invariant.readies
+    ∙ (sym c.requires.tables.ready ∙ (sym (ap length c.as_mut_slice-ready.ensures.value)
+    ∙ c.as_mut_slice-ready.ensures.len))) in
     rw (is_ride, is_ready, e) (c.loop-k.invariant.lanes l h)
 
 pub returns-clause-kept : goal.returns-clause-kept

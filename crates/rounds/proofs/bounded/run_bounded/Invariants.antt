@@ -29,9 +29,18 @@ invariant-loop-k g v =
       due : length v.due ≡ length v.query.lines.now.lines;
       falls : length v.falls ≡ stops;
       many : length v.kept ≡ v.query.rides + 1;
-      lanes : (l : ℕ) → l < g.R.Row.LANES → LaneStateTo never n (start_at v.query (slice_index (labels batch.departs) l)) v.k (lane l (rows v.ride)) (lane l (rows v.ready));
-      kept : AreKept never base v.query.network.now (start_at v.query (slice_index (labels batch.departs) 0)) v.k v.kept;
-      bounds : (j : ℕ) (x : Kept) → v.k < j → j ≤ v.query.rides → slice_get v.kept j ≡ Some x → LaneStateTo never n (start_at v.query (cut base never batch.later)) j (bounds_in base never x.ride.items) (bounds_in base never x.ready.items);
-      unfallen : (l p : ℕ) → l < g.R.Row.LANES → (slice_get v.fallen p ≡ Some true → ⊥) → slice_index (lane l (rows v.before)) p ≡ slice_index (lane l (rows v.ready)) p;
-      settled : (trip l : ℕ) (t : Trip) (x : Kept) (lowered : List ℕ) → slice_get n.trips trip ≡ Some t → l < g.R.Row.LANES → v.k < v.query.rides → slice_get v.kept (v.k + 1) ≡ Some x → Lowers (Bounds (bounds_in base never x.ride.items)) (lane l (rows v.ride)) lowered → NothingLower (Carries (lane l (rows v.before)) t) lowered;
+      lanes : (l : ℕ) → l < g.R.Row.LANES → LaneStateTo never n
+          (start_at v.query (slice_index (labels batch.departs) l)) v.k (lane l (rows v.ride))
+          (lane l (rows v.ready));
+      kept : AreKept never base v.query.network.now (start_at v.query (slice_index (labels batch.departs) 0)) v.k
+          v.kept;
+      bounds : (j : ℕ) (x : Kept) → v.k < j → j ≤ v.query.rides → slice_get v.kept j ≡ Some x →
+          LaneStateTo never n (start_at v.query (cut base never batch.later)) j (bounds_in base never x.ride.items)
+          (bounds_in base never x.ready.items);
+      unfallen : (l p : ℕ) → l < g.R.Row.LANES → (slice_get v.fallen p ≡ Some true → ⊥) →
+          slice_index (lane l (rows v.before)) p ≡ slice_index (lane l (rows v.ready)) p;
+      settled : (trip l : ℕ) (t : Trip) (x : Kept) (lowered : List ℕ) → slice_get n.trips trip ≡ Some t →
+          l < g.R.Row.LANES → v.k < v.query.rides → slice_get v.kept (v.k + 1) ≡ Some x →
+          Lowers (Bounds (bounds_in base never x.ride.items)) (lane l (rows v.ride)) lowered →
+          NothingLower (Carries (lane l (rows v.before)) t) lowered;
     }

@@ -30,11 +30,14 @@ loop-stop-preserved c p line place f below b at fell =
           let at' = rw e at at in
           elim c.if-falls-stop.branch [
             | then-falls-stop w ↦
-                let row : b'.0 ≡ w.boarded_at.result.now = same_Some b'.0 w.boarded_at.result.now (sym b'.2 ∙ w.boarded_at.ensures) in
+                let row : b'.0 ≡ w.boarded_at.result.now =
+                same_Some b'.0 w.boarded_at.result.now (sym b'.2 ∙ w.boarded_at.ensures) in
                 rw w.due-is (w.note_all.ensures.new b'.1 line place (rw row at b'.3))
             | else-falls-stop w ↦
-                let here : get_or c.args.falls.now s no_fall ≡ f = get_or_from_slice_get c.args.falls.now s f no_fall at' in
-                absurd (let low = ap (λ (g : Fall). g.low) here in let top = ap (λ (g : Fall). g.top) here in let none = w.if-falls-stop.false in omega arith)
+                let here : get_or c.args.falls.now s no_fall ≡ f =
+                get_or_from_slice_get c.args.falls.now s f no_fall at' in
+                absurd (let low = ap (λ (g : Fall). g.low) here in let top = ap (λ (g : Fall). g.top) here in
+                let none = w.if-falls-stop.false in omega arith)
           ]
     ]
 

@@ -14,7 +14,9 @@ use Rattle.rounds.proofs.scan.scan_lines.Goals as goal
 use Rattle.rounds.proofs.scan.scan_lines.Goals.{then-first-calls_of, else-first-calls_of}
 
 pub note_lines-requires-clause-in_range : goal.note_lines-requires-clause-in_range
-note_lines-requires-clause-in_range g c p line place b = let r = boarded_line (length c.args.ride.now) c.args.round.trips.now c.args.round.lines.now c.requires.lines p line place b in omega (arith, c.requires.due)
+note_lines-requires-clause-in_range g c p line place b = let r =
+    boarded_line (length c.args.ride.now) c.args.round.trips.now c.args.round.lines.now c.requires.lines p line place
+    b in omega (arith, c.requires.due)
 
 pub scan_trips-requires-clause-fits : goal.scan_trips-requires-clause-fits
 scan_trips-requires-clause-fits g c l p h =
@@ -29,7 +31,9 @@ scan_trips-requires-clause-settled g c row at l h =
     let old = lane l (labels_in g.R.Row.labels c.args.ride.now) in
     let now = lane l (labels_in g.R.Row.labels c.loop-i.ride) in
     let falls = c.loop-i.invariant.lanes l h in
-    line_settled (lane l (labels_in g.R.Row.labels c.args.round.labels.before.now)) (cut_trips c.args.round.base g.R.Row.NEVER c.args.round.trips.now) row old now falls.same_length (lane_falls old now falls) (c.requires.settled l h)
+    line_settled (lane l (labels_in g.R.Row.labels c.args.round.labels.before.now))
+    (cut_trips c.args.round.base g.R.Row.NEVER c.args.round.trips.now) row old now falls.same_length
+    (lane_falls old now falls) (c.requires.settled l h)
 
 pub scan_trips-requires-clause-first : goal.scan_trips-requires-clause-first
 scan_trips-requires-clause-first g c row at l h r j caught =
@@ -39,8 +43,12 @@ scan_trips-requires-clause-first g c row at l h r j caught =
     let lists = c.args.round.lines.now in
     let are = c.requires.lines in
     let stops = length c.args.ride.now in
-    catches_from (cut_trips base cap trips) lists.lines (cut_lines base cap trips lists.lines are.lines) c.loop-i.i row at (lane l (labels_in g.R.Row.labels c.args.round.labels.before.now)) (lane l (labels_in g.R.Row.labels c.args.round.labels.ready.now))
-    stops lists.boarded (cut_boarded base cap stops trips lists.lines lists.boarded are.boarded) c.args.round.labels.falls.now c.note_lines.new.due (omega arith) (c.requires.fallen l h) c.note_lines.ensures r j caught
+    catches_from (cut_trips base cap trips) lists.lines (cut_lines base cap trips lists.lines are.lines) c.loop-i.i
+    row at (lane l (labels_in g.R.Row.labels c.args.round.labels.before.now))
+    (lane l (labels_in g.R.Row.labels c.args.round.labels.ready.now))
+    stops lists.boarded (cut_boarded base cap stops trips lists.lines lists.boarded are.boarded)
+    c.args.round.labels.falls.now c.note_lines.new.due (omega arith) (c.requires.fallen l h)
+    c.note_lines.ensures r j caught
 
 pub loop-i-preserved : goal.loop-i-preserved
 loop-i-preserved g c =
@@ -57,20 +65,32 @@ loop-i-preserved g c =
     let start = labels_in g.R.Row.labels c.args.ride.now in
     let mid = labels_in g.R.Row.labels c.loop-i.ride in
     record {
-      same = elim c.if-first-calls_of.branch [ then-first-calls_of w ↦ search rules | else-first-calls_of w ↦ search rules ];
-      marked = elim c.if-first-calls_of.branch [ then-first-calls_of w ↦ search rules | else-first-calls_of w ↦ search rules ];
+      same = elim c.if-first-calls_of.branch [
+        | then-first-calls_of w ↦ search rules
+        | else-first-calls_of w ↦ search rules
+      ];
+      marked = elim c.if-first-calls_of.branch [
+        | then-first-calls_of w ↦ search rules
+        | else-first-calls_of w ↦ search rules
+      ];
       lanes = λ k l. elim c.if-first-calls_of.branch [
         | then-first-calls_of w ↦
-            rw w.ride-is (one_line (lane k (labels_in g.R.Row.labels c.args.round.labels.ready.now)) trips lists.lines x line at_x (old.lanes k l) (w.scan_trips.ensures.lanes line at_x k l))
+            rw w.ride-is (one_line (lane k (labels_in g.R.Row.labels c.args.round.labels.ready.now)) trips lists.lines x
+            line at_x (old.lanes k l) (w.scan_trips.ensures.lanes line at_x k l))
         | else-first-calls_of w ↦
             let before = lane k (labels_in g.R.Row.labels c.args.round.labels.before.now) in
             let ready = lane k (labels_in g.R.Row.labels c.args.round.labels.ready.now) in
             let now = lane k mid in
-            let settled = line_settled before trips line (lane k start) now (old.lanes k l).same_length (lane_falls (lane k start) now (old.lanes k l)) (c.requires.settled k l) in
-            let view = are.viewed.view x line c.calls_of.result.now (get_or lists.times x []) at_x c.calls_of.ensures (slice_get-get_or lists.times x [] (omega (arith, are.viewed.times_size))) in
+            let settled = line_settled before trips line (lane k start) now (old.lanes k l).same_length
+            (lane_falls (lane k start) now (old.lanes k l)) (c.requires.settled k l) in
+            let view = are.viewed.view x line c.calls_of.result.now (get_or lists.times x []) at_x c.calls_of.ensures
+            (slice_get-get_or lists.times x [] (omega (arith, are.viewed.times_size))) in
             let stops = length c.args.ride.now in
             let outside : (r j : ℕ) → IsCaught before ready (rows_of_line trips line) r j → ⊥ = λ r j caught.
-            let low = catches_from trips lists.lines cut_are x line at_x before ready stops lists.boarded (cut_boarded base cap stops c.args.round.trips.now lists.lines lists.boarded are.boarded) c.args.round.labels.falls.now c.note_lines.new.due (omega arith) (c.requires.fallen k l) c.note_lines.ensures r j caught in
+            let low = catches_from trips lists.lines cut_are x line at_x before ready stops lists.boarded
+            (cut_boarded base cap stops c.args.round.trips.now lists.lines lists.boarded are.boarded)
+            c.args.round.labels.falls.now c.note_lines.new.due (omega arith) (c.requires.fallen k l)
+            c.note_lines.ensures r j caught in
             let own = cut_at_got base cap c.args.round.trips.now line r j caught.on caught.from in
             let inside = slice_get_within own.1.row j own.0 own.1.event in
             let long = view.places r own.1.row own.1.trip in
@@ -82,7 +102,8 @@ loop-i-preserved g c =
       marks = elim c.if-first-calls_of.branch [
         | then-first-calls_of w ↦
             let end = labels_in g.R.Row.labels w.scan_trips.new.ride in
-            rw (w.ride-is, w.marked-is) (marks_then start mid end c.args.marked.now c.loop-i.marked w.scan_trips.new.marked
+            rw (w.ride-is, w.marked-is) (marks_then start mid end c.args.marked.now c.loop-i.marked
+            w.scan_trips.new.marked
             (λ l p h. lane_falls (lane l start) (lane l mid) (old.lanes l h) p)
             (λ l p h. lane_falls (lane l mid) (lane l end) (w.scan_trips.ensures.lanes line at_x l h) p)
             old.marks w.scan_trips.ensures.marks)
@@ -96,4 +117,6 @@ returns-clause-lanes g c l h =
     let cap = g.R.Row.NEVER in
     let trips = c.args.round.trips.now in
     let lists = c.args.round.lines.now in
-    lines_carry (cut_trips base cap trips) lists.lines (cut_lines base cap trips lists.lines c.requires.lines.lines) (lane l (labels_in g.R.Row.labels c.args.round.labels.ready.now)) c.loop-i.i (omega arith) (c.loop-i.invariant.lanes l h)
+    lines_carry (cut_trips base cap trips) lists.lines (cut_lines base cap trips lists.lines c.requires.lines.lines)
+    (lane l (labels_in g.R.Row.labels c.args.round.labels.ready.now)) c.loop-i.i (omega arith)
+    (c.loop-i.invariant.lanes l h)

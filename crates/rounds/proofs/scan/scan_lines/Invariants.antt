@@ -10,7 +10,10 @@ invariant-loop-i g v =
     record {
       same : length v.ride ≡ length v.initial.ride;
       marked : length v.marked ≡ length v.ride;
-      lanes : (k : ℕ) → k < g.R.Row.LANES → Lowers (CarriesBelow (lane k (labels_in g.R.Row.labels v.round.labels.ready.now)) (cut_trips v.round.base g.R.Row.NEVER v.round.trips.now) v.round.lines.now.lines v.i)
+      lanes : (k : ℕ) → k < g.R.Row.LANES → Lowers
+          (CarriesBelow (lane k (labels_in g.R.Row.labels v.round.labels.ready.now))
+          (cut_trips v.round.base g.R.Row.NEVER v.round.trips.now) v.round.lines.now.lines v.i)
           (lane k (labels_in g.R.Row.labels v.initial.ride)) (lane k (labels_in g.R.Row.labels v.ride));
-      marks : MarksFallenOf g.R.Row.LANES (labels_in g.R.Row.labels v.initial.ride) (labels_in g.R.Row.labels v.ride) v.initial.marked v.marked;
+      marks : MarksFallenOf g.R.Row.LANES (labels_in g.R.Row.labels v.initial.ride) (labels_in g.R.Row.labels v.ride)
+          v.initial.marked v.marked;
     }

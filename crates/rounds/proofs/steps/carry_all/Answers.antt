@@ -8,8 +8,11 @@ loop-trip-preserved c =
     let trips = c.args.trips.now in
     record {
       same = search rules;
-      lowered = carry_one c.args.ready.now trips c.loop-trip.trip-index c.trip-item.result (slice_get_read trips (length trips) c.loop-trip.trip-index c.trip-item.result refl c.loop-trip-test.true c.trip-item.is) c.loop-trip.invariant.lowered c.carry.ensures;
+      lowered = carry_one c.args.ready.now trips c.loop-trip.trip-index c.trip-item.result
+          (slice_get_read trips (length trips) c.loop-trip.trip-index c.trip-item.result refl c.loop-trip-test.true
+          c.trip-item.is) c.loop-trip.invariant.lowered c.carry.ensures;
     }
 
 pub returns : goal.returns
-returns c = carry_each c.args.ready.now c.args.trips.now c.loop-trip.trip-index c.loop-trip-test.false c.loop-trip.invariant.lowered
+returns c = carry_each c.args.ready.now c.args.trips.now c.loop-trip.trip-index c.loop-trip-test.false
+    c.loop-trip.invariant.lowered

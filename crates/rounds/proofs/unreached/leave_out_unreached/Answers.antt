@@ -11,5 +11,6 @@ returns-clause-last c =
     let early : q.window.first < END_OF_AXIS = omega (arith, first) in
     let ride = lane 0 (labels_in (λ row. row) c.run_first.new.tables.ride.items) in
     let ready = lane 0 (labels_in (λ row. row) c.run_first.new.tables.ready.items) in
-    left_out q.network.now c.known.ensures q.origin.0 q.window.first q.rides ride ready c.in_ok-run_first.ensures.state early c.args.last.now c.requires.last c.requires.few c.leave_out.new.last c.leave_out.ensures.same
+    left_out q.network.now c.known.ensures q.origin.0 q.window.first q.rides ride ready c.in_ok-run_first.ensures.state
+    early c.args.last.now c.requires.last c.requires.few c.leave_out.new.last c.leave_out.ensures.same
     (rw (c.as_slice.ensures.value, c.as_slice-2.ensures.value) at c.leave_out.ensures.kept)

@@ -19,10 +19,13 @@ loop-line-preserved c k row below at =
       | inl lt ↦ let old = c.loop-line.invariant k row lt at in omega arith
       | inr ge ↦
           let e : c.loop-line.line ≡ k = omega arith in
-          let same : c.trips_of-trips.result.now ≡ row = same_Some c.trips_of-trips.result.now row (sym c.trips_of-trips.ensures ∙ (ap (λ (i : ℕ). slice_get c.args.lines.now.lines i) e ∙ at)) in
+          let same : c.trips_of-trips.result.now ≡ row =
+          same_Some c.trips_of-trips.result.now row (sym c.trips_of-trips.ensures
+          ∙ (ap (λ (i : ℕ). slice_get c.args.lines.now.lines i) e ∙ at)) in
           let long = ap length same in
           omega (arith, long)
     ]
 
 pub returns : goal.returns
-returns c k d l = c.loop-line.invariant k (get_or c.args.lines.now.lines k d) (omega arith) (slice_get-get_or c.args.lines.now.lines k d l)
+returns c k d l = c.loop-line.invariant k (get_or c.args.lines.now.lines k d) (omega arith)
+    (slice_get-get_or c.args.lines.now.lines k d l)

@@ -9,9 +9,11 @@ pub returns-in_err-read-clause-fault : goal.returns-in_err-read-clause-fault
 returns-in_err-read-clause-fault c =
     let p = err_from_is_err_and c.from_residual-in_err-read.result c.from_residual-in_err-read.ensures.1 in
     let columns = c.columns_in.result in
-    let are : rows_in c.args.bytes.now ≡ map (row_at columns) c.in_ok-file.file.rows = rw (c.in_ok-file.ensures.records, c.columns_in.ensures) refl in
+    let are : rows_in c.args.bytes.now ≡ map (row_at columns) c.in_ok-file.file.rows =
+    rw (c.in_ok-file.ensures.records, c.columns_in.ensures) refl in
     rw (p.1, p.2)
-    (record_told c.args.bytes.now c.args.feed.now columns c.in_ok-file.file.rows c.in_err-read.field-0.0 c.in_ok-file.ensures.columns are c.in_err-read.ensures.fault)
+    (record_told c.args.bytes.now c.args.feed.now columns c.in_ok-file.file.rows c.in_err-read.field-0.0
+    c.in_ok-file.ensures.columns are c.in_err-read.ensures.fault)
 
 pub check_times-requires : goal.check_times-requires
 check_times-requires c =

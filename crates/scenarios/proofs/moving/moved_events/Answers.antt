@@ -13,9 +13,14 @@ returns-in_default-clause-fault c =
     let first : c.if-departs.moved_event ≡ (c.args.departs && (c.loop-position.position == 0)) =
     elim c.if-departs.branch [
       | then-departs w ↦ w.moved_event-is ∙ sym (ap (λ b. b && (c.loop-position.position == 0)) w.if-departs.true)
-      | else-departs w ↦ w.moved_event-is ∙ w.if-departs.false ∙ sym (ap (λ b. b && (c.loop-position.position == 0)) w.if-departs.false)
+      | else-departs w ↦ w.moved_event-is ∙ w.if-departs.false
+          ∙ sym (ap (λ b. b && (c.loop-position.position == 0)) w.if-departs.false)
     ] in
-    inr (refl, rw (to_z-of_z w64 c.args.seconds c.ranges.seconds) at (off_axis c.args.departs c.if-departs.moved_event c.args.events.now c.loop-position.position _ c.loop-position-test.true first z c.in_default.ensures))
+    inr (
+      refl,
+      rw (to_z-of_z w64 c.args.seconds c.ranges.seconds) at (off_axis c.args.departs c.if-departs.moved_event
+          c.args.events.now c.loop-position.position _ c.loop-position-test.true first z c.in_default.ensures),
+    )
 
 pub loop-position-preserved : goal.loop-position-preserved
 loop-position-preserved c =
@@ -23,12 +28,16 @@ loop-position-preserved c =
     let first : c.if-departs.moved_event ≡ (c.args.departs && (c.loop-position.position == 0)) =
     elim c.if-departs.branch [
       | then-departs w ↦ w.moved_event-is ∙ sym (ap (λ b. b && (c.loop-position.position == 0)) w.if-departs.true)
-      | else-departs w ↦ w.moved_event-is ∙ w.if-departs.false ∙ sym (ap (λ b. b && (c.loop-position.position == 0)) w.if-departs.false)
+      | else-departs w ↦ w.moved_event-is ∙ w.if-departs.false
+          ∙ sym (ap (λ b. b && (c.loop-position.position == 0)) w.if-departs.false)
     ] in
     let pushed : c.push.new.self.items ≡ c.loop-position.made.items ++ c.in-Some.moved ∷ [] = search rules in
     record {
-      made = moved_more c.args.departs c.if-departs.moved_event c.args.events.now c.loop-position.position _ c.loop-position-test.true first z c.loop-position.made.items c.push.new.self.items c.in-Some.moved c.in-Some.ensures pushed c.loop-position.invariant.made;
-      axis = on_axis_more c.args.departs c.if-departs.moved_event c.args.events.now c.loop-position.position _ c.loop-position-test.true first z c.in-Some.moved c.in-Some.ensures c.loop-position.invariant.axis;
+      made = moved_more c.args.departs c.if-departs.moved_event c.args.events.now c.loop-position.position _
+          c.loop-position-test.true first z c.loop-position.made.items c.push.new.self.items c.in-Some.moved
+          c.in-Some.ensures pushed c.loop-position.invariant.made;
+      axis = on_axis_more c.args.departs c.if-departs.moved_event c.args.events.now c.loop-position.position _
+          c.loop-position-test.true first z c.in-Some.moved c.in-Some.ensures c.loop-position.invariant.axis;
     }
 
 pub returns-clause-good : goal.returns-clause-good
@@ -36,6 +45,8 @@ returns-clause-good c =
     let z = to_z w64 (of_z w64 c.args.seconds) in
     let same = to_z-of_z w64 c.args.seconds c.ranges.seconds in
     let all = all_taken c.args.departs c.args.events.now c.loop-position.position c.loop-position-test.false in (
-      ap (λ z. list_all (is_event_on_axis z) (arriving c.args.departs c.args.events.now)) (sym same) ∙ sym (ap (list_all (is_event_on_axis z)) all) ∙ c.loop-position.invariant.axis,
-      c.loop-position.invariant.made ∙ ap (map (moved_event z)) all ∙ ap (λ z. map (moved_event z) (arriving c.args.departs c.args.events.now)) same,
+      ap (λ z. list_all (is_event_on_axis z) (arriving c.args.departs c.args.events.now)) (sym same)
+          ∙ sym (ap (list_all (is_event_on_axis z)) all) ∙ c.loop-position.invariant.axis,
+      c.loop-position.invariant.made ∙ ap (map (moved_event z)) all
+          ∙ ap (λ z. map (moved_event z) (arriving c.args.departs c.args.events.now)) same,
     )

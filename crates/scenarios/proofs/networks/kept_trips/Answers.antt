@@ -8,5 +8,9 @@ returns-in_err-add_run-clause-fault c =
     let p = err_from_is_err_and c.from_residual.result c.from_residual.ensures.1 in
     rw (p.1, p.2) (elim c.in_err-add_run.ensures.fault [
       | inl m ↦ inl m
-      | inr l ↦ inr (l.0, too_large c.args.feed.now c.args.scenario.now c.args.runs.now c.loop-run.run-index _ c.loop-run-test.true c.loop-run.trips c.loop-run.invariant.made l.1)
+      | inr l ↦ inr (
+        l.0,
+        too_large c.args.feed.now c.args.scenario.now c.args.runs.now c.loop-run.run-index _
+            c.loop-run-test.true c.loop-run.trips c.loop-run.invariant.made l.1,
+      )
     ])

@@ -24,8 +24,10 @@ loop-i-preserved-then-branch c =
     let d = RemoveRoute 0 in
     let (is, later) = c.in_ok-is_last_too_far.ensures (drop i edits) c.loop-i.invariant.later in
     record {
-      later = λ k. later k ∙ sym (ap (list_any (shifts_trip k)) (from_one c.args.feed.now c.args.scenario.now.edits edits i (i - 1) one within d));
-      first = found_here c.args.feed.now c.args.scenario.now.edits edits i (i - 1) one within d (sym c.if-branch.true ∙ is);
+      later = λ k. later k ∙ sym (ap (list_any (shifts_trip k))
+          (from_one c.args.feed.now c.args.scenario.now.edits edits i (i - 1) one within d));
+      first = found_here c.args.feed.now c.args.scenario.now.edits edits i (i - 1) one within d (sym c.if-branch.true
+          ∙ is);
     }
 
 pub loop-i-preserved : goal.loop-i-preserved
@@ -37,9 +39,12 @@ loop-i-preserved c =
     let d = RemoveRoute 0 in
     let (is, later) = c.in_ok-is_last_too_far.ensures (drop i edits) c.loop-i.invariant.later in
     record {
-      later = λ k. later k ∙ sym (ap (list_any (shifts_trip k)) (from_one c.args.feed.now c.args.scenario.now.edits edits i (i - 1) one within d));
-      first = found_later c.args.feed.now c.args.scenario.now.edits edits i (i - 1) one within d c.loop-i.first (sym c.if-branch.false ∙ is) c.loop-i.invariant.first;
+      later = λ k. later k ∙ sym (ap (list_any (shifts_trip k))
+          (from_one c.args.feed.now c.args.scenario.now.edits edits i (i - 1) one within d));
+      first = found_later c.args.feed.now c.args.scenario.now.edits edits i (i - 1) one within d c.loop-i.first
+          (sym c.if-branch.false ∙ is) c.loop-i.invariant.first;
     }
 
 pub returns : goal.returns
-returns c = from_start c.args.feed.now c.args.scenario.now.edits c.edits-edits.result.now c.loop-i.i c.loop-i.first (omega arith) c.edits-edits.ensures c.loop-i.invariant.first
+returns c = from_start c.args.feed.now c.args.scenario.now.edits c.edits-edits.result.now c.loop-i.i c.loop-i.first
+    (omega arith) c.edits-edits.ensures c.loop-i.invariant.first

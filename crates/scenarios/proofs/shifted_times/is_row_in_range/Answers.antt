@@ -15,6 +15,7 @@ returns-then-begins_in_range c =
     let same : z ≡ c.args.seconds = to_z-of_z w64 c.args.seconds c.ranges.seconds in
     let row = c.args.row.now in
     let last = row.end - 1 - (row.end - row.start - 1) % row.headway in
-    c.ends_in_range.ensures ∙ ap (λ b. b && ends_in_range z (last + c.args.length)) (sym c.if-begins_in_range.true ∙ c.begins_in_range.ensures)
+    c.ends_in_range.ensures ∙ ap (λ b. b && ends_in_range z (last + c.args.length)) (sym c.if-begins_in_range.true
+    ∙ c.begins_in_range.ensures)
     ∙ row_by_ends z c.args.length row c.requires.row c.if-row.false
     ∙ ap (λ (y : ℤ). list_all (is_departure_in_range y c.args.length) (departures_of row)) same

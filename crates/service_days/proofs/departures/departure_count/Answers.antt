@@ -3,7 +3,8 @@ use Rattle.service_days.proofs.Departing.{departures_by_count, departures_by_quo
 use Rattle.service_days.proofs.departures.departure_count.Goals as goal
 
 pub returns-then-row-clause-departures : goal.returns-then-row-clause-departures
-returns-then-row-clause-departures c = departures_by_count c.args.row.now 0 c.requires (λ x l. absurd (omega arith)) (omega arith)
+returns-then-row-clause-departures c = departures_by_count c.args.row.now 0 c.requires (λ x l. absurd (omega arith))
+    (omega arith)
 
 pub returns-clause-departures : goal.returns-clause-departures
 returns-clause-departures c = departures_by_quotient c.args.row.now c.requires c.if-row.false

@@ -17,7 +17,11 @@ returns-in_err-add_if_running-clause-fault c =
     let n = c.loop-number.number in
     let t = c.trip.result.now in
     let count = length-enumerate_from 0 trips in
-    rw (p.1, p.2) (fault_of_part f (enumerate_from 0 trips) n (n, t) (n, t) (omega arith) (numbered trips n t c.trip.ensures) c.args.runs.now c.loop-number.runs c.loop-number.invariant
+    rw (p.1, p.2) (fault_of_part f (enumerate_from 0 trips) n (n, t) (
+      n,
+      t,
+    ) (omega arith) (numbered trips n t c.trip.ensures) c.args.runs.now c.loop-number.runs
+    c.loop-number.invariant
     c.in_err-add_if_running.field-0.0 c.in_err-add_if_running.ensures.fault)
 
 pub loop-number-preserved : goal.loop-number-preserved
@@ -27,11 +31,16 @@ loop-number-preserved c =
     let n = c.loop-number.number in
     let t = c.trip.result.now in
     let count = length-enumerate_from 0 trips in
-    list_more f (enumerate_from 0 trips) n (n, t) (n, t) (omega arith) (numbered trips n t c.trip.ensures) c.args.runs.now c.loop-number.runs c.add_if_running.new.runs c.loop-number.invariant
+    list_more f (enumerate_from 0 trips) n (n, t) (
+      n,
+      t,
+    ) (omega arith) (numbered trips n t c.trip.ensures) c.args.runs.now c.loop-number.runs
+    c.add_if_running.new.runs c.loop-number.invariant
     c.in_ok-add_if_running.ensures.good
 
 pub returns-clause-good : goal.returns-clause-good
 returns-clause-good c =
     let f : ℕ × FeedTrip → List Run = λ at. runs_if c.args.feed.now c.args.day.now.number c.args.base at.0 at.1 in
     let count = length-enumerate_from 0 c.args.feed.now.trips in
-    list_whole f (enumerate_from 0 c.args.feed.now.trips) c.loop-number.number (omega arith) c.args.runs.now c.loop-number.runs c.loop-number.invariant
+    list_whole f (enumerate_from 0 c.args.feed.now.trips) c.loop-number.number (omega arith) c.args.runs.now
+    c.loop-number.runs c.loop-number.invariant

@@ -13,8 +13,10 @@ returns-in_err-add_day-clause-fault c =
     let f : ℕ → List Run = λ x. runs_of_day c.args.feed.now (c.args.first + x) (86400 * x) in
     let x = c.loop-x.x in
     let count = length-range_with_len 0 c.args.days in
-    let told : IsListFault c.in_err-add_day.field-0.0 (length c.loop-x.runs + length (f x)) = rw c.in_ok-day.ensures.number at c.in_err-add_day.ensures.fault in
-    rw (p.1, p.2) (fault_of_part f (range_with_len 0 c.args.days) x x x (omega arith) (number_at c.args.days x c.loop-x-test.true) c.args.runs.now c.loop-x.runs c.loop-x.invariant
+    let told : IsListFault c.in_err-add_day.field-0.0 (length c.loop-x.runs + length (f x)) =
+    rw c.in_ok-day.ensures.number at c.in_err-add_day.ensures.fault in
+    rw (p.1, p.2) (fault_of_part f (range_with_len 0 c.args.days) x x x (omega arith)
+    (number_at c.args.days x c.loop-x-test.true) c.args.runs.now c.loop-x.runs c.loop-x.invariant
     c.in_err-add_day.field-0.0 told)
 
 pub loop-x-preserved : goal.loop-x-preserved
@@ -22,11 +24,15 @@ loop-x-preserved c =
     let f : ℕ → List Run = λ x. runs_of_day c.args.feed.now (c.args.first + x) (86400 * x) in
     let x = c.loop-x.x in
     let count = length-range_with_len 0 c.args.days in
-    let added : c.add_day.new.runs ≡ c.loop-x.runs ++ f x = c.in_ok-add_day.ensures.good ∙ ap (λ n. c.loop-x.runs ++ runs_of_day c.args.feed.now n (86400 * x)) c.in_ok-day.ensures.number in
-    list_more f (range_with_len 0 c.args.days) x x x (omega arith) (number_at c.args.days x c.loop-x-test.true) c.args.runs.now c.loop-x.runs c.add_day.new.runs c.loop-x.invariant added
+    let added : c.add_day.new.runs ≡ c.loop-x.runs ++ f x =
+    c.in_ok-add_day.ensures.good ∙ ap (λ n. c.loop-x.runs ++ runs_of_day c.args.feed.now n (86400 * x))
+    c.in_ok-day.ensures.number in
+    list_more f (range_with_len 0 c.args.days) x x x (omega arith) (number_at c.args.days x c.loop-x-test.true)
+    c.args.runs.now c.loop-x.runs c.add_day.new.runs c.loop-x.invariant added
 
 pub returns-clause-good : goal.returns-clause-good
 returns-clause-good c =
     let f : ℕ → List Run = λ x. runs_of_day c.args.feed.now (c.args.first + x) (86400 * x) in
     let count = length-range_with_len 0 c.args.days in
-    list_whole f (range_with_len 0 c.args.days) c.loop-x.x (omega arith) c.args.runs.now c.loop-x.runs c.loop-x.invariant
+    list_whole f (range_with_len 0 c.args.days) c.loop-x.x (omega arith) c.args.runs.now c.loop-x.runs
+    c.loop-x.invariant

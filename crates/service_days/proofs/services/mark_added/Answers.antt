@@ -15,6 +15,10 @@ loop-row-preserved c s lt =
     let start = get_or c.args.running.now s false in
     let old = get_or c.loop-row.running s false in
     elim c.if-adds.branch [
-      | then-adds w ↦ ap (λ l. get_or l s false) w.running-is ∙ marked of says c.args.exceptions.now i x c.loop-row-test.true c.row-item.is service start old _ (sym c.adds.ensures ∙ w.if-adds.true) (w.set_mark.ensures s (omega arith)) (c.loop-row.invariant s lt)
-      | else-adds w ↦ ap (λ l. get_or l s false) w.running-is ∙ still_marked of says c.args.exceptions.now i x c.loop-row-test.true c.row-item.is service start old (sym c.adds.ensures ∙ w.if-adds.false) (c.loop-row.invariant s lt)
+      | then-adds w ↦ ap (λ l. get_or l s false) w.running-is
+          ∙ marked of says c.args.exceptions.now i x c.loop-row-test.true c.row-item.is service start old _
+          (sym c.adds.ensures ∙ w.if-adds.true) (w.set_mark.ensures s (omega arith)) (c.loop-row.invariant s lt)
+      | else-adds w ↦ ap (λ l. get_or l s false) w.running-is
+          ∙ still_marked of says c.args.exceptions.now i x c.loop-row-test.true c.row-item.is service start old
+          (sym c.adds.ensures ∙ w.if-adds.false) (c.loop-row.invariant s lt)
     ]

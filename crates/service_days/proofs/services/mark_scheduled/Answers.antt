@@ -16,6 +16,11 @@ loop-row-preserved c s lt =
     let start = get_or c.args.running.now s false in
     let old = get_or c.loop-row.running s false in
     elim c.if-covers.branch [
-      | then-covers w ↦ ap (λ l. get_or l s false) w.running-is ∙ marked of says c.args.calendar.now i x c.loop-row-test.true c.row-item.is service start old _ (sym c.covers.ensures ∙ w.if-covers.true) (w.set_mark.ensures s (omega arith)) (c.loop-row.invariant s lt)
-      | else-covers w ↦ ap (λ l. get_or l s false) w.running-is ∙ still_marked of says c.args.calendar.now i x c.loop-row-test.true c.row-item.is service start old (sym c.covers.ensures ∙ w.if-covers.false) (c.loop-row.invariant s lt)
+      | then-covers w ↦ ap (λ l. get_or l s false) w.running-is
+          ∙ marked of says c.args.calendar.now i x c.loop-row-test.true c.row-item.is service start old _
+          (sym c.covers.ensures ∙ w.if-covers.true) (w.set_mark.ensures s (omega arith))
+          (c.loop-row.invariant s lt)
+      | else-covers w ↦ ap (λ l. get_or l s false) w.running-is
+          ∙ still_marked of says c.args.calendar.now i x c.loop-row-test.true c.row-item.is service start old
+          (sym c.covers.ensures ∙ w.if-covers.false) (c.loop-row.invariant s lt)
     ]

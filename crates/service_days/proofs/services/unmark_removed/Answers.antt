@@ -15,6 +15,11 @@ loop-row-preserved c s lt =
     let start = get_or c.args.running.now s false in
     let old = get_or c.loop-row.running s false in
     elim c.if-removes.branch [
-      | then-removes w ↦ ap (λ l. get_or l s false) w.running-is ∙ unmarked of says c.args.exceptions.now i x c.loop-row-test.true c.row-item.is service start old _ (sym c.removes.ensures ∙ w.if-removes.true) (w.set_mark.ensures s (omega arith)) (c.loop-row.invariant s lt)
-      | else-removes w ↦ ap (λ l. get_or l s false) w.running-is ∙ still_unmarked of says c.args.exceptions.now i x c.loop-row-test.true c.row-item.is service start old (sym c.removes.ensures ∙ w.if-removes.false) (c.loop-row.invariant s lt)
+      | then-removes w ↦ ap (λ l. get_or l s false) w.running-is
+          ∙ unmarked of says c.args.exceptions.now i x c.loop-row-test.true c.row-item.is service start old _
+          (sym c.removes.ensures ∙ w.if-removes.true) (w.set_mark.ensures s (omega arith))
+          (c.loop-row.invariant s lt)
+      | else-removes w ↦ ap (λ l. get_or l s false) w.running-is
+          ∙ still_unmarked of says c.args.exceptions.now i x c.loop-row-test.true c.row-item.is service start old
+          (sym c.removes.ensures ∙ w.if-removes.false) (c.loop-row.invariant s lt)
     ]

@@ -17,5 +17,7 @@ returns c =
     let t = c.args.durations.now in
     let p = c.args.stop.0 in
     let lanes = c.lanes_of.result.now in
-    let is = subst (λ (n : ℕ). IsLeastOrNone (Attains (λ m. known_of (label_in lanes m)) n c.args.share) c.least_attained.result) c.minutes.ensures c.least_attained.ensures in
-    cell_alike (λ m. known_of (label_in lanes m)) (λ m. at t p m) t.minutes c.args.share c.least_attained.result c.lanes_of.ensures.minutes is
+    let is = subst (λ (n : ℕ). IsLeastOrNone (Attains (λ m. known_of (label_in lanes m)) n c.args.share)
+    c.least_attained.result) c.minutes.ensures c.least_attained.ensures in
+    cell_alike (λ m. known_of (label_in lanes m)) (λ m. at t p m) t.minutes c.args.share c.least_attained.result
+    c.lanes_of.ensures.minutes is

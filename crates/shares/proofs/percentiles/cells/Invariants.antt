@@ -7,5 +7,6 @@ use Rattle.shares.proofs.percentiles.cells.Given as goal
 abbrev pub invariant-loop-k : goal.invariant-loop-k
 invariant-loop-k l = record {
   count : length l.cells.items ≡ l.k;
-  each : (j : ℕ) (stop : StopNo) → j < l.k → slice_get l.destinations j ≡ Some stop → IsCell l.durations l.share stop.0 (slice_index_or l.cells.items j None);
+  each : (j : ℕ) (stop : StopNo) → j < l.k → slice_get l.destinations j ≡ Some stop →
+      IsCell l.durations l.share stop.0 (slice_index_or l.cells.items j None);
 }

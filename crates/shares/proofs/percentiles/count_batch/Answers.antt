@@ -11,13 +11,15 @@ returns-clause-count c =
     let batch = c.args.batch in
     let d = c.args.duration in
     let long : length batch ≡ 16 = omega arith in
-    ap count_ones (bitmask_splat w32 leb batch 16 d long (omega arith)) ∙ (ones-mask_l (λ (x : ℕ). leb x d) batch ∙ count_lanes batch d 16 c.requires long)
+    ap count_ones (bitmask_splat w32 leb batch 16 d long (omega arith))
+    ∙ (ones-mask_l (λ (x : ℕ). leb x d) batch ∙ count_lanes batch d 16 c.requires long)
 
 pub returns-clause-bound : goal.returns-clause-bound
 returns-clause-bound c =
     let batch = c.args.batch in
     let d = c.args.duration in
     let long : length batch ≡ 16 = omega arith in
-    let same = ap count_ones (bitmask_splat w32 leb batch 16 d long (omega arith)) ∙ ones-mask_l (λ (x : ℕ). leb x d) batch in
+    let same = ap count_ones (bitmask_splat w32 leb batch 16 d long (omega arith))
+    ∙ ones-mask_l (λ (x : ℕ). leb x d) batch in
     let few = count_by-le-length (λ (x : ℕ). leb x d) batch in
     omega (arith, same, few, long)

@@ -22,10 +22,13 @@ loop-batch-preserved c =
     let high = c.loop-batch.high in
     let higher = c.higher_of-higher.result in
     let row = slice_index_or lanes b [] in
-    let new : (l : ℕ) → l < 16 → slice_index higher l ≡ max (slice_index high l) (known_label (slice_index row l)) = λ l h. c.higher_of-higher.ensures l h in
+    let new : (l : ℕ) → l < 16 → slice_index higher l ≡ max (slice_index high l) (known_label (slice_index row l)) =
+    λ l h. c.higher_of-higher.ensures l h in
     record {
-      known = λ l h e. neither (slice_index high l) (known_label (slice_index row l)) (c.loop-batch.invariant.known l h) (never_known (slice_index row l)) (sym (new l h) ∙ e);
-      greatest = λ m d h is. reached_more lanes high higher b m d c.loop-batch.invariant.greatest (λ l k. let n = new l k in omega (arith, n)) (λ l k. let n = new l k in omega (arith, n)) h is;
+      known = λ l h e. neither (slice_index high l) (known_label (slice_index row l)) (c.loop-batch.invariant.known l h)
+          (never_known (slice_index row l)) (sym (new l h) ∙ e);
+      greatest = λ m d h is. reached_more lanes high higher b m d c.loop-batch.invariant.greatest (λ l k. let n =
+          new l k in omega (arith, n)) (λ l k. let n = new l k in omega (arith, n)) h is;
     }
 
 pub returns-clause-greatest : goal.returns-clause-greatest

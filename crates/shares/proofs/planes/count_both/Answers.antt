@@ -16,7 +16,8 @@ loop-word-preserved c =
       few = omega (arith, few, c.loop-word.invariant.few);
       count = λ lanes P Q x y.
           let here : count_ones (bit_and a p) ≡ how_many (λ v. P v && Q v) (block lanes s) =
-          ap count_ones ((λ i. bit_and (x.each s c.loop-word-test.true i) (y.each s c.loop-word-test.true i)) ∙ mask_and P Q (block lanes s)) ∙ ones_mask (λ v. P v && Q v) (block lanes s) in
+          ap count_ones ((λ i. bit_and (x.each s c.loop-word-test.true i) (y.each s c.loop-word-test.true i))
+          ∙ mask_and P Q (block lanes s)) ∙ ones_mask (λ v. P v && Q v) (block lanes s) in
           let more = count_next (λ v. P v && Q v) lanes s in
           omega (arith, here, more, c.loop-word.invariant.count lanes P Q x y);
     }

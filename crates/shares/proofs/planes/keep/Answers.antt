@@ -23,10 +23,17 @@ loop-word-preserved c =
             let e : w ≡ s = omega (arith, l, ge) in
             let here = old.rest s (omega arith) ∙ a.each s c.loop-word-test.true in
             let there = p.each s c.loop-word-test.true in
-            rw e (get_or-set_same among s v 0 room ∙ ((λ i. bit_and (here i) (bit_xor (there i) side)) ∙ kept_word c.args.with P Q (block lanes s) side (block_few lanes s rows) old.side))
+            rw e (get_or-set_same among s v 0 room ∙ ((λ i. bit_and (here i) (bit_xor (there i) side))
+            ∙ kept_word c.args.with P Q (block lanes s) side (block_few lanes s rows) old.side))
       ];
       rest = λ w l. get_or-set_other among s w v 0 (λ e. omega (arith, e, l)) ∙ old.rest w (omega (arith, l));
     }
 
 pub returns : goal.returns
-returns c lanes P Q rows a p = record { each = λ w l. c.loop-word.invariant.kept lanes P Q rows a p w (omega (arith, l, c.loop-word-test.false)) }
+returns c lanes P Q rows a p = record {
+  each = λ w l. c.loop-word.invariant.kept lanes P Q rows a p w (omega (
+    arith,
+    l,
+    c.loop-word-test.false,
+  ));
+}

@@ -13,11 +13,16 @@ returns c =
     let row = λ (i : ℕ). slice_index_or lanes i [] in
     let P = has c.args.bit in
     let past : (i : ℕ) → length lanes ≤ i → row i ≡ [] = λ i h. get_or_past lanes i [] h in
-    let first : (length (row w) ≡ 16) ⊎ (row (w + 1) ++ (row (w + 2) ++ row (w + 3)) ≡ []) = elim (cases_lt w (length lanes)) [
+    let first : (length (row w) ≡ 16) ⊎ (row (w + 1) ++ (row (w + 2) ++ row (w + 3)) ≡ []) =
+    elim (cases_lt w (length lanes)) [
       | inl lt ↦ inl (c.told-lanes w lt)
-      | inr ge ↦ inr ((λ i. past (w + 1) (omega (arith, ge)) i ++ (past (w + 2) (omega (arith, ge)) i ++ past (w + 3) (omega (arith, ge)) i)))
+      | inr ge ↦ inr ((λ i. past (w + 1) (omega (
+        arith,
+        ge,
+      )) i ++ (past (w + 2) (omega (arith, ge)) i ++ past (w + 3) (omega (arith, ge)) i)))
     ] in
-    let second : (length (row (w + 1)) ≡ 16) ⊎ (row (w + 2) ++ row (w + 3) ≡ []) = elim (cases_lt (w + 1) (length lanes)) [
+    let second : (length (row (w + 1)) ≡ 16) ⊎ (row (w + 2) ++ row (w + 3) ≡ []) =
+    elim (cases_lt (w + 1) (length lanes)) [
       | inl lt ↦ inl (c.told-lanes (w + 1) lt)
       | inr ge ↦ inr ((λ i. past (w + 2) (omega (arith, ge)) i ++ past (w + 3) (omega (arith, ge)) i))
     ] in
@@ -28,4 +33,13 @@ returns c =
     let x = mask_joined P (row w) (row (w + 1) ++ (row (w + 2) ++ row (w + 3))) first in
     let y = mask_joined P (row (w + 1)) (row (w + 2) ++ row (w + 3)) second in
     let z = mask_joined P (row (w + 2)) (row (w + 3)) third in
-    omega (arith, x, y, z, c.mask_at-first.ensures.mask, c.mask_at-second.ensures.mask, c.mask_at-third.ensures.mask, c.mask_at-fourth.ensures.mask)
+    omega (
+      arith,
+      x,
+      y,
+      z,
+      c.mask_at-first.ensures.mask,
+      c.mask_at-second.ensures.mask,
+      c.mask_at-third.ensures.mask,
+      c.mask_at-fourth.ensures.mask,
+    )

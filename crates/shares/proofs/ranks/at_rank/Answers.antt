@@ -19,7 +19,8 @@ returns-then-value-top c =
     let rank : ℕ = (a.share * a.minutes + 99) / 100 in
     let e : rank ≡ rank - 1 + 1 = (let some = c.if-rank-eq0.false in omega arith) in
     let ranked = subst (λ (k : ℕ). IsRanked a.lanes.now a.bits k c.value_at-value.result) e c.value_at-value.ensures in
-    cell_ranked a.lanes.now a.minutes a.bits a.top c.told-lanes r.lanes r.few r.bits r.known r.top a.share (rank - 1) c.value_at-value.result
+    cell_ranked a.lanes.now a.minutes a.bits a.top c.told-lanes r.lanes r.few r.bits r.known r.top a.share (rank - 1)
+    c.value_at-value.result
     (rank_of a.minutes a.share r.share c.if-rank-eq0.false) ranked c.if-value-top.true
 
 pub returns-else-value-top : goal.returns-else-value-top
@@ -29,5 +30,6 @@ returns-else-value-top c =
     let rank : ℕ = (a.share * a.minutes + 99) / 100 in
     let e : rank ≡ rank - 1 + 1 = (let some = c.if-rank-eq0.false in omega arith) in
     let ranked = subst (λ (k : ℕ). IsRanked a.lanes.now a.bits k c.value_at-value.result) e c.value_at-value.ensures in
-    none_ranked a.lanes.now a.minutes a.bits a.top c.told-lanes r.lanes r.few r.bits r.known r.top a.share (rank - 1) c.value_at-value.result
+    none_ranked a.lanes.now a.minutes a.bits a.top c.told-lanes r.lanes r.few r.bits r.known r.top a.share (rank - 1)
+    c.value_at-value.result
     (rank_of a.minutes a.share r.share c.if-rank-eq0.false) ranked c.if-value-top.false

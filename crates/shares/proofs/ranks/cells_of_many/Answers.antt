@@ -26,16 +26,19 @@ loop-n-preserved c =
     let planes = c.loop-n.planes in
     let filled = c.push_cells.new.planes in
     let longer = c.push_cells.new.lists in
-    let planes_back = written_back filled planes.items planes.len (c.push_cells.ensures.same ∙ sym c.loop-n.invariant.rows) planes.ok.0 in
+    let planes_back = written_back filled planes.items planes.len (c.push_cells.ensures.same
+    ∙ sym c.loop-n.invariant.rows) planes.ok.0 in
     let lent : c.deref_mut.result.now ≡ lists.items = c.deref_mut.ensures.value in
     let grown : AreLonger lanes t.minutes shares lists.items longer =
     subst (λ (xs : List (Vec (Option ℕ) Global)). AreLonger lanes t.minutes shares xs longer) lent
-    (subst (λ (n : ℕ). AreLonger lanes n shares c.deref_mut.result.now longer) c.minutes-minutes.ensures c.in_ok-push_cells.ensures.longer) in
+    (subst (λ (n : ℕ). AreLonger lanes n shares c.deref_mut.result.now longer) c.minutes-minutes.ensures
+    c.in_ok-push_cells.ensures.longer) in
     let lists_back = written_back longer lists.items lists.len grown.count lists.ok.0 in
     record {
       rows = ap length planes_back ∙ c.push_cells.ensures.same;
       begun = subst (λ (xs : List (Vec (Option ℕ) Global)). AreBegun t ds shares (c.loop-n.n + 1) xs) (sym lists_back)
-          (begun_next t ds shares lanes c.loop-n.n stop lists.items longer here c.lanes_of-lanes.ensures.minutes c.loop-n.invariant.begun grown);
+          (begun_next t ds shares lanes c.loop-n.n stop lists.items longer here c.lanes_of-lanes.ensures.minutes
+          c.loop-n.invariant.begun grown);
     }
 
 pub returns : goal.returns
@@ -45,7 +48,9 @@ returns c =
     record {
       count = begun.count;
       each = λ k share cells of_share of_list. record {
-        count = (let long = begun.stops k cells of_list in omega (arith, long, c.loop-n-test.false, c.loop-n.auto.n-end));
-        each = λ j stop at. begun.each k share cells of_share of_list j stop (let low = slice_get_within ds j stop at in omega (arith, low, c.loop-n-test.false)) at;
+        count = (let long = begun.stops k cells of_list in
+            omega (arith, long, c.loop-n-test.false, c.loop-n.auto.n-end));
+        each = λ j stop at. begun.each k share cells of_share of_list j stop (let low = slice_get_within ds j stop at in
+            omega (arith, low, c.loop-n-test.false)) at;
       };
     }

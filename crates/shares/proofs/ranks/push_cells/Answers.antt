@@ -10,7 +10,8 @@ loop-k-preserved c =
     let in_shares : k < length shares = c.loop-k-test.true in
     let in_lists : k < length c.loop-k.lists = omega (arith, in_shares, c.loop-k.invariant.count, c.requires.count) in
     let was = c.index-lists-k.result in
-    longer_next c.args.lanes.now c.args.minutes shares c.args.lists.now c.loop-k.lists k (get_or shares k 0) (get_or c.loop-k.lists k was) c.push.new.self c.loop-k.invariant
+    longer_next c.args.lanes.now c.args.minutes shares c.args.lists.now c.loop-k.lists k (get_or shares k 0)
+    (get_or c.loop-k.lists k was) c.push.new.self c.loop-k.invariant
     (slice_get-get_or c.loop-k.lists k was in_lists) (slice_get-get_or shares k 0 in_shares)
     (record { cell = c.at_rank.result; items = c.in_ok-push.ensures.items; is_cell = c.at_rank.ensures })
 

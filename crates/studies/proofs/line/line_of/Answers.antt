@@ -12,7 +12,8 @@ loop-i-preserved c =
     elim c.if-i-gt0.branch [
       | then-i-gt0+in_ok-push w ↦
           next_joined 44 duration_field ds i c.loop-i.line.items (omega arith) c.loop-i.invariant
-          c.if-i-gt0.line.items c.push_field.new.line.items (omega (arith, w.if-i-gt0.true)) (let pushed = w.in_ok-push.ensures.items in cc) is
+          c.if-i-gt0.line.items c.push_field.new.line.items (omega (arith, w.if-i-gt0.true)) (let pushed =
+          w.in_ok-push.ensures.items in cc) is
       | else-i-gt0 w ↦
           first_joined 44 duration_field ds i c.loop-i.line.items (omega arith) c.loop-i.invariant
           c.push_field.new.line.items (omega (arith, w.if-i-gt0.false)) cc

@@ -27,7 +27,9 @@ returns-in_err-matrix-clause-fault g c =
     let told : IfErr r (λ e. IsFaultOfNew s decides was_told c.args.settings.now.workers c.args.settings.now.tries e) =
     subst (λ (x : SettingsData). IfErr r (λ e. IsFaultOfNew s decides was_told x.workers x.tries e)) c.settings.view_is
     (run_fault r s decides was_told board v asked.workers asked.tries jobs c.in_ok-board.ensures.size.1
-    (subst (λ (z : View). IfErr r (λ e. IsFaultOf s decides was_told board asked.workers z v e)) start c.run_workers-matrix.ensures.fault)) in
-    let fits : RunFault → Type 0 = λ e. IsFaultOfNew s decides was_told c.args.settings.now.workers c.args.settings.now.tries e in
+    (subst (λ (z : View). IfErr r (λ e. IsFaultOf s decides was_told board asked.workers z v e)) start
+    c.run_workers-matrix.ensures.fault)) in
+    let fits : RunFault → Type 0 = λ e. IsFaultOfNew s decides was_told c.args.settings.now.workers
+    c.args.settings.now.tries e in
     err_by fits c.from_residual-in_err-matrix.result c.in_err-matrix.field-0.0 c.from_residual-in_err-matrix.ensures.1
     (subst (λ (x : Result MatrixData RunFault). IfErr x fits) c.in_err-matrix.was told)

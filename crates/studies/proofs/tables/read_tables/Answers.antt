@@ -21,7 +21,8 @@ returns-in_err-direct-clause-fault c =
     let feed = c.args.feed.now in
     let e = c.in_err-direct.field-0.0 in
     err_by (λ (e : StudyFault). TellsTables e i feed) c.from_residual.result (fault.Feed e) c.from_residual.ensures.1
-    (tells_left e (direct_faults feed i.footpaths) (origins_faults i.origins feed ++ opportunities_faults i.opportunities feed) c.in_err-direct.ensures.fault)
+    (tells_left e (direct_faults feed i.footpaths)
+    (origins_faults i.origins feed ++ opportunities_faults i.opportunities feed) c.in_err-direct.ensures.fault)
 
 pub read_origins-requires : goal.read_origins-requires
 read_origins-requires c = c.requires.origins
@@ -31,9 +32,12 @@ returns-in_err-origins-clause-fault c =
     let i = inputs_of c.args.inputs.now in
     let feed = c.args.feed.now in
     let e = c.in_err-origins.field-0.0 in
-    err_by (λ (e : StudyFault). TellsTables e i feed) c.from_residual-in_err-origins.result (fault.Feed e) c.from_residual-in_err-origins.ensures.1
-    (tells_right e (direct_faults feed i.footpaths) (origins_faults i.origins feed ++ opportunities_faults i.opportunities feed) c.in_ok-direct.ensures.good.0
-    (tells_left e (origins_faults i.origins feed) (opportunities_faults i.opportunities feed) c.in_err-origins.ensures.fault))
+    err_by (λ (e : StudyFault). TellsTables e i feed) c.from_residual-in_err-origins.result (fault.Feed e)
+    c.from_residual-in_err-origins.ensures.1
+    (tells_right e (direct_faults feed i.footpaths)
+    (origins_faults i.origins feed ++ opportunities_faults i.opportunities feed) c.in_ok-direct.ensures.good.0
+    (tells_left e (origins_faults i.origins feed) (opportunities_faults i.opportunities feed)
+    c.in_err-origins.ensures.fault))
 
 pub read_opportunities-requires : goal.read_opportunities-requires
 read_opportunities-requires c = c.requires.opportunities
@@ -43,9 +47,12 @@ returns-in_err-opportunities-clause-fault c =
     let i = inputs_of c.args.inputs.now in
     let feed = c.args.feed.now in
     let e = c.in_err-opportunities.field-0.0 in
-    err_by (λ (e : StudyFault). TellsTables e i feed) c.from_residual-in_err-opportunities.result (fault.Feed e) c.from_residual-in_err-opportunities.ensures.1
-    (tells_right e (direct_faults feed i.footpaths) (origins_faults i.origins feed ++ opportunities_faults i.opportunities feed) c.in_ok-direct.ensures.good.0
-    (tells_right e (origins_faults i.origins feed) (opportunities_faults i.opportunities feed) c.in_ok-origins.ensures.good.0 c.in_err-opportunities.ensures.fault))
+    err_by (λ (e : StudyFault). TellsTables e i feed) c.from_residual-in_err-opportunities.result (fault.Feed e)
+    c.from_residual-in_err-opportunities.ensures.1
+    (tells_right e (direct_faults feed i.footpaths)
+    (origins_faults i.origins feed ++ opportunities_faults i.opportunities feed) c.in_ok-direct.ensures.good.0
+    (tells_right e (origins_faults i.origins feed) (opportunities_faults i.opportunities feed)
+    c.in_ok-origins.ensures.good.0 c.in_err-opportunities.ensures.fault))
 
 pub read_origins-requires-2 : goal.read_origins-requires-2
 read_origins-requires-2 c = c.requires.destinations
@@ -54,8 +61,10 @@ pub returns-in-Err-clause-fault : goal.returns-in-Err-clause-fault
 returns-in-Err-clause-fault c =
     let i = inputs_of c.args.inputs.now in
     let feed = c.args.feed.now in (
-      none_of_both (direct_faults feed i.footpaths) (origins_faults i.origins feed ++ opportunities_faults i.opportunities feed) c.in_ok-direct.ensures.good.0
-          (none_of_both (origins_faults i.origins feed) (opportunities_faults i.opportunities feed) c.in_ok-origins.ensures.good.0 c.in_ok-opportunities.ensures.good.0),
+      none_of_both (direct_faults feed i.footpaths)
+          (origins_faults i.origins feed ++ opportunities_faults i.opportunities feed) c.in_ok-direct.ensures.good.0
+          (none_of_both (origins_faults i.origins feed) (opportunities_faults i.opportunities feed)
+          c.in_ok-origins.ensures.good.0 c.in_ok-opportunities.ensures.good.0),
       c.in-Err.ensures.fault,
     )
 
@@ -63,8 +72,10 @@ pub returns-clause-good : goal.returns-clause-good
 returns-clause-good c =
     let i = inputs_of c.args.inputs.now in
     let feed = c.args.feed.now in
-    none_of_both (direct_faults feed i.footpaths) (origins_faults i.origins feed ++ opportunities_faults i.opportunities feed) c.in_ok-direct.ensures.good.0
-    (none_of_both (origins_faults i.origins feed) (opportunities_faults i.opportunities feed) c.in_ok-origins.ensures.good.0 c.in_ok-opportunities.ensures.good.0)
+    none_of_both (direct_faults feed i.footpaths)
+    (origins_faults i.origins feed ++ opportunities_faults i.opportunities feed) c.in_ok-direct.ensures.good.0
+    (none_of_both (origins_faults i.origins feed) (opportunities_faults i.opportunities feed)
+    c.in_ok-origins.ensures.good.0 c.in_ok-opportunities.ensures.good.0)
 
 pub returns-clause-named : goal.returns-clause-named
 returns-clause-named c = c.in-Ok.ensures.good.0
@@ -84,10 +95,12 @@ returns-clause-tables c =
       origins_are = c.in_ok-origins.ensures.good.1;
       opportunities_are = c.in_ok-opportunities.ensures.good.1;
       in_range = c.in_ok-origins.ensures.stops;
-      few_origins = few_origins i.origins feed c.in_ok-origins.origins.items c.in_ok-origins.ensures.good.0 c.in_ok-origins.ensures.good.1;
+      few_origins = few_origins i.origins feed c.in_ok-origins.origins.items c.in_ok-origins.ensures.good.0
+          c.in_ok-origins.ensures.good.1;
       count = c.in_ok-opportunities.ensures.stops;
       destinations_are = c.in-Ok.ensures.good.1;
       destinations_in_range = c.in-Ok.ensures.stops;
-      few_destinations = few_origins i.destinations feed c.in-Ok.destinations.items c.in-Ok.ensures.good.0 c.in-Ok.ensures.good.1;
+      few_destinations = few_origins i.destinations feed c.in-Ok.destinations.items c.in-Ok.ensures.good.0
+          c.in-Ok.ensures.good.1;
     } in
     subst (λ (t : Tables). AreTables i feed t) (sym c.in_ok-boxed.ensures) are

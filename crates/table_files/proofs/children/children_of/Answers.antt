@@ -13,16 +13,21 @@ loop-stop-init c = rw (c.in_ok-children.ensures, c.len.ensures.len) (sym (no_sto
 pub add-requires : goal.add-requires
 add-requires c =
     let here = found (bytes_eq c.deref.result.now) c.args.stations.now c.in-Some.station c.in-Some.ensures in
-    let count = length-children_of c.args.stations.now (map (λ (u : Vec ℕ Global). u.items) (take c.loop-stop.stop c.args.parents.now)) in
+    let count = length-children_of c.args.stations.now
+    (map (λ (u : Vec ℕ Global). u.items) (take c.loop-stop.stop c.args.parents.now)) in
     rw (c.loop-stop.invariant, count) here.0
 
 pub loop-stop-preserved : goal.loop-stop-preserved
 loop-stop-preserved c = elim c.match-number.branch [
   | in-Some+in_ok-add w ↦
       let (x, at, put) = w.in_ok-add.ensures in
-      station_step c.args.stations.now c.args.parents.now c.loop-stop.stop w.in-Some.station c.index-parents-stop.result c.deref.result.now c.loop-stop.children c.match-number.children x
-      (omega arith) c.index-parents-stop.is c.deref.ensures.value c.loop-stop.invariant w.in-Some.ensures at (w.children-is ∙ put)
+      station_step c.args.stations.now c.args.parents.now c.loop-stop.stop w.in-Some.station c.index-parents-stop.result
+      c.deref.result.now c.loop-stop.children c.match-number.children x
+      (omega arith) c.index-parents-stop.is c.deref.ensures.value c.loop-stop.invariant
+      w.in-Some.ensures at (w.children-is ∙ put)
   | in_default w ↦
-      no_station_step c.args.stations.now c.args.parents.now c.loop-stop.stop c.index-parents-stop.result c.deref.result.now c.loop-stop.children c.match-number.children
-      (omega arith) c.index-parents-stop.is c.deref.ensures.value c.loop-stop.invariant w.in_default.ensures w.children-is
+      no_station_step c.args.stations.now c.args.parents.now c.loop-stop.stop c.index-parents-stop.result
+      c.deref.result.now c.loop-stop.children c.match-number.children
+      (omega arith) c.index-parents-stop.is c.deref.ensures.value c.loop-stop.invariant w.in_default.ensures
+      w.children-is
 ]

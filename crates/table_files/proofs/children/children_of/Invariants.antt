@@ -5,4 +5,5 @@ use Rattle.table_files.specs.Children.{children_of}
 use Rattle.table_files.proofs.children.children_of.Given as goal
 
 abbrev pub invariant-loop-stop : goal.invariant-loop-stop
-invariant-loop-stop l = l.children ≡ children_of l.stations (map (λ (v : Vec ℕ Global). v.items) (take l.stop l.parents))
+invariant-loop-stop l = l.children ≡ children_of l.stations
+    (map (λ (v : Vec ℕ Global). v.items) (take l.stop l.parents))

@@ -8,5 +8,10 @@ loop-preserved c =
     let same = c.loop.invariant.0 in
     rw c.in_ok-push.ensures.items (
       omega (arith, same, length-append c.loop.trips.items (c.new.result ∷ [])),
-      λ t d lt. more_empty c.loop.trips.items c.new.result (λ k b less. c.loop.invariant.1 k b (omega (arith, less, same))) c.new.ensures.items t d (omega (arith, lt, same)),
+      λ t d lt. more_empty c.loop.trips.items c.new.result
+          (λ k b less. c.loop.invariant.1 k b (omega (arith, less, same))) c.new.ensures.items t d (omega (
+            arith,
+            lt,
+            same,
+          )),
     )

@@ -5,4 +5,5 @@ use Rattle.table_files.specs.declared.frequencies.Departures.{Departures}
 use Rattle.table_files.proofs.frequencies.no_departures.Given as goal
 
 abbrev pub invariant-loop : goal.invariant-loop
-invariant-loop l = (length l.trips.items ≡ l.counter) × ((t : ℕ) (d : Vec Departures Global) → t < l.counter → (get_or l.trips.items t d).items ≡ [])
+invariant-loop l = (length l.trips.items ≡ l.counter)
+    × ((t : ℕ) (d : Vec Departures Global) → t < l.counter → (get_or l.trips.items t d).items ≡ [])

@@ -13,7 +13,8 @@ use Rattle.table_files.proofs.frequencies.read_frequencies.Goals as goal
 pub returns-clause-good : goal.returns-clause-good
 returns-clause-good c =
     let trips = c.args.trips.now in
-    let (faults, rows) = headed file.Frequencies required row_of (checks trips) (records_of c.args.bytes.now) (fields_of c.in_ok-file.file.header) c.in_ok-file.file.rows
+    let (faults, rows) = headed file.Frequencies required row_of (checks trips) (records_of c.args.bytes.now)
+    (fields_of c.in_ok-file.file.header) c.in_ok-file.file.rows
     c.in_ok-file.ensures.columns c.in_ok-file.ensures.records in
     let good = rw c.columns_in.ensures at c.read_records-read.ensures.good in
     let all = both c.read_records-read.result _ _ good c.read_records-read.ensures.room in
@@ -22,12 +23,16 @@ returns-clause-good c =
 
 pub returns-in_err-file-clause-fault : goal.returns-in_err-file-clause-fault
 returns-in_err-file-clause-fault c =
-    let (e, is, same_error) = err_from_is_err_and c.from_residual-in_err-file.result c.from_residual-in_err-file.ensures.1 in
-    rw (is, same_error) (missing file.Frequencies required row_of (checks c.args.trips.now) (records_of c.args.bytes.now) c.in_err-file.field-0.0 c.in_err-file.ensures.fault)
+    let (e, is, same_error) = err_from_is_err_and c.from_residual-in_err-file.result
+    c.from_residual-in_err-file.ensures.1 in
+    rw (is, same_error) (missing file.Frequencies required row_of (checks c.args.trips.now)
+    (records_of c.args.bytes.now) c.in_err-file.field-0.0 c.in_err-file.ensures.fault)
 
 pub returns-clause-fault : goal.returns-clause-fault
 returns-clause-fault c =
-    let (faults, rows) = headed file.Frequencies required row_of (checks c.args.trips.now) (records_of c.args.bytes.now) (fields_of c.in_ok-file.file.header) c.in_ok-file.file.rows
+    let (faults, rows) = headed file.Frequencies required row_of (checks c.args.trips.now) (records_of c.args.bytes.now)
+    (fields_of c.in_ok-file.file.header) c.in_ok-file.file.rows
     c.in_ok-file.ensures.columns c.in_ok-file.ensures.records in
     let told = rw c.columns_in.ensures at c.read_records-read.ensures.fault in
-    fault_told c.read_records-read.result c.read_records-read.new.table c.and.result _ _ c.and.ensures told (λ e t. subst (Tells e) (sym faults) t)
+    fault_told c.read_records-read.result c.read_records-read.new.table c.and.result _ _ c.and.ensures told
+    (λ e t. subst (Tells e) (sym faults) t)

@@ -12,17 +12,20 @@ use Rattle.table_files.proofs.locations.read_locations.Goals as goal
 pub into_locations-requires-clause-few : goal.into_locations-requires-clause-few
 into_locations-requires-clause-few c =
     let room = IfOk-at_ok _ c.in-Ok.is c.read_records-read.ensures.room in
-    (are_locations c.read_records-read.new.table _ (IfOk-at_ok _ c.in-Ok.is c.read_records-read.ensures.good).1 room.few room.stops room.stations).2
+    (are_locations c.read_records-read.new.table _ (IfOk-at_ok _ c.in-Ok.is c.read_records-read.ensures.good).1 room.few
+    room.stops room.stations).2
 
 pub into_locations-requires-clause-in_range : goal.into_locations-requires-clause-in_range
 into_locations-requires-clause-in_range c =
     let room = IfOk-at_ok _ c.in-Ok.is c.read_records-read.ensures.room in
-    let (same, are, few) = are_locations c.read_records-read.new.table _ (IfOk-at_ok _ c.in-Ok.is c.read_records-read.ensures.good).1 room.few room.stops room.stations in
+    let (same, are, few) = are_locations c.read_records-read.new.table _
+    (IfOk-at_ok _ c.in-Ok.is c.read_records-read.ensures.good).1 room.few room.stops room.stations in
     rw same are
 
 pub returns-in_ok-into_locations-in-Ok-clause-good : goal.returns-in_ok-into_locations-in-Ok-clause-good
 returns-in_ok-into_locations-in-Ok-clause-good c =
-    let (faults, rows) = headed file.Stops required row_of checks (records_of c.args.bytes.now) (fields_of c.in_ok-file.file.header) c.in_ok-file.file.rows
+    let (faults, rows) = headed file.Stops required row_of checks (records_of c.args.bytes.now)
+    (fields_of c.in_ok-file.file.header) c.in_ok-file.file.rows
     c.in_ok-file.ensures.columns c.in_ok-file.ensures.records in
     let good = IfOk-at_ok _ c.in-Ok.is (rw c.columns_in.ensures at c.read_records-read.ensures.good) in
     let room = IfOk-at_ok _ c.in-Ok.is c.read_records-read.ensures.room in
@@ -32,11 +35,13 @@ returns-in_ok-into_locations-in-Ok-clause-good c =
 pub returns-in_err-file-clause-fault : goal.returns-in_err-file-clause-fault
 returns-in_err-file-clause-fault c =
     let (e, is, same_error) = err_from_is_err_and c.from_residual.result c.from_residual.ensures.1 in
-    rw (is, same_error) (missing file.Stops required row_of checks (records_of c.args.bytes.now) c.in_err-file.field-0.0 c.in_err-file.ensures.fault)
+    rw (is, same_error) (missing file.Stops required row_of checks (records_of c.args.bytes.now) c.in_err-file.field-0.0
+    c.in_err-file.ensures.fault)
 
 pub returns-in-Err-clause-fault : goal.returns-in-Err-clause-fault
 returns-in-Err-clause-fault c =
-    let (faults, rows) = headed file.Stops required row_of checks (records_of c.args.bytes.now) (fields_of c.in_ok-file.file.header) c.in_ok-file.file.rows
+    let (faults, rows) = headed file.Stops required row_of checks (records_of c.args.bytes.now)
+    (fields_of c.in_ok-file.file.header) c.in_ok-file.file.rows
     c.in_ok-file.ensures.columns c.in_ok-file.ensures.records in
     let told = IfErr-at_err _ c.in-Err.is (rw c.columns_in.ensures at c.read_records-read.ensures.fault) in
     subst (Tells c.in-Err.fault) (sym faults) told

@@ -8,14 +8,18 @@ not_equal : (m n : ℕ) → m ≢ n → (m == n) ≡ false
 not_equal m n h = grind (arith, nat_tests)
 
 pub loop-end-preserved : goal.loop-end-preserved
-loop-end-preserved c =
-    (shorter_by_space c.loop-end.end (c.loop-end.end - 1) c.args.text.now (omega arith) c.loop-end.invariant.1 c.if-text-end-eq32.true ∙ c.loop-end.invariant.0, omega arith)
+loop-end-preserved c = (
+  shorter_by_space c.loop-end.end (c.loop-end.end - 1) c.args.text.now (omega arith) c.loop-end.invariant.1
+      c.if-text-end-eq32.true ∙ c.loop-end.invariant.0,
+  omega arith,
+)
 
 pub returns : goal.returns
 returns c =
     elim c.loop-end-test.branch [
       | then-loop-end-test+else-text-end-eq32 w ↦
-          sym (ends_here c.loop-end.end (c.loop-end.end - 1) c.args.text.now (omega arith) c.loop-end.invariant.1 (not_equal _ _ w.if-text-end-eq32.false)) ∙ c.loop-end.invariant.0
+          sym (ends_here c.loop-end.end (c.loop-end.end - 1) c.args.text.now (omega arith) c.loop-end.invariant.1
+          (not_equal _ _ w.if-text-end-eq32.false)) ∙ c.loop-end.invariant.0
       | else-loop-end-test w ↦
           let none : c.loop-end.end ≡ 0 = omega arith in
           rw none (rw none at c.loop-end.invariant.0)

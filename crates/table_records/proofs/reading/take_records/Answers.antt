@@ -6,7 +6,8 @@ use Rattle.table_records.proofs.reading.take_records.Goals as goal
 pub take-requires-clause-few : goal.take-requires-clause-few
 take-requires-clause-few g c =
     let (seen, at, few, room, makes, all) = c.loop-row.invariant in
-    let some = one_left c.loop-row.rows c.next_of.new.rows c.in_ok-next_of.field-0 (fields_of c.next_of.new.row) c.if-branch.true c.in_ok-next_of.ensures.given in
+    let some = one_left c.loop-row.rows c.next_of.new.rows c.in_ok-next_of.field-0 (fields_of c.next_of.new.row)
+    c.if-branch.true c.in_ok-next_of.ensures.given in
     omega (arith, at, few, some, c.requires.few)
 
 pub loop-row-preserved : goal.loop-row-preserved

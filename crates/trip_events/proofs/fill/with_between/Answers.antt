@@ -14,17 +14,25 @@ event_at-requires-clause-after c =
     elim c.match-stop_time.branch [
       | in-Some w ↦
           let rest : List StopTime = take (length xs - (c.loop-i.i + 1)) (drop (c.loop-i.i + 1) xs) in
-          let short : length rest ≤ 8000000 = omega (arith, length-take (length xs - (c.loop-i.i + 1)) (drop (c.loop-i.i + 1) xs)) in
-          rw (w.after-is, w.nearest-after.ensures) (near_within (nearest rest) (length rest) 8000000 short (nearest_near rest))
+          let short : length rest ≤ 8000000 = omega (
+            arith,
+            length-take (length xs - (c.loop-i.i + 1)) (drop (c.loop-i.i + 1) xs),
+          ) in
+          rw (w.after-is, w.nearest-after.ensures)
+          (near_within (nearest rest) (length rest) 8000000 short (nearest_near rest))
       | in-None w ↦
           let short : length (drop c.loop-i.i xs) ≤ 8000000 = omega (arith, length-drop c.loop-i.i xs) in
           rw (w.after-is, w.approached-after.ensures, c.loop-i.invariant.0)
-          (approached_near (nearest (drop c.loop-i.i xs)) 8000000 (near_within (nearest (drop c.loop-i.i xs)) (length (drop c.loop-i.i xs)) 8000000 short (nearest_near (drop c.loop-i.i xs))))
+          (approached_near (nearest (drop c.loop-i.i xs)) 8000000
+          (near_within (nearest (drop c.loop-i.i xs)) (length (drop c.loop-i.i xs)) 8000000 short
+          (nearest_near (drop c.loop-i.i xs))))
     ]
 
 pub returns : goal.returns
 returns c =
-    sym (append-nil c.loop-i.events.items) ∙ sym (ap (λ (l : List Event). c.loop-i.events.items ++ l) (none_left c.loop-i.before c.loop-i.i c.args.trip_times.now c.loop-i-test.false))
+    sym (append-nil c.loop-i.events.items) ∙ sym
+    (ap (λ (l : List Event). c.loop-i.events.items ++ l)
+    (none_left c.loop-i.before c.loop-i.i c.args.trip_times.now c.loop-i-test.false))
     ∙ c.loop-i.invariant.1 ∙ filled_is c.args.trip_times.now
 
 pub event_at-requires-clause-before : goal.event_at-requires-clause-before

@@ -16,38 +16,50 @@ use Rattle.trip_events.proofs.stop_times.read_stop_times.Goals as goal
 
 pub read_records-read-requires-clause-empty : goal.read_records-read-requires-clause-empty
 read_records-read-requires-clause-empty c =
-    no_stop_times c.args.trips.now c.args.stops.now _ (c.in_ok-no_records.ensures ∙ ap (λ n. replicate {A = List StopTime} n []) c.len.ensures.len)
+    no_stop_times c.args.trips.now c.args.stops.now _ (c.in_ok-no_records.ensures
+    ∙ ap (λ n. replicate {A = List StopTime} n []) c.len.ensures.len)
 
 pub returns-in_err-file-clause-fault : goal.returns-in_err-file-clause-fault
 returns-in_err-file-clause-fault c =
-    let (e, is, same_error) = err_from_is_err_and c.from_residual-in_err-file.result c.from_residual-in_err-file.ensures.1 in
+    let (e, is, same_error) = err_from_is_err_and c.from_residual-in_err-file.result
+    c.from_residual-in_err-file.ensures.1 in
     rw (is, same_error) (tells_more c.in_err-file.field-0.0 _ _
-    (missing file.StopTimes required row_of (checks c.args.trips.now c.args.stops.now) (records_of c.args.bytes.now) c.in_err-file.field-0.0 c.in_err-file.ensures.fault))
+    (missing file.StopTimes required row_of (checks c.args.trips.now c.args.stops.now) (records_of c.args.bytes.now)
+    c.in_err-file.field-0.0 c.in_err-file.ensures.fault))
 
 pub returns-in_err-read-clause-fault : goal.returns-in_err-read-clause-fault
 returns-in_err-read-clause-fault c =
-    let (e, is, same_error) = err_from_is_err_and c.from_residual-in_err-read.result c.from_residual-in_err-read.ensures.1 in
-    let (faults, rows) = headed file.StopTimes required row_of (checks c.args.trips.now c.args.stops.now) (records_of c.args.bytes.now) (fields_of c.in_ok-file.file.header) c.in_ok-file.file.rows
+    let (e, is, same_error) = err_from_is_err_and c.from_residual-in_err-read.result
+    c.from_residual-in_err-read.ensures.1 in
+    let (faults, rows) = headed file.StopTimes required row_of (checks c.args.trips.now c.args.stops.now)
+    (records_of c.args.bytes.now) (fields_of c.in_ok-file.file.header) c.in_ok-file.file.rows
     c.in_ok-file.ensures.columns c.in_ok-file.ensures.records in
     let told = rw c.columns_in.ensures at c.in_err-read.ensures.fault in
-    rw (is, same_error) (tells_more c.in_err-read.field-0.0 _ _ (subst (Tells c.in_err-read.field-0.0) (sym faults) told))
+    rw (is, same_error) (tells_more c.in_err-read.field-0.0 _ _
+    (subst (Tells c.in_err-read.field-0.0) (sym faults) told))
 
 pub returns-clause-good : goal.returns-clause-good
 returns-clause-good c =
-    let (faults, rows) = headed file.StopTimes required row_of (checks c.args.trips.now c.args.stops.now) (records_of c.args.bytes.now) (fields_of c.in_ok-file.file.header) c.in_ok-file.file.rows
+    let (faults, rows) = headed file.StopTimes required row_of (checks c.args.trips.now c.args.stops.now)
+    (records_of c.args.bytes.now) (fields_of c.in_ok-file.file.header) c.in_ok-file.file.rows
     c.in_ok-file.ensures.columns c.in_ok-file.ensures.records in
     let good = rw c.columns_in.ensures at c.in_ok-read.ensures.good in
-    IfOk-weaker c.events_of_trips.result _ _ (λ t h. read_whole c.args.trips.now c.args.stops.now _ _ _ _ _ _ (faults ∙ good.0) rows good.1 h.0 h.1 h.2) c.events_of_trips.ensures.good
+    IfOk-weaker c.events_of_trips.result _ _
+    (λ t h. read_whole c.args.trips.now c.args.stops.now _ _ _ _ _ _ (faults ∙ good.0) rows good.1 h.0 h.1 h.2)
+    c.events_of_trips.ensures.good
 
 pub returns-clause-fit : goal.returns-clause-fit
 returns-clause-fit c =
     let is = c.in_ok-read.ensures.good.1 in
     IfOk-weaker c.events_of_trips.result _ _
-    (λ t h. subst (AreEvents (length c.args.stops.now)) (sym h.1) (are_events (length c.args.stops.now) _ c.read_records-read.new.table.trips.items is.total is.few is.sound h.0))
+    (λ t h. subst (AreEvents (length c.args.stops.now)) (sym h.1)
+    (are_events (length c.args.stops.now) _ c.read_records-read.new.table.trips.items is.total is.few is.sound
+    h.0))
     c.events_of_trips.ensures.good
 
 pub returns-clause-few : goal.returns-clause-few
 returns-clause-few c =
     let all = c.read_records-read.new.table.trips.items in
     let size = c.in_ok-read.ensures.room.1 in
-    IfOk-weaker c.events_of_trips.result _ _ (λ t h. let most = count_by-le-length is_aside all in omega (arith, h.2, most, size)) c.events_of_trips.ensures.good
+    IfOk-weaker c.events_of_trips.result _ _ (λ t h. let most = count_by-le-length is_aside all in
+    omega (arith, h.2, most, size)) c.events_of_trips.ensures.good

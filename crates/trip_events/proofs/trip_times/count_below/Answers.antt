@@ -8,12 +8,14 @@ pub returns-clause-below : goal.returns-clause-below
 returns-clause-below c =
     let xs = c.args.trip_times.now.items in
     let parted = IsPartitionedBy-ltb (λ (s : StopTime). s.sequence) xs c.args.sequence (rises 0 xs c.requires) in
-    let point = IsPartitionPoint-from_clause (λ (s : StopTime). ltb s.sequence c.args.sequence) _ _ c.partition_point.ensures.partitioned parted (λ a r q k. search rules) in
+    let point = IsPartitionPoint-from_clause (λ (s : StopTime). ltb s.sequence c.args.sequence) _ _
+    c.partition_point.ensures.partitioned parted (λ a r q k. search rules) in
     λ k d lt. ltb-true _ _ (point.0 k d (omega arith) lt)
 
 pub returns-clause-from : goal.returns-clause-from
 returns-clause-from c =
     let xs = c.args.trip_times.now.items in
     let parted = IsPartitionedBy-ltb (λ (s : StopTime). s.sequence) xs c.args.sequence (rises 0 xs c.requires) in
-    let point = IsPartitionPoint-from_clause (λ (s : StopTime). ltb s.sequence c.args.sequence) _ _ c.partition_point.ensures.partitioned parted (λ a r q k. search rules) in
+    let point = IsPartitionPoint-from_clause (λ (s : StopTime). ltb s.sequence c.args.sequence) _ _
+    c.partition_point.ensures.partitioned parted (λ a r q k. search rules) in
     λ k d le lt. ltb-false _ _ (point.1 k d le lt)

@@ -2,13 +2,15 @@ use Rattle.std.proofs.Common.{◌≡◌, ◌<◌, ◌≤◌, ◌∙◌, length, 
 use Rattle.trip_events.specs.declared.trip_times.StopTime.{StopTime}
 use Rattle.trip_events.proofs.TripTimeFacts.{any_default, fits}
 use Rattle.trip_events.proofs.trip_times.position_of.Goals as goal
-use Rattle.trip_events.proofs.trip_times.position_of.Goals.{else-i-len-via-then-i-len+else-index-sequence, else-i-len-via-else-i-len}
+use Rattle.trip_events.proofs.trip_times.position_of.Goals.{else-i-len-via-then-i-len+else-index-sequence}
+use Rattle.trip_events.proofs.trip_times.position_of.Goals.{else-i-len-via-else-i-len}
 
 pub returns-clause-free : goal.returns-clause-free
 returns-clause-free c =
     let xs = c.args.trip_times.now.items in
     let i = c.count_below-i.result in
-    let beyond : i < length xs → (d : StopTime) → c.args.sequence < (get_or xs i d).sequence = λ lt d. elim c.else-i-len.branch [
+    let beyond : i < length xs → (d : StopTime) →
+    c.args.sequence < (get_or xs i d).sequence = λ lt d. elim c.else-i-len.branch [
       | else-i-len-via-then-i-len+else-index-sequence w ↦
           let least : c.args.sequence ≤ (get_or xs i d).sequence = c.count_below-i.ensures.from i d (omega arith) lt in
           let here : w.index.result.now ≡ get_or xs i d = w.index.ensures ∙ any_default xs i w.index.result.now d lt in
@@ -17,4 +19,5 @@ returns-clause-free c =
       | else-i-len-via-else-i-len w ↦ absurd (omega (arith, lt, w.if-i-len.false, c.len.ensures))
     ]
     in
-    fits i c.args.sequence xs c.requires c.count_below-i.ensures.within (λ m e d. c.count_below-i.ensures.below m d (omega (arith, e))) beyond
+    fits i c.args.sequence xs c.requires c.count_below-i.ensures.within
+    (λ m e d. c.count_below-i.ensures.below m d (omega (arith, e))) beyond

@@ -1,4 +1,5 @@
-use Rattle.std.proofs.Common.{rules, true, false, ◌≡◌, ◌<◌, ℕ, inl, inr, List, length, get_or, set, slice_get, slice_index, Some, arith, sym, ◌∙◌, ap, subst}
+use Rattle.std.proofs.Common.{rules, true, false, ◌≡◌, ◌<◌, ℕ, inl, inr, List, length, get_or, set, slice_get}
+use Rattle.std.proofs.Common.{slice_index, Some, arith, sym, ◌∙◌, ap, subst}
 use Rattle.std.proofs.lemmas.Bool.{cases_lt, false≢true}
 use Rattle.std.proofs.lemmas.List.{get_or-set_same, get_or-set_other, length-set}
 use Rattle.std.proofs.lemmas.Option.{slice_get_within, get_or_from_slice_get, slice_get-get_or}
@@ -9,11 +10,13 @@ use Rattle.trip_lanes.proofs.falls.falls_of.Goals as goal
 use Rattle.trip_lanes.proofs.falls.falls_of.Goals.{then-fallen-stop, else-fallen-stop}
 
 -- what was written of one stop leaves the others
-stays : (falls : List Fall) (s p : ℕ) (g f : Fall) → p < s → slice_get (set falls s g) p ≡ Some f → slice_get falls p ≡ Some f
+stays : (falls : List Fall) (s p : ℕ) (g f : Fall) → p < s → slice_get (set falls s g) p ≡ Some f →
+    slice_get falls p ≡ Some f
 stays falls s p g f lt at =
     let inside = slice_get_within (set falls s g) p f at in
     let read = get_or_from_slice_get (set falls s g) p f f at in
-    slice_get-get_or falls p f (omega (arith, length-set falls s g)) ∙ ap Some (sym (get_or-set_other falls s p g f (λ e. omega arith)) ∙ read)
+    slice_get-get_or falls p f (omega (arith, length-set falls s g))
+    ∙ ap Some (sym (get_or-set_other falls s p g f (λ e. omega arith)) ∙ read)
 
 pub loop-stop-preserved : goal.loop-stop-preserved
 loop-stop-preserved g c =
@@ -36,20 +39,34 @@ loop-stop-preserved g c =
               | inr ge ↦
                   let e : p ≡ s = omega arith in
                   let read : get_or (set falls s fall) p f ≡ f = get_or_from_slice_get (set falls s fall) p f f at' in
-                  let here : fall ≡ f = sym (get_or-set_same falls s fall f within) ∙ (ap (λ (i : ℕ). get_or (set falls s fall) i f) (sym e) ∙ read) in
-                  rw (e, row_lane labels before s l was was w.index-before-stop.is (omega arith), row_lane labels ready s l now now w.index-ready-stop.is (omega arith))
-                  (subst (λ (g : Fall). HasFallen (slice_index (labels was) l) (slice_index (labels now) l) g) here (w.fall.ensures l h))
+                  let here : fall ≡ f = sym (get_or-set_same falls s fall f within)
+                  ∙ (ap (λ (i : ℕ). get_or (set falls s fall) i f) (sym e) ∙ read) in
+                  rw (
+                    e,
+                    row_lane labels before s l was was w.index-before-stop.is (omega arith),
+                    row_lane labels ready s l now now w.index-ready-stop.is (omega arith),
+                  )
+                  (subst (λ (g : Fall). HasFallen (slice_index (labels was) l) (slice_index (labels now) l) g) here
+                  (w.fall.ensures l h))
             ]
         | else-fallen-stop w ↦ elim (cases_lt p s) [
           | inl lt ↦ c.loop-stop.invariant.falls l p f h lt (stays falls s p _ f lt (rw w.falls-is at at))
           | inr ge ↦
               let e : p ≡ s = omega arith in
-              let same = c.requires.same l s h (λ on. false≢true (sym w.if-fallen-stop.false ∙ get_or_from_slice_get c.args.fallen.now s true false on)) in
-              rw e (record { low = λ k. absurd (omega (arith, k, same)); high = λ k. absurd (omega (arith, k, same)); top = λ k. absurd (omega (arith, k, same)) })
+              let same = c.requires.same l s h (λ on. false≢true (sym w.if-fallen-stop.false
+              ∙ get_or_from_slice_get c.args.fallen.now s true false on)) in
+              rw e (record {
+                low = λ k. absurd (omega (arith, k, same));
+                high = λ k. absurd (omega (arith, k, same));
+                top = λ k. absurd (omega (arith, k, same));
+              })
         ]
       ];
     }
 
 pub returns-clause-falls : goal.returns-clause-falls
 returns-clause-falls g c l h =
-    record { fall = λ p f at. let w = slice_get_within c.loop-stop.falls p f at in c.loop-stop.invariant.falls l p f h (omega arith) at }
+    record {
+      fall = λ p f at. let w = slice_get_within c.loop-stop.falls p f at in
+          c.loop-stop.invariant.falls l p f h (omega arith) at;
+    }

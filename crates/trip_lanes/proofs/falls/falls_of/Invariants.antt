@@ -9,5 +9,6 @@ invariant-loop-stop g v =
     record {
       same : length v.falls ≡ length v.initial.falls;
       falls : (l p : ℕ) (f : Fall) → l < g.R.Row.LANES → p < v.stop → slice_get v.falls p ≡ Some f →
-          HasFallen (slice_index (lane l (labels_in g.R.Row.labels v.before)) p) (slice_index (lane l (labels_in g.R.Row.labels v.ready)) p) f;
+          HasFallen (slice_index (lane l (labels_in g.R.Row.labels v.before)) p)
+          (slice_index (lane l (labels_in g.R.Row.labels v.ready)) p) f;
     }

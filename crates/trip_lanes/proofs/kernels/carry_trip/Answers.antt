@@ -20,7 +20,8 @@ pub lower_lanes-requires-clause-fits : goal.lower_lanes-requires-clause-fits
 unfolding none
 lower_lanes-requires-clause-fits c l h =
     let p = (get_or c.as_slice-event-items.result.now c.loop-event.event-index none).stop.0 in
-    let falls = lane_falls (lane l c.args.ride.now) (lane l c.loop-event.ride) (c.loop-event.invariant.lanes l h).lowered p in
+    let falls = lane_falls (lane l c.args.ride.now) (lane l c.loop-event.ride)
+    (c.loop-event.invariant.lanes l h).lowered p in
     let fits = c.requires.fits l p h in
     omega arith
 
@@ -29,7 +30,8 @@ unfolding none
 bounds-ready-stop c =
     let x = c.loop-event.event-index in
     let xs = c.as_slice-event-items.result.now in
-    let stop = c.requires.stops x (get_or xs x none) (at_x xs c.args.trip.now.events x c.as_slice-event-items.ensures c.loop-event-test.true) in
+    let stop = c.requires.stops x (get_or xs x none)
+    (at_x xs c.args.trip.now.events x c.as_slice-event-items.ensures c.loop-event-test.true) in
     omega (arith, c.requires.ready)
 
 pub loop-event-preserved : goal.loop-event-preserved
@@ -41,10 +43,13 @@ loop-event-preserved c =
     let here = get_or xs x none in
     let at = at_x xs t.events x c.as_slice-event-items.ensures c.loop-event-test.true in
     let before = c.loop-event.invariant in
-    let got_off : (k : ℕ) → k < 16 → Lowers (CarriesBelow (lane k c.args.ready.now) t (x + 1)) (lane k c.args.ride.now) (lane k c.if-event.ride) =
+    let got_off : (k : ℕ) → k < 16 → Lowers (CarriesBelow (lane k c.args.ready.now) t (x + 1)) (lane k c.args.ride.now)
+    (lane k c.if-event.ride) =
     λ k l. elim c.if-event.branch [
-      | then-event w ↦ rw w.ride-is (lane_alight (lane k c.args.ready.now) t x here at w.if-event.true (before.lanes k l) (w.lower_lanes.ensures.lanes k l))
-      | else-event w ↦ rw w.ride-is (lane_pass (lane k c.args.ready.now) t x here at w.if-event.false (before.lanes k l))
+      | then-event w ↦ rw w.ride-is (lane_alight (lane k c.args.ready.now) t x here at w.if-event.true
+          (before.lanes k l) (w.lower_lanes.ensures.lanes k l))
+      | else-event w ↦ rw w.ride-is (lane_pass (lane k c.args.ready.now) t x here at w.if-event.false
+          (before.lanes k l))
     ] in
     record {
       same = search rules;
@@ -53,13 +58,22 @@ loop-event-preserved c =
         | then-event-2 w ↦
             let stop = c.requires.stops x here at in
             let read = lane_old c.args.ready.now here.stop.0 k (omega (arith, stop, c.requires.ready)) in
-            rw (w.bar-is, w.board-aboard.ensures k l, ← read) (lane_board (lane k c.args.ready.now) t x here at w.if-event-2.true (before.lanes k l) (got_off k l))
-        | else-event-2 w ↦ rw w.bar-is (lane_shut (lane k c.args.ready.now) t x here at w.if-event-2.false (before.lanes k l) (got_off k l))
+            rw (
+              w.bar-is,
+              w.board-aboard.ensures k l,
+              ← read,
+            ) (lane_board (lane k c.args.ready.now) t x here at w.if-event-2.true (before.lanes k l)
+            (got_off k l))
+        | else-event-2 w ↦ rw w.bar-is (lane_shut (lane k c.args.ready.now) t x here at w.if-event-2.false
+            (before.lanes k l) (got_off k l))
       ];
       marks = elim c.if-event.branch [
-        | then-event w ↦ rw (w.ride-is, w.marked-is) (marks_then c.args.ride.now c.loop-event.ride w.lower_lanes.new.ride c.args.marked.now c.loop-event.marked w.lower_lanes.new.marked
+        | then-event w ↦ rw (w.ride-is, w.marked-is)
+            (marks_then c.args.ride.now c.loop-event.ride w.lower_lanes.new.ride c.args.marked.now
+            c.loop-event.marked w.lower_lanes.new.marked
             (λ l p h. lane_falls (lane l c.args.ride.now) (lane l c.loop-event.ride) (before.lanes l h).lowered p)
-            (λ l p h. lane_falls (lane l c.loop-event.ride) (lane l w.lower_lanes.new.ride) (w.lower_lanes.ensures.lanes l h) p)
+            (λ l p h. lane_falls (lane l c.loop-event.ride) (lane l w.lower_lanes.new.ride)
+            (w.lower_lanes.ensures.lanes l h) p)
             before.marks w.lower_lanes.ensures.marks)
         | else-event w ↦ rw (w.ride-is, w.marked-is) before.marks
       ];
@@ -67,4 +81,7 @@ loop-event-preserved c =
 
 pub returns-clause-lanes : goal.returns-clause-lanes
 returns-clause-lanes c l h =
-    carry_all (lane l c.args.ready.now) c.args.trip.now c.loop-event.event-index (omega (arith, ap length c.as_slice-event-items.ensures)) (c.loop-event.invariant.lanes l h).lowered
+    carry_all (lane l c.args.ready.now) c.args.trip.now c.loop-event.event-index (omega (
+      arith,
+      ap length c.as_slice-event-items.ensures,
+    )) (c.loop-event.invariant.lanes l h).lowered

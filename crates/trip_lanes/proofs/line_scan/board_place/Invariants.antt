@@ -8,7 +8,12 @@ invariant-loop-rank g l =
     record {
       fits : (k : ℕ) → k < g.R.Row.LANES → slice_index (g.R.Row.labels l.riding) k ≤ g.R.Row.NEVER;
       ranks : (k r : ℕ) → k < g.R.Row.LANES → Rides g.R.Row.NEVER (g.R.Row.labels l.riding) k r → r < l.column.trips;
-      sound : (k r : ℕ) → k < g.R.Row.LANES → Rides g.R.Row.NEVER (g.R.Row.labels l.riding) k r → Rides g.R.Row.NEVER (g.R.Row.labels l.fn.run) k r ⊎ (slice_index (g.R.Row.labels l.ready) k ≤ departs l.column r);
-      kept : (k r : ℕ) → k < g.R.Row.LANES → Rides g.R.Row.NEVER (g.R.Row.labels l.fn.run) k r → RidesBy g.R.Row.NEVER (g.R.Row.labels l.riding) k r;
-      caught : (k r : ℕ) → k < g.R.Row.LANES → l.fn.first ≤ r → r < l.rank → slice_index (g.R.Row.labels l.ready) k ≤ departs l.column r → RidesBy g.R.Row.NEVER (g.R.Row.labels l.riding) k r;
+      sound : (k r : ℕ) → k < g.R.Row.LANES → Rides g.R.Row.NEVER (g.R.Row.labels l.riding) k r →
+          Rides g.R.Row.NEVER (g.R.Row.labels l.fn.run) k r
+          ⊎ (slice_index (g.R.Row.labels l.ready) k ≤ departs l.column r);
+      kept : (k r : ℕ) → k < g.R.Row.LANES → Rides g.R.Row.NEVER (g.R.Row.labels l.fn.run) k r →
+          RidesBy g.R.Row.NEVER (g.R.Row.labels l.riding) k r;
+      caught : (k r : ℕ) → k < g.R.Row.LANES → l.fn.first ≤ r → r < l.rank →
+          slice_index (g.R.Row.labels l.ready) k ≤ departs l.column r →
+          RidesBy g.R.Row.NEVER (g.R.Row.labels l.riding) k r;
     }

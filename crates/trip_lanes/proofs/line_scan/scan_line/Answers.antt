@@ -1,4 +1,5 @@
-use Rattle.std.proofs.Common.{rules, ◌≡◌, ◌+◌, ◌*◌, ℕ, ◌<◌, ◌≤◌, inl, inr, List, length, get_or, slice_index, slice_get, Some, false, IsTrue, arith, refl, sym, ◌∙◌, subst}
+use Rattle.std.proofs.Common.{rules, ◌≡◌, ◌+◌, ◌*◌, ℕ, ◌<◌, ◌≤◌, inl, inr, List, length, get_or, slice_index, slice_get}
+use Rattle.std.proofs.Common.{Some, false, IsTrue, arith, refl, sym, ◌∙◌, subst}
 use Rattle.std.proofs.lemmas.Bool.{false≢true}
 use Rattle.std.proofs.lemmas.List.{length-map}
 use Rattle.std.proofs.lemmas.Option.{slice_get-get_or}
@@ -13,10 +14,14 @@ use Rattle.trip_lanes.specs.Ranks.{Rides, Ascend}
 use Rattle.trip_lanes.specs.Rows.{IsCutViewOf, NoneOvertakes, IsCaught}
 use Rattle.trip_lanes.proofs.Lower.{row_lane}
 use Rattle.trip_lanes.proofs.Carry.{lane_falls, marks_then}
-use Rattle.trip_lanes.proofs.Lining.{LineAt, at_place, slice_get_row, line_alight, line_pass, line_board, line_stay, line_past}
+use Rattle.trip_lanes.proofs.Lining.{LineAt, at_place, slice_get_row, line_alight, line_pass, line_board, line_stay}
+use Rattle.trip_lanes.proofs.Lining.{line_past}
 use Rattle.trip_lanes.proofs.line_scan.scan_line.Goals as goal
-use Rattle.trip_lanes.proofs.line_scan.scan_line.Goals.{then-call+then-span, else-call, else-call-via-then-call+else-span, else-call-via-else-call}
-use Rattle.trip_lanes.proofs.line_scan.scan_line.Goals.{then-call-2+then-fall, else-call-2, else-call-2-via-then-call-2+else-fall, else-call-2-via-else-call-2}
+use Rattle.trip_lanes.proofs.line_scan.scan_line.Goals.{then-call+then-span, else-call}
+use Rattle.trip_lanes.proofs.line_scan.scan_line.Goals.{else-call-via-then-call+else-span, else-call-via-else-call}
+use Rattle.trip_lanes.proofs.line_scan.scan_line.Goals.{then-call-2+then-fall, else-call-2}
+use Rattle.trip_lanes.proofs.line_scan.scan_line.Goals.{else-call-2-via-then-call-2+else-fall}
+use Rattle.trip_lanes.proofs.line_scan.scan_line.Goals.{else-call-2-via-else-call-2}
 
 abbrev no_call : Call
 no_call = record { stop = record { 0 = 0 }; board = false; alight = false }
@@ -40,32 +45,58 @@ loop-place-preserved g c =
     let old = c.loop-place.invariant in
     let stop : here.stop.0 < length c.args.ride.now = c.requires.stops x no_call c.loop-place-test.true in
     let fall : Fall = get_or c.args.labels.falls.now here.stop.0 no_fall in
-    let at_fall : slice_get c.args.labels.falls.now here.stop.0 ≡ Some fall = slice_get-get_or c.args.labels.falls.now here.stop.0 no_fall (omega (arith, c.requires.falls)) in
-    let told : (rows : List (List Event)) → IsCutViewOf base never rows calls times → IsCutViewOf base c.NEVER-in-loop-place.result rows calls times = λ rows view. rw c.NEVER-in-loop-place.ensures view in
-    let got_off : (rows : List (List Event)) → IsCutViewOf base never rows calls times → length rows ≡ c.args.line.trips → NoneOvertakes rows → (k : ℕ) → k < lanes → LineAt (lane k given) (lane k now) rows c.args.from x (x + 1) (lane k (labels_in labels c.args.ride.now)) (lane k (labels_in labels c.if-call.ride)) (Rides never (labels c.loop-place.run) k) =
+    let at_fall : slice_get c.args.labels.falls.now here.stop.0 ≡ Some fall =
+    slice_get-get_or c.args.labels.falls.now here.stop.0 no_fall (omega (arith, c.requires.falls)) in
+    let told : (rows : List (List Event)) → IsCutViewOf base never rows calls times →
+    IsCutViewOf base c.NEVER-in-loop-place.result rows calls times =
+    λ rows view. rw c.NEVER-in-loop-place.ensures view in
+    let got_off : (rows : List (List Event)) → IsCutViewOf base never rows calls times →
+    length rows ≡ c.args.line.trips → NoneOvertakes rows → (k : ℕ) → k < lanes →
+    LineAt (lane k given) (lane k now) rows c.args.from x (x + 1) (lane k (labels_in labels c.args.ride.now))
+    (lane k (labels_in labels c.if-call.ride)) (Rides never (labels c.loop-place.run) k) =
     λ rows view size order k h.
     let before = lane k given in
     let ready = lane k now in
     elim c.if-call.branch [
-      | then-call+then-span w ↦ rw w.ride-is (line_alight before ready rows c.args.from never x here.stop.0 (slice_index (labels w.arrivals.result) k) order
+      | then-call+then-span w ↦ rw w.ride-is (line_alight before ready rows c.args.from never x here.stop.0
+          (slice_index (labels w.arrivals.result) k) order
           (λ r e at. sym (view.stop r x e here at at_x))
           (λ r e at. subst IsTrue (view.alight r x e here at at_x) w.if-call.true)
-          (omega (arith, stop, old.stops, length-map (labels_in labels c.loop-place.ride) (λ v. slice_index v k), length-map c.loop-place.ride labels))
+          (omega (
+            arith,
+            stop,
+            old.stops,
+            length-map (labels_in labels c.loop-place.ride) (λ v. slice_index v k),
+            length-map c.loop-place.ride labels,
+          ))
           (λ r on.
-          let e = at_place base never rows calls times view r x (omega (arith, old.ranks k r h on, size)) c.loop-place-test.true in
+          let e = at_place base never rows calls times view r x (omega (
+            arith,
+            old.ranks k r h on,
+            size,
+          )) c.loop-place-test.true in
           let least = w.arrivals.ensures.least k r h on in
           let is = (told rows view).arrival r x e.0 e.1 in
           (e.0, e.1, omega (arith, least, is)))
-          (elim (w.arrivals.ensures.some k h) [ inl out ↦ inl out | inr who ↦ inr (who.0, who.1, λ e at. who.2 ∙ (told rows view).arrival who.0 x e at) ])
+          (elim (w.arrivals.ensures.some k h) [
+            | inl out ↦ inl out
+            | inr who ↦ inr (who.0, who.1, λ e at. who.2 ∙ (told rows view).arrival who.0 x e at)
+          ])
           (λ p. let f = old.fell k p h in let l = c.requires.fits k p h in omega arith)
           (old.lanes rows view size order k h) (w.lower_row.ensures.lanes k h))
       | else-call w ↦ rw w.ride-is (elim w.else-call.branch [
-        | else-call-via-then-call+else-span w' ↦ line_pass before ready rows c.args.from x (λ q r e on at may. let n = w'.if-span.false in let f = old.spans.from k q h on in let b = old.spans.below k q h on in omega arith) (old.lanes rows view size order k h)
-        | else-call-via-else-call w' ↦ line_pass before ready rows c.args.from x (λ q r e on at may. false≢true (sym w'.if-call.false ∙ (view.alight r x e here at at_x ∙ may))) (old.lanes rows view size order k h)
+        | else-call-via-then-call+else-span w' ↦
+            line_pass before ready rows c.args.from x (λ q r e on at may. let n = w'.if-span.false in
+            let f = old.spans.from k q h on in let b = old.spans.below k q h on in
+            omega arith) (old.lanes rows view size order k h)
+        | else-call-via-else-call w' ↦ line_pass before ready rows c.args.from x
+            (λ q r e on at may. false≢true (sym w'.if-call.false ∙ (view.alight r x e here at at_x ∙ may)))
+            (old.lanes rows view size order k h)
       ])
     ] in
     -- nobody gets on where nobody may, or where the labels of the stop did not fall
-    let nobody : (rows : List (List Event)) → IsCutViewOf base never rows calls times → (k : ℕ) → k < lanes → (IsTrue here.board → fall.low < fall.top → ⊥) → (r : ℕ) → IsCaught (lane k given) (lane k now) rows r x → ⊥ =
+    let nobody : (rows : List (List Event)) → IsCutViewOf base never rows calls times → (k : ℕ) → k < lanes →
+    (IsTrue here.board → fall.low < fall.top → ⊥) → (r : ℕ) → IsCaught (lane k given) (lane k now) rows r x → ⊥ =
     λ rows view k h out r on.
     let at_stop = view.stop r x on.on here on.from at_x in
     let soon = rw (← at_stop) at on.in_time in
@@ -89,20 +120,27 @@ loop-place-preserved g c =
         | else-call-2 w ↦ rw (w.run-is, w.span-is) old.spans
       ];
       ends = elim c.if-call-2.branch [
-        | then-call-2+then-fall w ↦ rw w.span-is (w.span-span.ensures.ends c.args.line.trips w.board_place-run.ensures.ranks)
+        | then-call-2+then-fall w ↦ rw w.span-is
+            (w.span-span.ensures.ends c.args.line.trips w.board_place-run.ensures.ranks)
         | else-call-2 w ↦ rw w.span-is old.ends
       ];
       fell = λ k p h. elim c.if-call.branch [
         | then-call+then-span w ↦ rw w.ride-is (
             let a = old.fell k p h in
-            let b = lane_falls (lane k (labels_in labels c.loop-place.ride)) (lane k (labels_in labels w.lower_row.new.labels)) (w.lower_row.ensures.lanes k h) p in
+            let b = lane_falls (lane k (labels_in labels c.loop-place.ride))
+            (lane k (labels_in labels w.lower_row.new.labels)) (w.lower_row.ensures.lanes k h) p in
             omega arith)
         | else-call w ↦ rw w.ride-is (old.fell k p h)
       ];
       marks = elim c.if-call.branch [
-        | then-call+then-span w ↦ rw (w.ride-is, w.marked-is) (marks_then (labels_in labels c.args.ride.now) (labels_in labels c.loop-place.ride) (labels_in labels w.lower_row.new.labels) c.args.marked.now c.loop-place.marked w.lower_row.new.marked
+        | then-call+then-span w ↦ rw (
+          w.ride-is,
+          w.marked-is,
+        ) (marks_then (labels_in labels c.args.ride.now) (labels_in labels c.loop-place.ride)
+            (labels_in labels w.lower_row.new.labels) c.args.marked.now c.loop-place.marked w.lower_row.new.marked
             (λ l p h. old.fell l p h)
-            (λ l p h. lane_falls (lane l (labels_in labels c.loop-place.ride)) (lane l (labels_in labels w.lower_row.new.labels)) (w.lower_row.ensures.lanes l h) p)
+            (λ l p h. lane_falls (lane l (labels_in labels c.loop-place.ride))
+            (lane l (labels_in labels w.lower_row.new.labels)) (w.lower_row.ensures.lanes l h) p)
             old.marks w.lower_row.ensures.marks)
         | else-call w ↦ rw (w.ride-is, w.marked-is) old.marks
       ];
@@ -111,8 +149,10 @@ loop-place-preserved g c =
           let ready = lane k now in
           elim c.if-call-2.branch [
             | then-call-2+then-fall w ↦
-                let event : (r : ℕ) → r < length rows → (e : Event) × IsAt rows r x e = λ r below. at_place base never rows calls times view r x below c.loop-place-test.true in
-                let up : Ascend (λ r. cut base c.NEVER-in-loop-place.result (slice_index (departures_in times) (r * length calls + x))) c.args.line.trips = λ r s le below.
+                let event : (r : ℕ) → r < length rows → (e : Event) × IsAt rows r x e =
+                λ r below. at_place base never rows calls times view r x below c.loop-place-test.true in
+                let up : Ascend (λ r. cut base c.NEVER-in-loop-place.result
+                (slice_index (departures_in times) (r * length calls + x))) c.args.line.trips = λ r s le below.
                 let e = event r (omega (arith, size)) in
                 let f = event s (omega (arith, size)) in
                 let d = (told rows view).departure r x e.0 e.1 in
@@ -120,8 +160,11 @@ loop-place-preserved g c =
                 let o = order.depart r s x e.0 f.0 le e.1 f.1 in
                 omega arith in
                 let is = get_or c.args.labels.ready.now here.stop.0 w.index-labels-stop.result in
-                let read : slice_index ready here.stop.0 ≡ slice_index (labels is) k = row_lane labels c.args.labels.ready.now here.stop.0 k is w.index-labels-stop.result refl (omega (arith, c.requires.ready)) in
-                let fallen : HasFallen (slice_index before here.stop.0) (slice_index (labels is) k) fall = rw read at ((c.requires.fallen k h).fall here.stop.0 fall at_fall) in
+                let read : slice_index ready here.stop.0 ≡ slice_index (labels is) k =
+                row_lane labels c.args.labels.ready.now here.stop.0 k is w.index-labels-stop.result refl
+                (omega (arith, c.requires.ready)) in
+                let fallen : HasFallen (slice_index before here.stop.0) (slice_index (labels is) k) fall =
+                rw read at ((c.requires.fallen k h).fall here.stop.0 fall at_fall) in
                 rw w.run-is (line_board before ready rows c.args.from x
                 (λ r on. elim (w.board_place-run.ensures.sound k r h on) [
                   | inl o ↦ inl o
@@ -146,15 +189,23 @@ loop-place-preserved g c =
                 let at_stop = view.stop r x on.on here on.from at_x in
                 let soon = rw (← at_stop) at on.in_time in
                 let fresh = rw (← at_stop) at on.fresh in
-                w.board_place-run.ensures.caught k r (slice_index before here.stop.0) h up fallen (omega (arith, size, w')) (record { in_time = omega (arith, soon, d, read); fresh = omega (arith, fresh, d) }))
+                w.board_place-run.ensures.caught k r (slice_index before here.stop.0) h up fallen (omega (
+                  arith,
+                  size,
+                  w',
+                )) (record { in_time = omega (arith, soon, d, read); fresh = omega (arith, fresh, d) }))
                 (got_off rows view size order k h))
-            | else-call-2 w ↦ rw w.run-is (line_stay before ready rows c.args.from x (nobody rows view k h (elim w.else-call-2.branch [
-              | else-call-2-via-then-call-2+else-fall w' ↦ (λ may low. let n = w'.if-fall.false in omega arith)
-              | else-call-2-via-else-call-2 w' ↦ (λ may low. false≢true (sym w'.if-call-2.false ∙ may))
-            ])) (got_off rows view size order k h))
+            | else-call-2 w ↦ rw w.run-is (line_stay before ready rows c.args.from x
+                (nobody rows view k h (elim w.else-call-2.branch [
+                  | else-call-2-via-then-call-2+else-fall w' ↦ (λ may low. let n = w'.if-fall.false in omega arith)
+                  | else-call-2-via-else-call-2 w' ↦ (λ may low. false≢true (sym w'.if-call-2.false ∙ may))
+                ])) (got_off rows view size order k h))
           ];
     }
 
 pub returns-clause-caught : goal.returns-clause-caught
 returns-clause-caught g c rows view size order l r j h low caught =
-    line_past (lane l (labels_in g.R.Row.labels c.args.labels.before.now)) (lane l (labels_in g.R.Row.labels c.args.labels.ready.now)) rows c.args.from c.loop-place.place (length c.args.line.calls.now) view.places c.loop-place-test.false (c.loop-place.invariant.lanes rows view size order l h) r j low caught
+    line_past (lane l (labels_in g.R.Row.labels c.args.labels.before.now))
+    (lane l (labels_in g.R.Row.labels c.args.labels.ready.now)) rows c.args.from c.loop-place.place
+    (length c.args.line.calls.now) view.places c.loop-place-test.false
+    (c.loop-place.invariant.lanes rows view size order l h) r j low caught

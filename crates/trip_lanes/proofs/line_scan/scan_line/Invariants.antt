@@ -14,8 +14,14 @@ invariant-loop-place g l =
       runs : (k : ℕ) → k < g.R.Row.LANES → slice_index (g.R.Row.labels l.run) k ≤ g.R.Row.NEVER;
       spans : IsSpanOf g.R.Row.LANES g.R.Row.NEVER (g.R.Row.labels l.run) l.span;
       ends : l.span.end ≤ l.line.trips;
-      fell : (k p : ℕ) → k < g.R.Row.LANES → slice_index (lane k (labels_in g.R.Row.labels l.ride)) p ≤ slice_index (lane k (labels_in g.R.Row.labels l.initial.ride)) p;
-      marks : MarksFallenOf g.R.Row.LANES (labels_in g.R.Row.labels l.initial.ride) (labels_in g.R.Row.labels l.ride) l.initial.marked l.marked;
-      lanes : (rows : List (List Event)) → IsCutViewOf l.line.base g.R.Row.NEVER rows l.line.calls.now l.line.times.now → length rows ≡ l.line.trips → NoneOvertakes rows →
-          (k : ℕ) → k < g.R.Row.LANES → LineAt (lane k (labels_in g.R.Row.labels l.labels.before.now)) (lane k (labels_in g.R.Row.labels l.labels.ready.now)) rows l.fn.from l.place l.place (lane k (labels_in g.R.Row.labels l.initial.ride)) (lane k (labels_in g.R.Row.labels l.ride)) (Rides g.R.Row.NEVER (g.R.Row.labels l.run) k);
+      fell : (k p : ℕ) → k < g.R.Row.LANES → slice_index (lane k (labels_in g.R.Row.labels l.ride)) p
+          ≤ slice_index (lane k (labels_in g.R.Row.labels l.initial.ride)) p;
+      marks : MarksFallenOf g.R.Row.LANES (labels_in g.R.Row.labels l.initial.ride) (labels_in g.R.Row.labels l.ride)
+          l.initial.marked l.marked;
+      lanes : (rows : List (List Event)) → IsCutViewOf l.line.base g.R.Row.NEVER rows l.line.calls.now
+          l.line.times.now → length rows ≡ l.line.trips → NoneOvertakes rows →
+          (k : ℕ) → k < g.R.Row.LANES → LineAt (lane k (labels_in g.R.Row.labels l.labels.before.now))
+          (lane k (labels_in g.R.Row.labels l.labels.ready.now)) rows l.fn.from l.place l.place
+          (lane k (labels_in g.R.Row.labels l.initial.ride)) (lane k (labels_in g.R.Row.labels l.ride))
+          (Rides g.R.Row.NEVER (g.R.Row.labels l.run) k);
     }

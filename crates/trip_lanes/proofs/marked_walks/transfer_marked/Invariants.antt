@@ -8,7 +8,10 @@ abbrev pub invariant-loop-stop : goal.invariant-loop-stop
 invariant-loop-stop g l =
     record {
       same : length l.ready ≡ length l.ride;
-      lanes : (k : ℕ) → k < g.R.Row.LANES → Lowers (TransferredBelow l.feet (lane k (labels_in g.R.Row.labels l.ride)) l.stop) (lane k (labels_in g.R.Row.labels l.initial.ready)) (lane k (labels_in g.R.Row.labels l.ready));
+      lanes : (k : ℕ) → k < g.R.Row.LANES → Lowers
+          (TransferredBelow l.feet (lane k (labels_in g.R.Row.labels l.ride)) l.stop)
+          (lane k (labels_in g.R.Row.labels l.initial.ready)) (lane k (labels_in g.R.Row.labels l.ready));
       falls : length l.fallen ≡ length l.ride;
-      marks : MarksFallenOf g.R.Row.LANES (labels_in g.R.Row.labels l.initial.ready) (labels_in g.R.Row.labels l.ready) l.initial.fallen l.fallen;
+      marks : MarksFallenOf g.R.Row.LANES (labels_in g.R.Row.labels l.initial.ready) (labels_in g.R.Row.labels l.ready)
+          l.initial.fallen l.fallen;
     }

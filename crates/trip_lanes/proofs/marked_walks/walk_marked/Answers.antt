@@ -30,27 +30,44 @@ loop-stop-preserved g c =
       same = elim c.if-marked-stop.branch [ then-marked-stop w ↦ search rules | else-marked-stop w ↦ search rules ];
       lanes = λ k l. elim c.if-marked-stop.branch [
         | then-marked-stop w ↦
-            let read = row_lane g.R.Row.labels c.args.ride.now x k w.index-ride-stop.result w.index-ride-stop.result w.index-ride-stop.is within in
+            let read = row_lane g.R.Row.labels c.args.ride.now x k w.index-ride-stop.result w.index-ride-stop.result
+            w.index-ride-stop.is within in
             let ride = lane k (rows c.args.ride.now) in
             let fits : (p : ℕ) → slice_index (lane k (rows w.lower_row.new.labels)) p ≤ g.R.Row.NEVER = λ p.
             let f = c.requires.fits k p l in
-            let a = lane_falls (lane k (rows c.args.ready.now)) (lane k (rows c.loop-stop.ready)) (c.loop-stop.invariant.lanes k l) p in
-            let b = lane_falls (lane k (rows c.loop-stop.ready)) (lane k (rows w.lower_row.new.labels)) (w.lower_row.ensures.lanes k l) p in
+            let a = lane_falls (lane k (rows c.args.ready.now)) (lane k (rows c.loop-stop.ready))
+            (c.loop-stop.invariant.lanes k l) p in
+            let b = lane_falls (lane k (rows c.loop-stop.ready)) (lane k (rows w.lower_row.new.labels))
+            (w.lower_row.ensures.lanes k l) p in
             omega arith in
-            rw w.ready-is (offer_one feet ride x w.leaving.result.now w.leaving.ensures (c.loop-stop.invariant.lanes k l) (rw read (w.lower_row.ensures.lanes k l))
-            (later_is g.R.Row.NEVER w.leaving.result.now (slice_index ride x) (lane k (rows w.lower_row.new.labels)) (lane k (rows w.walk_noting.new.ready)) g.met.R.Row.never_fits fits (rw read (w.walk_noting.ensures.lanes k l))))
+            rw w.ready-is (offer_one feet ride x w.leaving.result.now w.leaving.ensures
+            (c.loop-stop.invariant.lanes k l) (rw read (w.lower_row.ensures.lanes k l))
+            (later_is g.R.Row.NEVER w.leaving.result.now (slice_index ride x) (lane k (rows w.lower_row.new.labels))
+            (lane k (rows w.walk_noting.new.ready)) g.met.R.Row.never_fits fits
+            (rw read (w.walk_noting.ensures.lanes k l))))
         | else-marked-stop w ↦
-            rw w.ready-is (offer_skip feet (lane k (rows c.args.ride.now)) x (lane k (rows c.args.ready.now)) (lane k (rows c.loop-stop.ready)) (c.loop-stop.invariant.lanes k l)
-            (c.requires.settled k x l (omega arith) (λ on. false≢true (sym w.if-marked-stop.false ∙ get_or_from_slice_get c.args.marked.now x true false on))))
+            rw w.ready-is (offer_skip feet (lane k (rows c.args.ride.now)) x (lane k (rows c.args.ready.now))
+            (lane k (rows c.loop-stop.ready)) (c.loop-stop.invariant.lanes k l)
+            (c.requires.settled k x l (omega arith) (λ on. false≢true (sym w.if-marked-stop.false
+            ∙ get_or_from_slice_get c.args.marked.now x true false on))))
       ];
       falls = elim c.if-marked-stop.branch [ then-marked-stop w ↦ search rules | else-marked-stop w ↦ search rules ];
       marks = elim c.if-marked-stop.branch [
-        | then-marked-stop w ↦ rw (w.ready-is, w.fallen-is) (marks_then (rows c.args.ready.now) (rows w.lower_row.new.labels) (rows w.walk_noting.new.ready) c.args.fallen.now w.lower_row.new.marked w.walk_noting.new.fallen
-            (λ l p h. let a = lane_falls (lane l (rows c.args.ready.now)) (lane l (rows c.loop-stop.ready)) (c.loop-stop.invariant.lanes l h) p in let b = lane_falls (lane l (rows c.loop-stop.ready)) (lane l (rows w.lower_row.new.labels)) (w.lower_row.ensures.lanes l h) p in omega arith)
-            (λ l p h. lane_falls (lane l (rows w.lower_row.new.labels)) (lane l (rows w.walk_noting.new.ready)) (w.walk_noting.ensures.lanes l h) p)
-            (marks_then (rows c.args.ready.now) (rows c.loop-stop.ready) (rows w.lower_row.new.labels) c.args.fallen.now c.loop-stop.fallen w.lower_row.new.marked
-            (λ l p h. lane_falls (lane l (rows c.args.ready.now)) (lane l (rows c.loop-stop.ready)) (c.loop-stop.invariant.lanes l h) p)
-            (λ l p h. lane_falls (lane l (rows c.loop-stop.ready)) (lane l (rows w.lower_row.new.labels)) (w.lower_row.ensures.lanes l h) p)
+        | then-marked-stop w ↦ rw (w.ready-is, w.fallen-is)
+            (marks_then (rows c.args.ready.now) (rows w.lower_row.new.labels) (rows w.walk_noting.new.ready)
+            c.args.fallen.now w.lower_row.new.marked w.walk_noting.new.fallen
+            (λ l p h. let a = lane_falls (lane l (rows c.args.ready.now)) (lane l (rows c.loop-stop.ready))
+            (c.loop-stop.invariant.lanes l h) p in let b =
+            lane_falls (lane l (rows c.loop-stop.ready)) (lane l (rows w.lower_row.new.labels))
+            (w.lower_row.ensures.lanes l h) p in omega arith)
+            (λ l p h. lane_falls (lane l (rows w.lower_row.new.labels)) (lane l (rows w.walk_noting.new.ready))
+            (w.walk_noting.ensures.lanes l h) p)
+            (marks_then (rows c.args.ready.now) (rows c.loop-stop.ready) (rows w.lower_row.new.labels) c.args.fallen.now
+            c.loop-stop.fallen w.lower_row.new.marked
+            (λ l p h. lane_falls (lane l (rows c.args.ready.now)) (lane l (rows c.loop-stop.ready))
+            (c.loop-stop.invariant.lanes l h) p)
+            (λ l p h. lane_falls (lane l (rows c.loop-stop.ready)) (lane l (rows w.lower_row.new.labels))
+            (w.lower_row.ensures.lanes l h) p)
             c.loop-stop.invariant.marks w.lower_row.ensures.marks)
             w.walk_noting.ensures.fallen)
         | else-marked-stop w ↦ rw (w.ready-is, w.fallen-is) c.loop-stop.invariant.marks
@@ -60,5 +77,11 @@ loop-stop-preserved g c =
 pub returns-clause-lanes : goal.returns-clause-lanes
 returns-clause-lanes g c l h =
     let rows = labels_in g.R.Row.labels in
-    let long : length (lane l (rows c.args.ready.now)) ≤ c.loop-stop.stop = omega (arith, length-map (rows c.args.ready.now) (λ w. slice_index w l), length-map c.args.ready.now g.R.Row.labels) in
-    offer_each c.args.feet.now.walks (lane l (rows c.args.ride.now)) c.loop-stop.stop long (omega arith) (c.loop-stop.invariant.lanes l h)
+    let long : length (lane l (rows c.args.ready.now)) ≤ c.loop-stop.stop =
+    omega (
+      arith,
+      length-map (rows c.args.ready.now) (λ w. slice_index w l),
+      length-map c.args.ready.now g.R.Row.labels,
+    ) in
+    offer_each c.args.feet.now.walks (lane l (rows c.args.ride.now)) c.loop-stop.stop long (omega arith)
+    (c.loop-stop.invariant.lanes l h)

@@ -8,6 +8,9 @@ abbrev pub invariant-loop-to : goal.invariant-loop-to
 invariant-loop-to g l =
     record {
       same : length l.fallen ≡ length l.ready;
-      lanes : (k : ℕ) → k < g.R.Row.LANES → Lowers (LaterBelow g.R.Row.NEVER l.leaving (slice_index (g.R.Row.labels l.times) k) l.to-index) (lane k (labels_in g.R.Row.labels l.initial.ready)) (lane k (labels_in g.R.Row.labels l.ready));
-      marks : MarksFallenOf g.R.Row.LANES (labels_in g.R.Row.labels l.initial.ready) (labels_in g.R.Row.labels l.ready) l.initial.fallen l.fallen;
+      lanes : (k : ℕ) → k < g.R.Row.LANES → Lowers
+          (LaterBelow g.R.Row.NEVER l.leaving (slice_index (g.R.Row.labels l.times) k) l.to-index)
+          (lane k (labels_in g.R.Row.labels l.initial.ready)) (lane k (labels_in g.R.Row.labels l.ready));
+      marks : MarksFallenOf g.R.Row.LANES (labels_in g.R.Row.labels l.initial.ready) (labels_in g.R.Row.labels l.ready)
+          l.initial.fallen l.fallen;
     }

@@ -38,7 +38,8 @@ returns-clause-some c =
           let k = found.0 in
           let h : k < 8 = omega (arith, found.1) in
           let labels = c.args.labels in
-          let all : c.loop-l.high ≡ max (max (slice_index labels (8 * 0 + k)) (slice_index labels (8 * 1 + k))) (max (slice_index labels (8 * 2 + k)) (slice_index labels (8 * 3 + k))) =
+          let all : c.loop-l.high ≡ max (max (slice_index labels (8 * 0 + k)) (slice_index labels (8 * 1 + k)))
+          (max (slice_index labels (8 * 2 + k)) (slice_index labels (8 * 3 + k))) =
           omega (
             arith,
             found.2,

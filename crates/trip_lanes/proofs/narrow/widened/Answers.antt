@@ -7,4 +7,5 @@ use lib.Lanes.{chunk}
 pub returns : goal.returns
 returns c l h =
     let here = lane_of 16 c.args.row (16 * c.args.part) l (omega (arith, c.requires)) h in
-    get_or-map _ (chunk 0 16 (take (16 * c.args.part + 16 - 16 * c.args.part) (drop (16 * c.args.part) c.args.row))) l 0 0 here.1 ∙ here.0
+    get_or-map _ (chunk 0 16 (take (16 * c.args.part + 16 - 16 * c.args.part) (drop (16 * c.args.part) c.args.row))) l 0
+    0 here.1 ∙ here.0

@@ -24,11 +24,17 @@ returns-clause-sound g c l r h on =
 
 pub returns-clause-kept : goal.returns-clause-kept
 returns-clause-kept g c l r h o =
-    let n = c.lower_of.ensures l h in
-    (slice_index (g.R.Row.labels c.lower_of.result) l, omega (arith, n, o.1, o.2.on), record { on = refl; some = omega (arith, n, o.2.on, o.2.some) })
+    let n = c.lower_of.ensures l h in (
+      slice_index (g.R.Row.labels c.lower_of.result) l,
+      omega (arith, n, o.1, o.2.on),
+      record { on = refl; some = omega (arith, n, o.2.on, o.2.some) },
+    )
 
 pub returns-clause-caught : goal.returns-clause-caught
 returns-clause-caught g c l h soon =
     let n = c.lower_of.ensures l h in
-    let o = c.catch.ensures.caught l h soon in
-    (slice_index (g.R.Row.labels c.lower_of.result) l, omega (arith, n, o), record { on = refl; some = omega (arith, n, o) })
+    let o = c.catch.ensures.caught l h soon in (
+      slice_index (g.R.Row.labels c.lower_of.result) l,
+      omega (arith, n, o),
+      record { on = refl; some = omega (arith, n, o) },
+    )

@@ -37,11 +37,16 @@ loop-stop-preserved c =
           omega arith in
           transfer_one feet ride x c.leaving.result.now c.leaving.ensures (c.loop-stop.invariant.lanes k l)
           (change_ends NEVER feet ride x (lane k c.loop-stop.ready) (lane k c.lower_all.new.labels) (omega arith) before
-          (changed_by NEVER x (slice_index c.later.result k) (slice_index ride x) c.change.result (slice_index feet.changes x) (rw read (c.later.ensures k l)) c.change.ensures (c.lower_all.ensures k l)))
-          (later_is NEVER c.leaving.result.now (slice_index ride x) (lane k c.lower_all.new.labels) (lane k c.walk_from.new.ready) (omega arith) fits (rw read (c.walk_from.ensures k l)));
+          (changed_by NEVER x (slice_index c.later.result k) (slice_index ride x) c.change.result
+          (slice_index feet.changes x) (rw read (c.later.ensures k l)) c.change.ensures
+          (c.lower_all.ensures k l)))
+          (later_is NEVER c.leaving.result.now (slice_index ride x) (lane k c.lower_all.new.labels)
+          (lane k c.walk_from.new.ready) (omega arith) fits (rw read (c.walk_from.ensures k l)));
     }
 
 pub returns : goal.returns
 returns c l h =
-    let long : length (lane l c.args.ready.now) ≤ c.loop-stop.stop = omega (arith, length-map c.args.ready.now (λ w. slice_index w l)) in
-    transfer_each c.args.feet.now (lane l c.args.ride.now) c.loop-stop.stop long (omega arith) (c.loop-stop.invariant.lanes l h)
+    let long : length (lane l c.args.ready.now) ≤ c.loop-stop.stop =
+    omega (arith, length-map c.args.ready.now (λ w. slice_index w l)) in
+    transfer_each c.args.feet.now (lane l c.args.ride.now) c.loop-stop.stop long (omega arith)
+    (c.loop-stop.invariant.lanes l h)

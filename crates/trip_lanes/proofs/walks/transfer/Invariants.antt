@@ -8,5 +8,6 @@ abbrev pub invariant-loop-stop : goal.invariant-loop-stop
 invariant-loop-stop l =
     record {
       same : length l.ready ≡ length l.ride;
-      lanes : (k : ℕ) → k < 16 → Lowers (TransferredBelow l.feet (lane k l.ride) l.stop) (lane k l.initial.ready) (lane k l.ready);
+      lanes : (k : ℕ) → k < 16 → Lowers (TransferredBelow l.feet (lane k l.ride) l.stop) (lane k l.initial.ready)
+          (lane k l.ready);
     }

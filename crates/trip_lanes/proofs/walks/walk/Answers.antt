@@ -32,11 +32,15 @@ loop-stop-preserved c =
           let a = lane_falls (lane k c.args.ready.now) (lane k c.loop-stop.ready) (c.loop-stop.invariant.lanes k l) p in
           let b = lane_falls (lane k c.loop-stop.ready) (lane k c.lower_all.new.labels) (c.lower_all.ensures k l) p in
           omega arith in
-          offer_one feet ride x c.leaving.result.now c.leaving.ensures (c.loop-stop.invariant.lanes k l) (rw read (c.lower_all.ensures k l))
-          (later_is NEVER c.leaving.result.now (slice_index ride x) (lane k c.lower_all.new.labels) (lane k c.walk_from.new.ready) (omega arith) fits (rw read (c.walk_from.ensures k l)));
+          offer_one feet ride x c.leaving.result.now c.leaving.ensures (c.loop-stop.invariant.lanes k l)
+          (rw read (c.lower_all.ensures k l))
+          (later_is NEVER c.leaving.result.now (slice_index ride x) (lane k c.lower_all.new.labels)
+          (lane k c.walk_from.new.ready) (omega arith) fits (rw read (c.walk_from.ensures k l)));
     }
 
 pub returns : goal.returns
 returns c l h =
-    let long : length (lane l c.args.ready.now) ≤ c.loop-stop.stop = omega (arith, length-map c.args.ready.now (λ w. slice_index w l)) in
-    offer_each c.args.feet.now.walks (lane l c.args.ride.now) c.loop-stop.stop long (omega arith) (c.loop-stop.invariant.lanes l h)
+    let long : length (lane l c.args.ready.now) ≤ c.loop-stop.stop =
+    omega (arith, length-map c.args.ready.now (λ w. slice_index w l)) in
+    offer_each c.args.feet.now.walks (lane l c.args.ride.now) c.loop-stop.stop long (omega arith)
+    (c.loop-stop.invariant.lanes l h)

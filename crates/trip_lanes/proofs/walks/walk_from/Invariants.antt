@@ -6,4 +6,5 @@ use Rattle.trip_lanes.proofs.LaneWalk.{LaterBelow}
 use Rattle.trip_lanes.proofs.walks.walk_from.Given as goal
 
 abbrev pub invariant-loop-to : goal.invariant-loop-to
-invariant-loop-to l = (k : ℕ) → k < 16 → Lowers (LaterBelow NEVER l.leaving (slice_index l.times k) l.to-index) (lane k l.initial.ready) (lane k l.ready)
+invariant-loop-to l = (k : ℕ) → k < 16 →
+    Lowers (LaterBelow NEVER l.leaving (slice_index l.times k) l.to-index) (lane k l.initial.ready) (lane k l.ready)

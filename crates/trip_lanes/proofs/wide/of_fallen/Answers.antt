@@ -4,4 +4,5 @@ use Rattle.trip_lanes.proofs.wide.of_fallen.Goals as goal
 use mir.Syntax.{w32}
 
 pub returns : goal.returns
-returns c l h fell = fallen_at w32 16 c.args.before c.args.ready c.args.labels c.args.other l h (omega arith) (omega arith) (omega arith) fell
+returns c l h fell = fallen_at w32 16 c.args.before c.args.ready c.args.labels c.args.other l h (omega arith)
+    (omega arith) (omega arith) fell

@@ -8,15 +8,21 @@ pub returns-in-Ok-clause-success : goal.returns-in-Ok-clause-success
 returns-in-Ok-clause-success g c = λ z.
     record {
       files = inputs_of c.inputs.result;
-      named = subst (λ i. AreNamed (g.H.Disk.finds c.args.host.now) c.args.task.now i) (sym c.inputs.ensures) c.in-Ok.ensures.files;
+      named = subst (λ i. AreNamed (g.H.Disk.finds c.args.host.now) c.args.task.now i) (sym c.inputs.ensures)
+          c.in-Ok.ensures.files;
       whole = c.answer_task.ensures.success z;
     }
 
 pub returns-in-Ok-clause-ended : goal.returns-in-Ok-clause-ended
 returns-in-Ok-clause-ended g c =
-    let named = subst (λ i. AreNamed (g.H.Disk.finds c.args.host.now) c.args.task.now i) (sym c.inputs.ensures) c.in-Ok.ensures.files in
+    let named = subst (λ i. AreNamed (g.H.Disk.finds c.args.host.now) c.args.task.now i) (sym c.inputs.ensures)
+    c.in-Ok.ensures.files in
     inr (inputs_of c.inputs.result, named, c.answer_task.ensures.answered)
 
 pub returns-after-task-clause-ended : goal.returns-after-task-clause-ended
 returns-after-task-clause-ended g c =
-    inl (refl, told (g.H.Disk.finds c.args.host.now) (asks_of c.args.task.now) c.in-Err.unread _ _ _ c.in-Err.ensures.unread c.tell-code.ensures)
+    inl (
+      refl,
+      told (g.H.Disk.finds c.args.host.now) (asks_of c.args.task.now) c.in-Err.unread _ _ _
+          c.in-Err.ensures.unread c.tell-code.ensures,
+    )

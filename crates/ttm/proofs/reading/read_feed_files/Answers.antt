@@ -10,7 +10,10 @@ returns-in_err-files-4-clause-unread g c =
     let asks = feed_asks c.args.folder.now in
     let exit = err_from_is_err_and c.from_residual-in_err-files-4.result c.from_residual-in_err-files-4.ensures.1 in
     rw (exit.1, exit.2)
-    (after finds (take 3 asks) (drop 3 asks) _ ((_, c.in_ok-files.ensures.file), ((_, c.in_ok-files-2.ensures.file), ((_, c.in_ok-files-3.ensures.file), tt)))
+    (after finds (take 3 asks) (drop 3 asks) _ (
+      (_, c.in_ok-files.ensures.file),
+      ((_, c.in_ok-files-2.ensures.file), ((_, c.in_ok-files-3.ensures.file), tt)),
+    )
     (before finds (take 1 (drop 3 asks)) (drop 4 asks) _ c.in_err-files-4.ensures.unread))
 
 pub returns-in_err-files-5-clause-unread : goal.returns-in_err-files-5-clause-unread
@@ -19,7 +22,16 @@ returns-in_err-files-5-clause-unread g c =
     let asks = feed_asks c.args.folder.now in
     let exit = err_from_is_err_and c.from_residual-in_err-files-5.result c.from_residual-in_err-files-5.ensures.1 in
     rw (exit.1, exit.2)
-    (after finds (take 4 asks) (drop 4 asks) _ ((_, c.in_ok-files.ensures.file), ((_, c.in_ok-files-2.ensures.file), ((_, c.in_ok-files-3.ensures.file), ((_, c.in_ok-files-4.ensures.file), tt))))
+    (after finds (take 4 asks) (drop 4 asks) _ (
+      (_, c.in_ok-files.ensures.file),
+      (
+        (_, c.in_ok-files-2.ensures.file),
+        (
+          (_, c.in_ok-files-3.ensures.file),
+          ((_, c.in_ok-files-4.ensures.file), tt),
+        ),
+      ),
+    )
     (before finds (take 1 (drop 4 asks)) (drop 5 asks) _ c.in_err-files-5.ensures.unread))
 
 pub returns-in_err-files-6-clause-unread : goal.returns-in_err-files-6-clause-unread
@@ -28,7 +40,16 @@ returns-in_err-files-6-clause-unread g c =
     let asks = feed_asks c.args.folder.now in
     let exit = err_from_is_err_and c.from_residual-in_err-files-6.result c.from_residual-in_err-files-6.ensures.1 in
     rw (exit.1, exit.2)
-    (after finds (take 5 asks) (drop 5 asks) _ ((_, c.in_ok-files.ensures.file), ((_, c.in_ok-files-2.ensures.file), ((_, c.in_ok-files-3.ensures.file), ((_, c.in_ok-files-4.ensures.file), ((_, c.in_ok-files-5.ensures.file), tt)))))
+    (after finds (take 5 asks) (drop 5 asks) _ (
+      (_, c.in_ok-files.ensures.file),
+      (
+        (_, c.in_ok-files-2.ensures.file),
+        (
+          (_, c.in_ok-files-3.ensures.file),
+          ((_, c.in_ok-files-4.ensures.file), ((_, c.in_ok-files-5.ensures.file), tt)),
+        ),
+      ),
+    )
     (before finds (take 1 (drop 5 asks)) (drop 6 asks) _ c.in_err-files-6.ensures.unread))
 
 pub returns-in_err-files-7-clause-unread : goal.returns-in_err-files-7-clause-unread
@@ -37,7 +58,22 @@ returns-in_err-files-7-clause-unread g c =
     let asks = feed_asks c.args.folder.now in
     let exit = err_from_is_err_and c.from_residual-in_err-files-7.result c.from_residual-in_err-files-7.ensures.1 in
     rw (exit.1, exit.2)
-    (after finds (take 6 asks) (drop 6 asks) _ ((_, c.in_ok-files.ensures.file), ((_, c.in_ok-files-2.ensures.file), ((_, c.in_ok-files-3.ensures.file), ((_, c.in_ok-files-4.ensures.file), ((_, c.in_ok-files-5.ensures.file), ((_, c.in_ok-files-6.ensures.file), tt))))))
+    (after finds (take 6 asks) (drop 6 asks) _ (
+      (_, c.in_ok-files.ensures.file),
+      (
+        (_, c.in_ok-files-2.ensures.file),
+        (
+          (_, c.in_ok-files-3.ensures.file),
+          (
+            (_, c.in_ok-files-4.ensures.file),
+            (
+              (_, c.in_ok-files-5.ensures.file),
+              ((_, c.in_ok-files-6.ensures.file), tt),
+            ),
+          ),
+        ),
+      ),
+    )
     (before finds (take 1 (drop 6 asks)) (drop 7 asks) _ c.in_err-files-7.ensures.unread))
 
 pub returns-in_err-files-8-clause-unread : goal.returns-in_err-files-8-clause-unread
@@ -46,7 +82,22 @@ returns-in_err-files-8-clause-unread g c =
     let asks = feed_asks c.args.folder.now in
     let exit = err_from_is_err_and c.from_residual-in_err-files-8.result c.from_residual-in_err-files-8.ensures.1 in
     rw (exit.1, exit.2)
-    (after finds (take 7 asks) (drop 7 asks) _ ((_, c.in_ok-files.ensures.file), ((_, c.in_ok-files-2.ensures.file), ((_, c.in_ok-files-3.ensures.file), ((_, c.in_ok-files-4.ensures.file), ((_, c.in_ok-files-5.ensures.file), ((_, c.in_ok-files-6.ensures.file), ((_, c.in_ok-files-7.ensures.file), tt)))))))
+    (after finds (take 7 asks) (drop 7 asks) _ (
+      (_, c.in_ok-files.ensures.file),
+      (
+        (_, c.in_ok-files-2.ensures.file),
+        (
+          (_, c.in_ok-files-3.ensures.file),
+          (
+            (_, c.in_ok-files-4.ensures.file),
+            (
+              (_, c.in_ok-files-5.ensures.file),
+              ((_, c.in_ok-files-6.ensures.file), ((_, c.in_ok-files-7.ensures.file), tt)),
+            ),
+          ),
+        ),
+      ),
+    )
     c.in_err-files-8.ensures.unread)
 
 pub returns-clause-files : goal.returns-clause-files

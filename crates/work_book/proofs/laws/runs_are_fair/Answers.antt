@@ -10,4 +10,5 @@ pub returns-clause-kept : goal.returns-clause-kept
 returns-clause-kept c = λ jobs tries seats steps. (reached_fair jobs tries seats steps).kept
 
 pub returns-clause-nothing : goal.returns-clause-nothing
-returns-clause-nothing c = λ jobs tries seats steps. nothing_last steps (new_book jobs tries seats) (new_fair jobs tries seats)
+returns-clause-nothing c = λ jobs tries seats steps. nothing_last steps (new_book jobs tries seats)
+    (new_fair jobs tries seats)

@@ -10,7 +10,8 @@ returns c =
     let t = c.args.durations.now in
     let s = c.args.study.now in
     let all = cells_there t c.args.share in
-    let there = subst (λ (n : ℕ). All (λ (d : StopNo). d.0 < n) s.asked.destinations.now) (sym c.requires.stops) c.requires.fits.destinations in
+    let there = subst (λ (n : ℕ). All (λ (d : StopNo). d.0 < n) s.asked.destinations.now) (sym c.requires.stops)
+    c.requires.fits.destinations in
     record {
       all = all.0;
       all_are = all.1;

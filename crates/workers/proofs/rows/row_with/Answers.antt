@@ -21,4 +21,5 @@ with_access-requires-clause-stops c =
 
 pub returns : goal.returns
 returns c =
-    row_is (study_of c.args.study.now) c.args.scenario c.args.origin c.in_ok-durations.durations c.in_ok-shares.shares.items c.in_ok-durations.ensures c.in_ok-shares.ensures
+    row_is (study_of c.args.study.now) c.args.scenario c.args.origin c.in_ok-durations.durations
+    c.in_ok-shares.shares.items c.in_ok-durations.ensures c.in_ok-shares.ensures

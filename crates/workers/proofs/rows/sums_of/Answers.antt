@@ -18,4 +18,5 @@ loop-limit-preserved c = λ all are.
 pub returns : goal.returns
 returns c = λ all are.
     c.loop-limit.invariant all are
-    ∙ ap (λ (l : List ℕ). map (λ limit. access_of all c.args.opportunities.now limit) l) (take_all c.loop-limit.limit-index c.args.limits.now (omega (arith, c.loop-limit-test.false)))
+    ∙ ap (λ (l : List ℕ). map (λ limit. access_of all c.args.opportunities.now limit) l)
+    (take_all c.loop-limit.limit-index c.args.limits.now (omega (arith, c.loop-limit-test.false)))

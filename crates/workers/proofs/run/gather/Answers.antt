@@ -13,7 +13,8 @@ use Rattle.workers.proofs.Joined.{first_of_all, rest_of_all}
 use Rattle.workers.proofs.run.gather.Goals as goal
 
 -- one worker fewer is left to ask
-one_fewer : (short : Bool) (w : Worked) (rest all : List Worked) (whole : Bool) → all ≡ w ∷ rest → (short || is_some_short all) ≡ whole
+one_fewer : (short : Bool) (w : Worked) (rest all : List Worked) (whole : Bool) → all ≡ w ∷ rest →
+    (short || is_some_short all) ≡ whole
     → ((short || is_short w.ending) || is_some_short rest) ≡ whole
 one_fewer true w rest all whole e h = h
 one_fewer false w rest all whole e h = ap is_some_short (sym e) ∙ h
@@ -33,11 +34,14 @@ loop-done-preserved c =
       board = c.join.ensures.board;
       seats = rest_of_all (λ w. IsOf b w.seat) c.in-Some.done rest all steps.0 was.seats;
       once = c.join.ensures.once;
-      joined = ap (λ (v : View). joined v rest) c.join.ensures.both ∙ ap (joined (seen_by c.loop-done.seat)) (sym steps.0) ∙ was.joined;
-      short = ap (λ t. t || is_some_short rest) c.is_short_too-short.ensures ∙ one_fewer c.loop-done.short c.in-Some.done rest all (is_some_short c.args.worked.items) steps.0 was.short;
+      joined = ap (λ (v : View). joined v rest) c.join.ensures.both
+          ∙ ap (joined (seen_by c.loop-done.seat)) (sym steps.0) ∙ was.joined;
+      short = ap (λ t. t || is_some_short rest) c.is_short_too-short.ensures
+          ∙ one_fewer c.loop-done.short c.in-Some.done rest all (is_some_short c.args.worked.items) steps.0 was.short;
       filled = λ s fits worked start.
           let so_far = was.filled s fits worked start in
-          let mine = first_of_all (λ w. HoldsRows s w.rows.items (seen_by w.seat).kept) c.in-Some.done rest all steps.0 so_far.0 in (
+          let mine = first_of_all (λ w. HoldsRows s w.rows.items (seen_by w.seat).kept) c.in-Some.done rest all steps.0
+          so_far.0 in (
             rest_of_all (λ w. HoldsRows s w.rows.items (seen_by w.seat).kept) c.in-Some.done rest all steps.0 so_far.0,
             subst (λ (z : List ℕ × PlacesData). AreFilledAs s z.0 z.1) (λ i. (sym now i, sym c.offer_all.ensures i))
                 (fills s kept more before c.in-Some.done.rows.items fits mine so_far.1),
@@ -54,5 +58,9 @@ loop-done-init c =
       once = c.requires.once;
       joined = ap (joined (seen_by c.args.seat.now)) is;
       short = ap is_some_short is;
-      filled = λ s fits worked start. (All-same (λ w. HoldsRows s w.rows.items (seen_by w.seat).kept) all c.args.worked.items is worked, start);
+      filled = λ s fits worked start. (
+        All-same (λ w. HoldsRows s w.rows.items (seen_by w.seat).kept) all
+            c.args.worked.items is worked,
+        start,
+      );
     }

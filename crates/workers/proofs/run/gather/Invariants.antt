@@ -15,6 +15,8 @@ invariant-loop-done l = record {
   once : IsOnce (seen_by l.seat);
   joined : joined (seen_by l.seat) (into_iter_items l.done-iterator) ≡ joined (seen_by l.fn.seat) l.fn.worked.items;
   short : (l.short || is_some_short (into_iter_items l.done-iterator)) ≡ is_some_short l.fn.worked.items;
-  filled : (s : StudyData) → StudyFits s → All (λ w. HoldsRows s w.rows.items (seen_by w.seat).kept) l.fn.worked.items → AreFilledAs s (seen_by l.fn.seat).kept l.fn.collector
-      → All (λ w. HoldsRows s w.rows.items (seen_by w.seat).kept) (into_iter_items l.done-iterator) × AreFilledAs s (seen_by l.seat).kept l.collector;
+  filled : (s : StudyData) → StudyFits s → All (λ w. HoldsRows s w.rows.items (seen_by w.seat).kept) l.fn.worked.items →
+      AreFilledAs s (seen_by l.fn.seat).kept l.fn.collector
+      → All (λ w. HoldsRows s w.rows.items (seen_by w.seat).kept) (into_iter_items l.done-iterator)
+      × AreFilledAs s (seen_by l.seat).kept l.collector;
 }

@@ -7,5 +7,6 @@ pub returns-in-Err-3-clause-fault : goal.returns-in-Err-3-clause-fault
 returns-in-Err-3-clause-fault c = λ s v worked was once short started. (
   some_are worked c.args.started started c.if-not-started.false,
   sym short ∙ c.if-short.false,
-  first_unkept s v c.args.collector c.in-Err.field-0.scenario c.in-Err.field-0.origin was c.in-Err.ensures.empty.first once,
+  first_unkept s v c.args.collector c.in-Err.field-0.scenario c.in-Err.field-0.origin was c.in-Err.ensures.empty.first
+      once,
 )

@@ -16,6 +16,7 @@ loop-handle-preserved g c =
       count = omega (arith, steps.1, c.push_reserved.ensures.len);
       promised = rest_of_all (λ h. h.promise.task.now ≡ task) c.in-Some.handle rest all steps.0 was.promised;
       worked =
-          one_more_of_all (λ w. g.T.Task.gives task w) (vec_items c.loop-handle.done) (vec_items c.push_reserved.new.self) c.join.result c.push_reserved.ensures.items was.worked
+          one_more_of_all (λ w. g.T.Task.gives task w) (vec_items c.loop-handle.done)
+          (vec_items c.push_reserved.new.self) c.join.result c.push_reserved.ensures.items was.worked
           (subst (λ t. g.T.Task.gives t c.join.result) mine c.join.ensures);
     }

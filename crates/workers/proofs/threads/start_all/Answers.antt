@@ -11,9 +11,12 @@ loop-seat-preserved-in-Some-start g c =
     record {
       room = omega (arith, steps.1, c.push_reserved.ensures.len, c.push_reserved.ensures.capacity);
       count = omega (arith, steps.1, c.push_reserved.ensures.len);
-      takes = rest_of_all (λ seat. g.T.Task.takes task seat) c.in-Some.seat (into_iter_items c.next.new.self) (into_iter_items c.loop-seat.seat-iterator) steps.0 was.takes;
+      takes = rest_of_all (λ seat. g.T.Task.takes task seat) c.in-Some.seat (into_iter_items c.next.new.self)
+          (into_iter_items c.loop-seat.seat-iterator) steps.0 was.takes;
       promised =
-          one_more_of_all (λ h. h.promise.task.now ≡ task) (vec_items c.loop-seat.handles) (vec_items c.push_reserved.new.self) c.in-Some-start.handle c.push_reserved.ensures.items was.promised c.in-Some-start.ensures;
+          one_more_of_all (λ h. h.promise.task.now
+          ≡ task) (vec_items c.loop-seat.handles) (vec_items c.push_reserved.new.self) c.in-Some-start.handle
+          c.push_reserved.ensures.items was.promised c.in-Some-start.ensures;
     }
 
 pub loop-seat-preserved : goal.loop-seat-preserved
@@ -24,6 +27,7 @@ loop-seat-preserved g c =
     record {
       room = omega (arith, steps.1);
       count = omega (arith, steps.1);
-      takes = rest_of_all (λ seat. g.T.Task.takes task seat) c.in-Some.seat (into_iter_items c.next.new.self) (into_iter_items c.loop-seat.seat-iterator) steps.0 was.takes;
+      takes = rest_of_all (λ seat. g.T.Task.takes task seat) c.in-Some.seat (into_iter_items c.next.new.self)
+          (into_iter_items c.loop-seat.seat-iterator) steps.0 was.takes;
       promised = was.promised;
     }

@@ -8,18 +8,22 @@ use Rattle.workers.proofs.worker.settle_once.Goals as goal
 
 pub returns-in-Kept-clause-rows : goal.returns-in-Kept-clause-rows
 returns-in-Kept-clause-rows g c =
-    holds_new (study_of c.args.study.now) c.args.hands.now.rows.items c.push_reserved.new.self.items (seen_by c.args.hands.now.seat).kept (seen_by c.settle-settled.new.seat).kept c.args.lease.job c.in_ok-row.row c.requires.rows c.in_ok-row.ensures
+    holds_new (study_of c.args.study.now) c.args.hands.now.rows.items c.push_reserved.new.self.items
+    (seen_by c.args.hands.now.seat).kept (seen_by c.settle-settled.new.seat).kept c.args.lease.job
+    c.in_ok-row.row c.requires.rows c.in_ok-row.ensures
     (search rules)
     (ap (λ (v : View). v.kept) c.in-Kept.ensures.settled.0)
 
 pub returns-in-Kept-clause-told : goal.returns-in-Kept-clause-told
 returns-in-Kept-clause-told g c =
-    told_more (g.G.Gate.was_told c.args.gate.now) (seen_by c.args.hands.now.seat) (seen_by c.settle-settled.new.seat) c.args.lease c.settle-settled.result c.settle-settled.ensures.settled
+    told_more (g.G.Gate.was_told c.args.gate.now) (seen_by c.args.hands.now.seat) (seen_by c.settle-settled.new.seat)
+    c.args.lease c.settle-settled.result c.settle-settled.ensures.settled
     c.after.ensures.told
 
 pub returns-in_default-clause-told : goal.returns-in_default-clause-told
 returns-in_default-clause-told g c =
-    told_more (g.G.Gate.was_told c.args.gate.now) (seen_by c.args.hands.now.seat) (seen_by c.settle-settled.new.seat) c.args.lease c.settle-settled.result c.settle-settled.ensures.settled
+    told_more (g.G.Gate.was_told c.args.gate.now) (seen_by c.args.hands.now.seat) (seen_by c.settle-settled.new.seat)
+    c.args.lease c.settle-settled.result c.settle-settled.ensures.settled
     c.after.ensures.told
 
 pub returns-in-Kept-clause-heard : goal.returns-in-Kept-clause-heard

@@ -7,7 +7,8 @@ use Rattle.collector.proofs.places.Collector.finish.Goals as goal
 pub returns-in-None-clause-full : goal.returns-in-None-clause-full
 returns-in-None-clause-full c =
     let rows : c.self.inside.places.items ≡ c.args.self.rows = ap (λ (p : PlacesData). p.rows) c.self.view_is in
-    let full : AreFull c.self.inside.places.items = subst (λ (l : List (Option RowData)). AreFull l) (sym rows) c.in-None.ensures in
+    let full : AreFull c.self.inside.places.items =
+    subst (λ (l : List (Option RowData)). AreFull l) (sym rows) c.in-None.ensures in
     record {
       scenarios = ap (λ (p : PlacesData). p.scenarios) c.self.view_is;
       origins = ap (λ (p : PlacesData). p.origins) c.self.view_is;

@@ -12,4 +12,5 @@ returns c =
     let there : k < length i.places.items = search rules in
     let at = sym (get_or_default i.places.items k c.index.result.now None there) in
     let here = present_at i.places.items k c.in-Some.row c.self.invariant.2 (at ∙ sym c.index.ensures ∙ c.in-Some.is) in
-    subst (λ (m : MatrixData). slice_get m.rows (c.args.scenario * m.origins + c.args.origin) ≡ Some c.in-Some.row) c.self.view_is here
+    subst (λ (m : MatrixData). slice_get m.rows (c.args.scenario * m.origins + c.args.origin)
+    ≡ Some c.in-Some.row) c.self.view_is here

@@ -22,10 +22,12 @@ returns c =
     let forgotten : All (λ stop. get_or news stop 0 ≡ 4294967295) c.args.self.now.touched.items =
     subst (All (λ stop. get_or news stop 0 ≡ 4294967295)) c.deref.ensures.value c.forget.ensures.forgotten in
     let others : (p : ℕ) → (get_or news p 0 ≡ get_or labels p 0) ⊎ (get_or news p 0 ≡ 4294967295) =
-    subst (λ (ls : List ℕ). (p : ℕ) → (get_or news p 0 ≡ get_or ls p 0) ⊎ (get_or news p 0 ≡ 4294967295)) c.deref_mut.ensures.value c.forget.ensures.others in
+    subst (λ (ls : List ℕ). (p : ℕ) → (get_or news p 0 ≡ get_or ls p 0)
+    ⊎ (get_or news p 0 ≡ 4294967295)) c.deref_mut.ensures.value c.forget.ensures.others in
     record {
       count = rw whole (length-set news source 4294967295 ∙ same);
-      never = rw whole (labels_taken_back source c.requires.touched.0 (marks c.args.self.now) news c.requires.source same c.requires.touched.1 forgotten others);
+      never = rw whole (labels_taken_back source c.requires.touched.0 (marks c.args.self.now) news c.requires.source
+          same c.requires.touched.1 forgotten others);
       touched = c.clear.ensures.items;
       noted = c.requires.noted;
     }

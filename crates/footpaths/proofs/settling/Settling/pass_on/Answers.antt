@@ -15,8 +15,10 @@ loop-stop-preserved c =
     let low = c.requires.label in
     elim c.if-seconds-limit.branch [
       | then-seconds-limit+in_ok-relax w ↦ rw w.self-is
-          (leg_passed c.args.limit c.args.label i leaving (marks c.args.self.now) now (marks w.relax.new.self) none here (c.requires.leaving i none here)
+          (leg_passed c.args.limit c.args.label i leaving (marks c.args.self.now) now (marks w.relax.new.self) none here
+          (c.requires.leaving i none here)
           (let fits = w.if-seconds-limit.true in omega (arith, fits, low)) c.loop-stop.invariant w.in_ok-relax.ensures)
       | else-seconds-limit w ↦ rw w.self-is
-          (leg_skipped c.args.limit c.args.label i leaving (marks c.args.self.now) now none here (let past = w.if-seconds-limit.false in omega (arith, past, low)) c.loop-stop.invariant)
+          (leg_skipped c.args.limit c.args.label i leaving (marks c.args.self.now) now none here (let past =
+          w.if-seconds-limit.false in omega (arith, past, low)) c.loop-stop.invariant)
     ]

@@ -15,12 +15,17 @@ returns-in_ok-push-2 c =
     let limit = c.args.limit in
     let old = marks c.args.self.now in
     let ks = heap_items c.push-then-label-old.new.self in
-    let at : c.index-old.result.now ≡ get_or old.labels stop 0 = c.index-old.ensures ∙ get_or_default old.labels stop c.index-old.result.now 0 c.requires.stop in
+    let at : c.index-old.result.now ≡ get_or old.labels stop 0 =
+    c.index-old.ensures ∙ get_or_default old.labels stop c.index-old.result.now 0 c.requires.stop in
     let less : label < get_or old.labels stop 0 = subst (λ (n : ℕ). label < n) at c.if-label-old.true in
-    let moved = λ (s : Settling) (e : c.if-old.self ≡ s). subst (λ (t : Settling). IsPermutation ((limit - label, stop) ∷ heap_items t.noted) ks) e c.in_ok-push-2.ensures.permutation in
+    let moved = λ (s : Settling) (e : c.if-old.self
+    ≡ s). subst (λ (t : Settling). IsPermutation ((limit - label, stop) ∷ heap_items t.noted) ks) e
+    c.in_ok-push-2.ensures.permutation in
     elim c.if-old.branch [
       | then-old+in_ok-push w ↦ rw (w.self-is, w.in_ok-push.ensures.items)
-          (relaxed_first limit stop label old ks c.requires.stop c.requires.label c.requires.limit (sym at ∙ w.if-old.true) (moved _ w.self-is))
+          (relaxed_first limit stop label old ks c.requires.stop c.requires.label c.requires.limit (sym at
+          ∙ w.if-old.true) (moved _ w.self-is))
       | else-old w ↦ rw w.self-is
-          (relaxed_again limit stop label old ks c.requires.stop c.requires.label (λ never. w.if-old.false (at ∙ never)) less (moved _ w.self-is))
+          (relaxed_again limit stop label old ks c.requires.stop c.requires.label (λ never. w.if-old.false (at ∙ never))
+          less (moved _ w.self-is))
     ]

@@ -8,4 +8,5 @@ use Rattle.footpaths.proofs.walks.WalkReaderRecordReader.add.Goals as goal
 pub returns-in-Err-clause-fault : goal.returns-in-Err-clause-fault
 returns-in-Err-clause-fault c start before at is =
     let r : WalkRow = row_at c.args.self.now.columns (fields_of c.args.row.now) in
-    rw c.at.ensures (first_told file.Footpaths c.args.at (length before + 2) c.in-Err.what (row_checks c.args.self.now.feed.now.names r) _ at c.in-Err.ensures.fault)
+    rw c.at.ensures (first_told file.Footpaths c.args.at (length before + 2)
+    c.in-Err.what (row_checks c.args.self.now.feed.now.names r) _ at c.in-Err.ensures.fault)

@@ -13,7 +13,9 @@ returns-then-index-clause-fault c before are =
     let marks = c.args.self.now.marks.items in
     let some : is_empty id ≡ false = sym (empty_length id) ∙ sym c.is_empty.ensures ∙ c.if-is_empty.false in
     let here : Some c.in-Some.stop.0 ≡ position (bytes_eq id) stops = c.in-Some.ensures.number in
-    let again : list_any (bytes_eq id) before ≡ true = sym (mark_is stops marks before c.in-Some.stop.0 id are here c.index.result.now) ∙ sym c.index.ensures ∙ c.if-index.true in
+    let again : list_any (bytes_eq id) before ≡ true =
+    sym (mark_is stops marks before c.in-Some.stop.0 id are here c.index.result.now) ∙ sym c.index.ensures
+    ∙ c.if-index.true in
     repeated stops before id c.in-Some.stop.0 some here again
 
 pub returns-clause-good : goal.returns-clause-good
@@ -23,6 +25,8 @@ returns-clause-good c before are =
     let marks = c.args.self.now.marks.items in
     let some : is_empty id ≡ false = sym (empty_length id) ∙ sym c.is_empty.ensures ∙ c.if-is_empty.false in
     let here : Some c.in-Some.stop.0 ≡ position (bytes_eq id) stops = c.in-Some.ensures.number in
-    let new : list_any (bytes_eq id) before ≡ false = sym (mark_is stops marks before c.in-Some.stop.0 id are here c.index.result.now) ∙ sym c.index.ensures ∙ c.if-index.false in
+    let new : list_any (bytes_eq id) before ≡ false =
+    sym (mark_is stops marks before c.in-Some.stop.0 id are here c.index.result.now) ∙ sym c.index.ensures
+    ∙ c.if-index.false in
     let (none, number) = fresh stops before id c.in-Some.stop.0 some here new in
     (none, number, marked_more stops marks before c.in-Some.stop.0 id are here)

@@ -13,7 +13,8 @@ returns-in_ok-add-in-Ok-clause-good c start before at makes =
     let here = at ∙ ap (λ n. n + 2) (sym (length-map before row)) in
     let is = c.in-Ok.ensures.good in
     let name = ap (λ s. s.name) makes.1 in
-    let edits = ap (λ s. s.edits ++ c.in-Ok.edit ∷ []) makes.1 ∙ sym (edits_more feed (map row before) (row fields) c.in-Ok.edit is.1) in
+    let edits = ap (λ s. s.edits ++ c.in-Ok.edit ∷ []) makes.1
+    ∙ sym (edits_more feed (map row before) (row fields) c.in-Ok.edit is.1) in
     rw (map-append row before (fields ∷ [])) (
       record_passes feed (map row before) (row fields) c.args.at here makes.0 is.0,
       c.in_ok-add-in-Ok.ensures.good ∙ (λ k. record { name = name k; edits = edits k }),
@@ -26,4 +27,5 @@ returns-in-Err-clause-fault c start before after at makes =
     let fields = fields_of c.args.row.now in
     let here = at ∙ ap (λ n. n + 2) (sym (length-map before row)) in
     rw (map-append row before (fields ∷ after))
-    (record_refused feed (map row before) (map row after) (row fields) c.args.at c.in-Err.what here makes.0 c.in-Err.ensures.fault)
+    (record_refused feed (map row before) (map row after) (row fields) c.args.at c.in-Err.what here makes.0
+    c.in-Err.ensures.fault)

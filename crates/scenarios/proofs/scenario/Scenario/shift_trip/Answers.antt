@@ -1,4 +1,5 @@
-use Rattle.std.proofs.Common.{◌≡◌, ◌∙◌, ◌==◌, ◌++◌, ◌∷◌, [], ◌≤ℤ◌, ◌<◌, ◌+ℤ◌, if◌then◌else◌, arith, length, neg_ℤ, pos, ap, of_z, refl, rules, to_z, w64}
+use Rattle.std.proofs.Common.{◌≡◌, ◌∙◌, ◌==◌, ◌++◌, ◌∷◌, [], ◌≤ℤ◌, ◌<◌, ◌+ℤ◌, if◌then◌else◌, arith, length, neg_ℤ, pos}
+use Rattle.std.proofs.Common.{ap, of_z, refl, rules, to_z, w64}
 use Rattle.std.specs.Prelude.{slice_index_or}
 use Rattle.std.proofs.lemmas.Int.{ints, to_z-of_z}
 use Rattle.scenarios.specs.Edits.{shift_of}
@@ -11,9 +12,11 @@ use Rattle.scenarios.proofs.scenario.Scenario.shift_trip.Goals as goal
 pub add_shift-requires-clause-shift : goal.add_shift-requires-clause-shift
 add_shift-requires-clause-shift c =
     let edits = c.self.inside.edits.items in
-    let same : slice_index_or c.make_room.new.items.items c.args.trip (pos 0) ≡ shift_of edits c.args.trip = c.make_room.ensures.same c.args.trip ∙ c.self.invariant.shifts c.args.trip in
+    let same : slice_index_or c.make_room.new.items.items c.args.trip (pos 0) ≡ shift_of edits c.args.trip =
+    c.make_room.ensures.same c.args.trip ∙ c.self.invariant.shifts c.args.trip in
     let bound = shift_within edits c.args.trip c.self.invariant.few c.self.invariant.within in
-    let low : neg_ℤ (pos 60479900000) ≤ℤ slice_index_or c.make_room.new.items.items c.args.trip (pos 0) = rw same bound.0 in
+    let low : neg_ℤ (pos 60479900000) ≤ℤ slice_index_or c.make_room.new.items.items c.args.trip (pos 0) =
+    rw same bound.0 in
     let high : slice_index_or c.make_room.new.items.items c.args.trip (pos 0) ≤ℤ pos 60479900000 = rw same bound.1 in
     (omega (arith, ints), omega (arith, ints))
 

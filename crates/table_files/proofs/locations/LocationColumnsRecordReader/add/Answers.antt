@@ -17,12 +17,17 @@ pub returns-clause-good : goal.returns-clause-good
 returns-clause-good c start before at is =
     let r : LocationRecord = row_at c.args.self.now (fields_of c.args.row.now) in
     let id = c.field-id.ensures in
-    let some : is_empty r.id ≡ false = rw id at (sym (empty_length c.field-id.result.now) ∙ sym c.is_empty.ensures ∙ c.if-is_empty.false) in
-    let new : list_any (bytes_eq r.id) c.args.table.now.names ≡ false = rw id at (is_new c.in_ok-push.field-0 c.if-not-branch.false _ c.in_ok-push.ensures.added) in
+    let some : is_empty r.id ≡ false = rw id at (sym (empty_length c.field-id.result.now) ∙ sym c.is_empty.ensures
+    ∙ c.if-is_empty.false) in
+    let new : list_any (bytes_eq r.id) c.args.table.now.names ≡ false =
+    rw id at (is_new c.in_ok-push.field-0 c.if-not-branch.false _ c.in_ok-push.ensures.added) in
     let names = rw (c.if-not-branch.false, id) at c.in_ok-push.ensures.ids in
     let kind : Some c.in-Some.kind ≡ kind_of r.kind = rw (c.trim.ensures, c.field.ensures) at c.in-Some.ensures in (
       no_fault before r c.args.table.now.names c.in-Some.kind (omega arith) some is.names new kind,
-      locations_more c.args.table.now _ _ before r c.in-Some.kind is kind new names (rw (id, c.field-2.ensures) at c.in_ok-add.ensures),
+      locations_more c.args.table.now _ _ before r c.in-Some.kind is kind new names (rw (
+        id,
+        c.field-2.ensures,
+      ) at c.in_ok-add.ensures),
     )
 
 pub returns-then-at-clause-fault : goal.returns-then-at-clause-fault
@@ -35,8 +40,10 @@ pub returns-then-is_empty-clause-fault : goal.returns-then-is_empty-clause-fault
 returns-then-is_empty-clause-fault c start before at is =
     let r : LocationRecord = row_at c.args.self.now (fields_of c.args.row.now) in
     let room : nat_le 65535 (length before) ≡ false = lt-leb _ _ (omega (arith, at, c.if-at.false)) in
-    let none : is_empty r.id ≡ true = rw c.field-id.ensures at (sym (empty_length c.field-id.result.now) ∙ sym c.is_empty.ensures ∙ c.if-is_empty.true) in
-    tells_row file.Stops checks before r what.EmptyId c.at-then-is_empty.result c.args.at c.at-then-is_empty.ensures at (rw (room, none) refl)
+    let none : is_empty r.id ≡ true = rw c.field-id.ensures at (sym (empty_length c.field-id.result.now)
+    ∙ sym c.is_empty.ensures ∙ c.if-is_empty.true) in
+    tells_row file.Stops checks before r what.EmptyId c.at-then-is_empty.result
+    c.args.at c.at-then-is_empty.ensures at (rw (room, none) refl)
 
 pub returns-in_err-push-clause-fault : goal.returns-in_err-push-clause-fault
 returns-in_err-push-clause-fault c =
@@ -47,20 +54,26 @@ pub returns-then-not-branch-clause-fault : goal.returns-then-not-branch-clause-f
 returns-then-not-branch-clause-fault c start before at is =
     let r : LocationRecord = row_at c.args.self.now (fields_of c.args.row.now) in
     let room : nat_le 65535 (length before) ≡ false = lt-leb _ _ (omega (arith, at, c.if-at.false)) in
-    let some : is_empty r.id ≡ false = rw c.field-id.ensures at (sym (empty_length c.field-id.result.now) ∙ sym c.is_empty.ensures ∙ c.if-is_empty.false) in
-    let old : list_any (bytes_eq r.id) c.args.table.now.names ≡ true = rw c.field-id.ensures at (is_old c.in_ok-push.field-0 c.if-not-branch.true _ c.in_ok-push.ensures.added) in
+    let some : is_empty r.id ≡ false = rw c.field-id.ensures at (sym (empty_length c.field-id.result.now)
+    ∙ sym c.is_empty.ensures ∙ c.if-is_empty.false) in
+    let old : list_any (bytes_eq r.id) c.args.table.now.names ≡ true =
+    rw c.field-id.ensures at (is_old c.in_ok-push.field-0 c.if-not-branch.true _ c.in_ok-push.ensures.added) in
     let again = rw is.names at old in
-    tells_row file.Stops checks before r what.DuplicateId c.at-then-not-branch.result c.args.at c.at-then-not-branch.ensures at (rw (room, some, again) refl)
+    tells_row file.Stops checks before r what.DuplicateId c.at-then-not-branch.result
+    c.args.at c.at-then-not-branch.ensures at (rw (room, some, again) refl)
 
 pub returns-in_default-clause-fault : goal.returns-in_default-clause-fault
 returns-in_default-clause-fault c start before at is =
     let r : LocationRecord = row_at c.args.self.now (fields_of c.args.row.now) in
     let room : nat_le 65535 (length before) ≡ false = lt-leb _ _ (omega (arith, at, c.if-at.false)) in
-    let some : is_empty r.id ≡ false = rw c.field-id.ensures at (sym (empty_length c.field-id.result.now) ∙ sym c.is_empty.ensures ∙ c.if-is_empty.false) in
-    let new : list_any (bytes_eq r.id) c.args.table.now.names ≡ false = rw c.field-id.ensures at (is_new c.in_ok-push.field-0 c.if-not-branch.false _ c.in_ok-push.ensures.added) in
+    let some : is_empty r.id ≡ false = rw c.field-id.ensures at (sym (empty_length c.field-id.result.now)
+    ∙ sym c.is_empty.ensures ∙ c.if-is_empty.false) in
+    let new : list_any (bytes_eq r.id) c.args.table.now.names ≡ false =
+    rw c.field-id.ensures at (is_new c.in_ok-push.field-0 c.if-not-branch.false _ c.in_ok-push.ensures.added) in
     let apart = rw is.names at new in
     let none : None ≡ kind_of r.kind = rw (c.trim.ensures, c.field.ensures) at c.in_default.ensures in
-    tells_row file.Stops checks before r what.BadNumber c.at-in_default.result c.args.at c.at-in_default.ensures at (rw (room, some, apart, ← none) refl)
+    tells_row file.Stops checks before r what.BadNumber c.at-in_default.result
+    c.args.at c.at-in_default.ensures at (rw (room, some, apart, ← none) refl)
 
 pub returns-in_err-add-clause-fault : goal.returns-in_err-add-clause-fault
 returns-in_err-add-clause-fault c =

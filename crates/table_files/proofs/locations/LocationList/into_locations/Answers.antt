@@ -3,4 +3,10 @@ use Rattle.table_files.proofs.locations.LocationList.into_locations.Goals as goa
 pub returns : goal.returns
 returns c =
     let children = rw c.deref.ensures.value at c.in_ok-children.ensures in
-    λ k. record { names = c.args.self.names; stops = c.args.self.stops; stations = c.args.self.stations; locations = c.args.self.locations.items; children = children k }
+    λ k. record {
+      names = c.args.self.names;
+      stops = c.args.self.stops;
+      stations = c.args.self.stations;
+      locations = c.args.self.locations.items;
+      children = children k;
+    }

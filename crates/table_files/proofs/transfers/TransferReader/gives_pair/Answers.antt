@@ -9,4 +9,6 @@ returns c =
     let children = c.args.self.now.locations.now.children in
     let from = c.as_slice.ensures ∙ c.stops_at-from.ensures in
     let to = c.as_slice-2.ensures ∙ c.stops_at-to.ensures in
-    c.have_pair.ensures ∙ (λ k. have_pair (from k) (to k)) ∙ sym (first_pair (stops_at c.args.link.origin children) (stops_at c.args.link.target children) c.args.link.seconds)
+    c.have_pair.ensures ∙ (λ k. have_pair (from k) (to k))
+    ∙ sym (first_pair (stops_at c.args.link.origin children) (stops_at c.args.link.target children)
+    c.args.link.seconds)

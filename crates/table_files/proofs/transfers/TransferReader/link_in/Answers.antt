@@ -25,7 +25,8 @@ returns-then-not-is_used-clause-good c =
     let locations = c.args.self.now.locations.now in
     let names = locations.names in
     let kind : Some c.in-Some.kind ≡ kind_of r.kind = rw (c.trim.ensures, c.field.ensures) at c.in-Some.ensures in
-    let used : is_used r ≡ false = used_by locations names c.args.at r c.in-Some.kind kind ∙ sym c.is_used.ensures ∙ c.if-not-is_used.true in
+    let used : is_used r ≡ false = used_by locations names c.args.at r c.in-Some.kind kind ∙ sym c.is_used.ensures
+    ∙ c.if-not-is_used.true in
     skips locations names c.args.at r c.in-Some.kind kind used
 
 pub link-requires : goal.link-requires
@@ -41,10 +42,12 @@ returns-in_err-link-clause-fault c =
     let locations = c.args.self.now.locations.now in
     let names = locations.names in
     let kind : Some c.in-Some.kind ≡ kind_of r.kind = rw (c.trim.ensures, c.field.ensures) at c.in-Some.ensures in
-    let used : is_used r ≡ true = used_by locations names c.args.at r c.in-Some.kind kind ∙ sym c.is_used.ensures ∙ c.if-not-is_used.false in
+    let used : is_used r ≡ true = used_by locations names c.args.at r c.in-Some.kind kind ∙ sym c.is_used.ensures
+    ∙ c.if-not-is_used.false in
     let (e, is, same) = err_from_is_err_and c.from_residual.result c.from_residual.ensures.1 in
     rw (is, same)
-    (subst (λ (l : List What). IsFirst c.in_err-link.field-0.0 (map (λ (w : What). record { file = file.Transfers; at = c.args.at; what = w }) l))
+    (subst (λ (l : List What). IsFirst c.in_err-link.field-0.0
+    (map (λ (w : What). record { file = file.Transfers; at = c.args.at; what = w }) l))
     (sym (checks_used locations names c.args.at r c.in-Some.kind kind used)) c.in_err-link.ensures.fault)
 
 pub returns-then-not-gives_any-clause-good : goal.returns-then-not-gives_any-clause-good
@@ -53,9 +56,11 @@ returns-then-not-gives_any-clause-good c =
     let locations = c.args.self.now.locations.now in
     let names = locations.names in
     let kind : Some c.in-Some.kind ≡ kind_of r.kind = rw (c.trim.ensures, c.field.ensures) at c.in-Some.ensures in
-    let used : is_used r ≡ true = used_by locations names c.args.at r c.in-Some.kind kind ∙ sym c.is_used.ensures ∙ c.if-not-is_used.false in
+    let used : is_used r ≡ true = used_by locations names c.args.at r c.in-Some.kind kind ∙ sym c.is_used.ensures
+    ∙ c.if-not-is_used.false in
     let (none, is) = c.in_ok-link.ensures.good in
-    gives locations names c.args.at r c.in-Some.kind kind used c.in_ok-link.link false none is (sym c.if-not-gives_any.true ∙ c.gives_any.ensures)
+    gives locations names c.args.at r c.in-Some.kind kind used c.in_ok-link.link false none is
+    (sym c.if-not-gives_any.true ∙ c.gives_any.ensures)
 
 pub returns-clause-good : goal.returns-clause-good
 returns-clause-good c =
@@ -63,6 +68,8 @@ returns-clause-good c =
     let locations = c.args.self.now.locations.now in
     let names = locations.names in
     let kind : Some c.in-Some.kind ≡ kind_of r.kind = rw (c.trim.ensures, c.field.ensures) at c.in-Some.ensures in
-    let used : is_used r ≡ true = used_by locations names c.args.at r c.in-Some.kind kind ∙ sym c.is_used.ensures ∙ c.if-not-is_used.false in
+    let used : is_used r ≡ true = used_by locations names c.args.at r c.in-Some.kind kind ∙ sym c.is_used.ensures
+    ∙ c.if-not-is_used.false in
     let (none, is) = c.in_ok-link.ensures.good in
-    gives locations names c.args.at r c.in-Some.kind kind used c.in_ok-link.link true none is (sym c.if-not-gives_any.false ∙ c.gives_any.ensures)
+    gives locations names c.args.at r c.in-Some.kind kind used c.in_ok-link.link true none is
+    (sym c.if-not-gives_any.false ∙ c.gives_any.ensures)

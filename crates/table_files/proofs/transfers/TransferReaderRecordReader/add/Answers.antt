@@ -13,5 +13,8 @@ returns-in_err-link-clause-fault c =
 pub returns-clause-good : goal.returns-clause-good
 returns-clause-good c start before at are =
     let r : TransferRow = row_at c.args.self.now.columns (fields_of c.args.row.now) in
-    let (none, is) = c.in_ok-link.ensures.good in
-    (none, transfers_more c.args.self.now.locations.now c.args.table.now _ before r c.args.at c.in_ok-link.link at is c.in_ok-take.ensures are)
+    let (none, is) = c.in_ok-link.ensures.good in (
+      none,
+      transfers_more c.args.self.now.locations.now c.args.table.now _ before r c.args.at c.in_ok-link.link at is
+          c.in_ok-take.ensures are,
+    )

@@ -9,5 +9,6 @@ returns-then-number-ids c here =
     let text = c.index-ids-number.result in
     let at = rw c.as_slice-ids.ensures.keys at c.index-ids-number.is in
     let within = rw c.as_slice-ids.ensures.keys at c.if-number-ids.true in
-    rw (← c.self.view_is) (position_here (λ v. v.items) keys c.args.number text id c.as_slice-ids.ensures.unique within at
+    rw (← c.self.view_is) (position_here (λ v. v.items) keys c.args.number text id c.as_slice-ids.ensures.unique within
+    at
     (same_bytes text.items id (sym c.as_slice.ensures.value ∙ c.are_equal.ensures here)))

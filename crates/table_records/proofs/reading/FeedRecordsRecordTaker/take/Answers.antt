@@ -14,8 +14,10 @@ returns-clause-good g c =
     (λ done add start before at makes.
     let here = at ∙ ap (λ n. n + 2) (sym (length-map before row)) in
     let next = add start (map row before) here makes.1 in
-    rw (map-append row before (fields ∷ []))
-    (faults_pass g.R.RecordReader.file (g.R.RecordReader.checks reader) (map row before) (row fields) makes.0 next.0, next.1))
+    rw (map-append row before (fields ∷ [])) (
+      faults_pass g.R.RecordReader.file (g.R.RecordReader.checks reader) (map row before) (row fields) makes.0 next.0,
+      next.1,
+    ))
     c.add.ensures.good
 
 pub returns-clause-fault : goal.returns-clause-fault
@@ -28,5 +30,6 @@ returns-clause-fault g c =
     let here = at ∙ ap (λ n. n + 2) (sym (length-map before row)) in
     let told = add start (map row before) here makes.1 in
     rw (map-append row before (fields ∷ after))
-    (faults_told g.R.RecordReader.file (g.R.RecordReader.checks reader) e (map row before) (map row after) (row fields) makes.0 told))
+    (faults_told g.R.RecordReader.file (g.R.RecordReader.checks reader) e (map row before) (map row after) (row fields)
+    makes.0 told))
     c.add.ensures.fault

@@ -19,11 +19,13 @@ invariant_of-self-2 c more =
       flexible = c.in-Ok.ensures.flexible ∙ plain.flexible;
       config = read.2 ∙ plain.config;
       ready = inl (c.in-Ok.ensures.ready plain.trims);
-      between = (read_step c.self.inside.reader c.read_byte_record.new.self c.in-Ok.found (fields_of c.read_byte_record.new.row) plain read).1 found;
+      between = (read_step c.self.inside.reader c.read_byte_record.new.self c.in-Ok.found
+          (fields_of c.read_byte_record.new.row) plain read).1 found;
     }
 
 pub returns : goal.returns
 returns c =
     let plain = c.self.invariant c.if-self.false in
     let read = c.in-Ok.ensures.reads plain.trims plain.ready in
-    rw (← c.self.view_is, c.if-self.false) (read_step c.self.inside.reader c.read_byte_record.new.self c.in-Ok.found (fields_of c.read_byte_record.new.row) plain read).0
+    rw (← c.self.view_is, c.if-self.false) (read_step c.self.inside.reader c.read_byte_record.new.self c.in-Ok.found
+    (fields_of c.read_byte_record.new.row) plain read).0

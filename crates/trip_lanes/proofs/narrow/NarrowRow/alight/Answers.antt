@@ -4,7 +4,9 @@ use Rattle.trip_lanes.proofs.narrow.NarrowRow.alight.Goals as goal
 use mir.Syntax.{w16}
 
 pub returns-clause-rides : goal.returns-clause-rides
-returns-clause-rides c l h same = marked_at w16 32 c.args.run c.args.rank c.args.arrive c.args.self l h (omega arith) (omega arith) same
+returns-clause-rides c l h same = marked_at w16 32 c.args.run c.args.rank c.args.arrive c.args.self l h (omega arith)
+    (omega arith) same
 
 pub returns-clause-others : goal.returns-clause-others
-returns-clause-others c l h other = kept_at w16 32 c.args.run c.args.rank c.args.arrive c.args.self l h (omega arith) (omega arith) other
+returns-clause-others c l h other = kept_at w16 32 c.args.run c.args.rank c.args.arrive c.args.self l h (omega arith)
+    (omega arith) other

@@ -1,4 +1,5 @@
-use Rattle.std.proofs.Common.{◌≡◌, ◌+◌, ◌*◌, ◌-◌, ◌%◌, ◌^◌, ◌<◌, ℕ, eqb, length, get_or, replicate, arith, refl, sym, ◌∙◌}
+use Rattle.std.proofs.Common.{◌≡◌, ◌+◌, ◌*◌, ◌-◌, ◌%◌, ◌^◌, ◌<◌, ℕ, eqb, length, get_or, replicate, arith, refl, sym}
+use Rattle.std.proofs.Common.{◌∙◌}
 use Rattle.std.proofs.lemmas.Simd.{get_or-replicate, get_or-zip2, length-zip2}
 use Rattle.timetable.specs.declared.least.TheConstants.{NEVER}
 use Rattle.trip_lanes.proofs.Choosing.{since_of}
@@ -18,9 +19,19 @@ returns c l h =
     let times_len : length times ≡ 16 = omega arith in
     let departs_len : length departs ≡ 16 = omega arith in
     let less : ℕ → ℕ → ℕ = λ a b. (a + (2 ^ 32 - b)) % 2 ^ 32 in
-    let counted_len : length (zip2 less times departs) ≡ 16 = length-zip2 less times departs (times_len ∙ sym departs_len) ∙ times_len in
+    let counted_len : length (zip2 less times departs) ≡ 16 =
+    length-zip2 less times departs (times_len ∙ sym departs_len) ∙ times_len in
     let fits = c.requires.fits (16 * c.args.part + l) inside in
-    rw (sym time, sym depart) (since_of 65535 (2 ^ 32) (get_or departs l 0) (get_or times l 0) NEVER _ (omega (arith, fits, time)) (λ _. refl)
+    rw (sym time, sym depart) (since_of 65535 (2 ^ 32) (get_or departs l 0) (get_or times l 0) NEVER _ (omega (
+      arith,
+      fits,
+      time,
+    )) (λ _. refl)
     (λ live. rw (time, depart) (c.requires.later (16 * c.args.part + l) inside (λ e. live (time ∙ e))))
-    (sel_at w32 16 eqb times (replicate 16 65535) (replicate 16 NEVER) (zip2 less times departs) l lt times_len refl refl counted_len
-    ∙ rw (get_or-replicate {A = ℕ} 16 l 65535 0 lt, get_or-replicate {A = ℕ} 16 l NEVER 0 lt, get_or-zip2 less times departs l 0 0 0 (omega arith) (omega arith)) refl))
+    (sel_at w32 16 eqb times (replicate 16 65535) (replicate 16 NEVER) (zip2 less times departs) l lt times_len refl
+    refl counted_len
+    ∙ rw (
+      get_or-replicate {A = ℕ} 16 l 65535 0 lt,
+      get_or-replicate {A = ℕ} 16 l NEVER 0 lt,
+      get_or-zip2 less times departs l 0 0 0 (omega arith) (omega arith),
+    ) refl))

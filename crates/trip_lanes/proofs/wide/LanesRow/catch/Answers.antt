@@ -4,7 +4,9 @@ use Rattle.trip_lanes.proofs.wide.LanesRow.catch.Goals as goal
 use mir.Syntax.{w32}
 
 pub returns-clause-caught : goal.returns-clause-caught
-returns-clause-caught c l h soon = caught_at w32 16 c.args.self c.args.depart c.args.rank 4294967295 l h (omega arith) soon
+returns-clause-caught c l h soon = caught_at w32 16 c.args.self c.args.depart c.args.rank 4294967295 l h (omega arith)
+    soon
 
 pub returns-clause-others : goal.returns-clause-others
-returns-clause-others c l h late = missed_at w32 16 c.args.self c.args.depart c.args.rank 4294967295 l h (omega arith) late
+returns-clause-others c l h late = missed_at w32 16 c.args.self c.args.depart c.args.rank 4294967295 l h (omega arith)
+    late

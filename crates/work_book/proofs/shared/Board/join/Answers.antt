@@ -11,4 +11,5 @@ pub load-requires : goal.load-requires
 load-requires c = (search rules, search rules, shows _ _ _ _)
 
 pub returns-clause-once : goal.returns-clause-once
-returns-clause-once c = let told = c.load.ensures.2 in subst IsOnce (sym told.1) (record { drawn = told.2.drawn; kept = told.2.kept })
+returns-clause-once c = let told = c.load.ensures.2 in
+    subst IsOnce (sym told.1) (record { drawn = told.2.drawn; kept = told.2.kept })

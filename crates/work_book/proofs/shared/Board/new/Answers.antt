@@ -10,4 +10,6 @@ use Rattle.work_book.proofs.shared.Board.new.Goals as goal
 pub of_words-requires : goal.of_words-requires
 of_words-requires c =
     let k : Extent = record { jobs = c.args.jobs; tries = c.args.tries } in
-    subst (λ (words : List ℕ). IsKept k (opening words [] (first_view (limit_of k)))) (sym (c.as_slice.ensures.value ∙ c.in_ok-words.ensures)) (opens k (few_numbers k c.requires.jobs c.requires.tries.1))
+    subst (λ (words : List ℕ). IsKept k (opening words [] (first_view (limit_of k))))
+    (sym (c.as_slice.ensures.value ∙ c.in_ok-words.ensures))
+    (opens k (few_numbers k c.requires.jobs c.requires.tries.1))

@@ -1,0 +1,39 @@
+use Rattle.std.proofs.Common.{◌≡◌, ◌≤◌, inl, inr, List, slice_get, slice_index, sym, ◌∙◌, ap, subst, arith}
+use Rattle.std.proofs.lemmas.Bool.{cases_lt}
+use Rattle.std.proofs.lemmas.Option.{slice_get_within}
+use Rattle.timetable.specs.declared.trips.Event.{Event}
+use Rattle.timetable.specs.declared.trips.Trip.{Trip}
+use Rattle.timetable.specs.Trips.{EventsRise}
+use Rattle.timetable.proofs.Rows.{is_at}
+use Rattle.timetable.proofs.last_arrivals.note_rides.Goals as goal
+
+pub note_arrivals-requires-clause-rise : goal.note_arrivals-requires-clause-rise
+note_arrivals-requires-clause-rise c =
+    let here = c.requires.rise c.loop-trip.trip-index c.trip-item.result c.loop-trip-test.true in
+    rw c.as_slice.ensures (subst (λ (t : Trip). EventsRise t.events) (sym c.trip-item.is) here)
+
+pub loop-trip-preserved : goal.loop-trip-preserved
+loop-trip-preserved c =
+    let before = c.loop-trip.invariant in
+    let told = c.note_arrivals.ensures in
+    let i = c.loop-trip.trip-index in
+    record {
+      here = λ x k t e l at at_k may. elim (cases_lt x i) [
+        | inl lt ↦ let low = before.here x k t e lt at at_k may in let up = told.rises e.stop.0 in omega arith
+        | inr ge ↦
+            let s : x ≡ i = omega arith in
+            let same : t ≡ c.trip-item.result =
+            is_at c.args.trips.now x i t c.trip-item.result c.loop-trip-test.true s at ∙ sym c.trip-item.is in
+            let events : c.as_slice.result.now ≡ t.events = c.as_slice.ensures ∙ ap (λ (u : Trip). u.events) (sym same) in
+            told.here k e (ap (λ (v : List Event). slice_get v k) events ∙ at_k) may
+      ];
+      early = told.early;
+    }
+
+pub returns-clause-last : goal.returns-clause-last
+returns-clause-last c p time a =
+    let within = slice_get_within c.args.trips.now a.trip a.t a.runs in
+    let low : a.off.arrive ≤ slice_index c.loop-trip.ridden a.off.stop.0 =
+    c.loop-trip.invariant.here a.trip a.i a.t a.off (omega (arith, c.loop-trip-test.false)) a.runs a.ride.to a.ride.may_alight in
+    let here : a.off.arrive ≤ slice_index c.loop-trip.ridden p = rw a.stop at low in
+    omega (arith, here, a.time_is)
