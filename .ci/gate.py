@@ -6,8 +6,8 @@ beside the proofs of all others; `--all` proves these crates too. What else need
 proofs, too, on processors that these leave idle.
 
 `rt ci` gives a crate a second processor only where no other waits for one. So the program whose proof takes longest at
-the end, and which one script alone needs, has a run of its own, which begins as soon as all that it stands on is proved
-and takes that over.
+the end, and which one script alone needs, has a run of its own, which begins when all but one that it stands on are
+proved, and takes these over.
 
 A crate's edits are tried where something that their refusal rests on changed since they were last refused: a file of
 the crate, a definition or contract of a crate below it, or the toolchain. Two more crates are tried each time, drawn by
@@ -220,7 +220,9 @@ def prove_alone(room: Path, name: str) -> Count:
 
 
 class Apart:
-    """The run of one crate alone, which begins once all that it stands on is proved."""
+    """The run of one crate alone. It begins when all but one that the crate stands on are proved, since it takes a
+    while until its first proof, and waits for the last.
+    """
 
     def __init__(self, pool: ThreadPoolExecutor, room: Path, name: str) -> None:
         self.pool, self.room, self.name = pool, room, name
@@ -231,7 +233,7 @@ class Apart:
         found = PROVED.fullmatch(line)
         if found and found[1] in self.left:
             self.left.remove(found[1])
-            if not self.left:
+            if len(self.left) < 2:
                 self.begin()
 
     def begin(self) -> Future[Count]:

@@ -334,10 +334,10 @@ class Apart(WithStandIn):
         self.assertIn("rt ci sees last lower upper and lists lower upper last ", said)
         self.assertIn("rt ci sees lower one two upper and lists lower upper one two ", said)
 
-    def test_it_begins_when_all_below_it_is_proved_and_not_before(self) -> None:
-        """The stand-in's run of all ends only once that of `last` has begun, and that begins after `upper` is told."""
+    def test_it_begins_when_all_below_it_but_one_are_proved_and_not_before(self) -> None:
+        """The stand-in's run of all ends only once that of `last` has begun, and that begins after `lower` is told."""
         alone = '[ -e crates/last ] && echo last >> "$RT_LOG" && touch "$RT_LOG.begun"'
-        told = 'echo "rt: lower proved"; sleep 0.3; echo all >> "$RT_LOG"; echo "rt: upper is kept: as it was"'
+        told = 'echo "rt: one proved"; sleep 0.3; echo all >> "$RT_LOG"; echo "rt: lower is kept: as it was"'
         waits = 'for _ in $(seq 200); do [ -e "$RT_LOG.begun" ] || sleep 0.05; done; [ -e "$RT_LOG.begun" ] || exit 1'
         self.stand_in(STAND_IN.replace("ci)\n", f"ci)\n    {alone} || {{ {told}; {waits}; }}\n"))
         status, said, _ = self.repository.gate()

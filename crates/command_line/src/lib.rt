@@ -1,7 +1,8 @@
 //! The command line of a study: what its arguments ask for, the bytes of a file that they name, and the lines that tell
 //! a fault.
 //!
-//! - `options`: the command that takes the arguments. `version`: what it tells of its version.
+//! - `options`: the command that takes the arguments. `version`: what it tells of its version. `task`: [`Task`] and its
+//!   kin. `option_text`: the text of an option.
 //! - `words`: [`task_of`] reads the arguments into a [`Task`], or tells why they ask for no study ([`WordFault`]);
 //!   [`text_of`] is the text that they give one option. `window`: [`window_of`], the departures that two times name.
 //!   `numbers`: [`numbers_of`], the numbers that a text lists.

@@ -6,7 +6,8 @@
 //! starts there alone.
 //! (RAPTOR, its marked stops and its routes: Delling, Pajor, Werneck, ALENEX 2012.)
 //!
-//! - `rows`: [`Row`], over which a search is written once. `wide`, `narrow`: what each width does in each lane.
+//! - `rows`: [`Row`], over which a search is written once. `lanes`: [`LANES`], why sixteen. `wide`, `narrow`: what each
+//!   width does in each lane.
 //! - `kernels`: [`lower_row`], labels of one stop; [`carry_trip`], one trip as it stands.
 //! - `line_scan`: [`scan_line`], all trips of a line in one pass over its positions.
 //! - `columns`: when the trips of a line arrive at one of its positions, and depart. `ranks`: which of
