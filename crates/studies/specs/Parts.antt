@@ -51,8 +51,8 @@ destination_faults i feed = origins_faults i.destinations feed
 
 -- the faults of the analyst's own tables: those of footpaths, of origins, and of opportunities
 abbrev pub own_faults : InputFiles → FeedData → List FeedFault
-own_faults i feed = direct_faults feed i.footpaths ++ (origins_faults i.origins feed ++ opportunities_faults
-    i.opportunities feed)
+own_faults i feed =
+    direct_faults feed i.footpaths ++ (origins_faults i.origins feed ++ opportunities_faults i.opportunities feed)
 
 -- the faults of all files but that of destinations and the scenarios: the feed's, and then those of the analyst's own
 -- tables
@@ -62,10 +62,8 @@ table_faults i = feed_faults i.feed ++ own_faults i (feed_in i)
 -- the faults of scenario files, each with the file's number, of which the first has this one
 abbrev pub edit_faults : FeedData → ℕ → List NamedBytes → List (ℕ × ScenarioFault)
 edit_faults feed number [] = []
-edit_faults feed number (f ∷ files) = map (λ e. (
-  number,
-  e,
-)) (scenario_faults f.bytes feed) ++ edit_faults feed (number + 1) files
+edit_faults feed number (f ∷ files) =
+    map (λ e. (number, e)) (scenario_faults f.bytes feed) ++ edit_faults feed (number + 1) files
 
 -- the scenario without edits
 abbrev pub base_scenario : ScenarioData

@@ -78,10 +78,8 @@ Refuses (fault.Scenario k e) i s = AreRead i × IsFirst (k, e) (edit_faults (fee
 Refuses (fault.Days e) i s = AreEdited i × IsFirst e (day_faults i s)
 Refuses (fault.Feet e) i s = AreDated i s × (e ≡ foot.TooMany) × HasTooMany (direct_in i).pairs s.walk
 Refuses (fault.Net k e) i s =
-    (feet : FeetData) × AreWalked i s feet × IsFirst (
-      k,
-      e,
-    ) (network_faults (feed_in i) (runs_in i s) 0 (scenarios_in i))
+    (feet : FeetData) × AreWalked i s feet
+    × IsFirst (k, e) (network_faults (feed_in i) (runs_in i s) 0 (scenarios_in i))
 Refuses (fault.Run e) i s = ⊥
 Refuses (fault.Text e) i s = ⊥
 Refuses fault.Memory i s = ⊥
