@@ -18,7 +18,7 @@ use Rattle.clap.specs.declared.builder.command.Command.{Command}
 use Rattle.clap.specs.declared.parser.matches.ArgMatches.{ArgMatches}
 use Rattle.command_line.specs.Words.{needed}
 
--- only the rule at a place has this id
+-- only the rule at a position has this id
 abbrev pub is_only : Text → List Rule → ℕ → Bool
 is_only id [] k = true
 is_only id (r ∷ rs) zero = not (list_any (λ x. bytes_eq x.id id) rs)
@@ -32,7 +32,7 @@ is_alone r = r.is_simple && r.is_free
 abbrev pub is_own : Text → Bool
 is_own id = not (bytes_eq id []) && (not (bytes_eq id (codes "help")) && not (bytes_eq id (codes "version")))
 
--- what is asked of the rules and of the id at a place
+-- what is asked of the rules and of the id at a position
 abbrev pub is_fit : App → Text → ℕ → Bool
 is_fit a id k =
     a.top.is_plain && (not a.top.subcommand_negates_reqs &&
@@ -94,12 +94,12 @@ plain_args (x ∷ xs) e (suc k) d lt = plain_args xs (both _ _ e).1 k d (omega a
 one_value : 1 ≤ (unwrap_or_range None).start_inclusive
 one_value = omega arith
 
--- the argument that the rule at a place is of
-place : (xs : List Arg) (k : ℕ) (r : Rule) → slice_get (map rule_of xs) k ≡ Some r
+-- the argument that the rule at a position is of
+position : (xs : List Arg) (k : ℕ) (r : Rule) → slice_get (map rule_of xs) k ≡ Some r
     → (d : Arg) × (k < length xs) × (rule_of (slice_index_or xs k d) ≡ r)
-place [] k r e = let bad : None ≡ Some r = e in cc
-place (x ∷ xs) zero r e = (x, omega arith, ap (λ o. unwrap_or o r) e)
-place (x ∷ xs) (suc k) r e = let p = place xs k r e in (p.0, omega arith, p.2)
+position [] k r e = let bad : None ≡ Some r = e in cc
+position (x ∷ xs) zero r e = (x, omega arith, ap (λ o. unwrap_or o r) e)
+position (x ∷ xs) (suc k) r e = let p = position xs k r e in (p.0, omega arith, p.2)
 
 pub required_text : (c : Command) (m : ArgMatches) (a : App) (id : Text) (k : ℕ) → IsParsedFrom c m → app_of c ≡ a
     → slice_get a.top.rules k ≡ Some (needed id) → is_fit a id k ≡ true
@@ -107,7 +107,7 @@ pub required_text : (c : Command) (m : ArgMatches) (a : App) (id : Text) (k : �
 required_text c m a id k parsed app_is there fit =
     let xs = args_of c in
     let rules : map rule_of xs ≡ a.top.rules = ap (λ (b : App). b.top.rules) app_is in
-    let found = place xs k (needed id) (ap (λ rs. slice_get rs k) rules ∙ there) in
+    let found = position xs k (needed id) (ap (λ rs. slice_get rs k) rules ∙ there) in
     let d = found.0 in
     let arg = slice_index_or xs k d in
     let is : rule_of arg ≡ needed id = found.2 in

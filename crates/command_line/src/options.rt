@@ -63,7 +63,8 @@ const OPTIONS: &[OptionText] = &[
     OptionText {
         name: "within",
         value: "S",
-        help: "Travel time in seconds within which a stop counts for access, 0 to 4294967295; 1 to 8 limits, ascending, as 900,1800",
+        help: "Travel time in seconds within which a stop counts for access, 0 to 4294967295; \
+            1 to 8 limits, ascending, as 900,1800",
         is_needed: true,
     },
     OptionText {

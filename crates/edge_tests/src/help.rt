@@ -7,7 +7,8 @@ use std::test::Fail;
 /// The whole help.
 const HELP: &str = "Travel time matrices over a GTFS feed, for a base network and for scenarios.
 
-Usage: ttm [OPTIONS] --feed <DIR> --date <YYYYMMDD> --from <HH:MM> --to <HH:MM> --trips <K> --walk <S> --share <P> --within <S> --workers <N> --tries <N> [SCENARIO]...
+Usage: ttm [OPTIONS] --feed <DIR> --date <YYYYMMDD> --from <HH:MM> --to <HH:MM> --trips <K> --walk <S> \
+    --share <P> --within <S> --workers <N> --tries <N> [SCENARIO]...
 
 Arguments:
   [SCENARIO]...  Scenario files, at most 15; each is named by its file name without .csv
@@ -19,11 +20,14 @@ Options:
       --to <HH:MM>         Last minute of departure, 00:00 to 23:59, not before --from
       --trips <K>          Most rides of a journey, 1 to 8
       --walk <S>           Longest walk in seconds, 0 to 7200
-      --share <P>          Share of the minutes in percent that a travel time covers, 1 to 100; 1 to 8 shares, ascending, as 25,50
-      --within <S>         Travel time in seconds within which a stop counts for access, 0 to 4294967295; 1 to 8 limits, ascending, as 900,1800
+      --share <P>          Share of the minutes in percent that a travel time covers, 1 to 100; \
+    1 to 8 shares, ascending, as 25,50
+      --within <S>         Travel time in seconds within which a stop counts for access, 0 to 4294967295; \
+    1 to 8 limits, ascending, as 900,1800
       --workers <N>        Number of threads, 1 to 64
       --tries <N>          How often each row may be begun, 1 to 8
-      --back <N>           Service days before the date that count, 0 to 6; 0 where the network is too large [default: 1]
+      --back <N>           Service days before the date that count, 0 to 6; 0 where the network is too large \
+    [default: 1]
       --ahead <N>          Service days after the date that count, 0 to 6; 0 where the network is too large [default: 1]
       --origins <F>        File of the stops where journeys begin [default: all stops]
       --opportunities <F>  File of the opportunities at stops [default: 1 at each]
@@ -33,7 +37,8 @@ Options:
   -h, --help               Print help
   -V, --version            Print version
 
-Example: ttm --feed town --date 20260504 --from 08:00 --to 08:59 --trips 3 --walk 600 --share 50 --within 1800 --workers 4 --tries 2 cut.csv
+Example: ttm --feed town --date 20260504 --from 08:00 --to 08:59 --trips 3 --walk 600 --share 50 \
+    --within 1800 --workers 4 --tries 2 cut.csv
 ";
 
 /// The whole text of the version.

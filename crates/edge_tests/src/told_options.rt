@@ -27,8 +27,14 @@ fn is_told<R: Wait>(
 }
 
 /// Whether this is told with a report where the study's arguments have one in place of another.
-fn is_changed_told<R: Wait>(rt: &R, alloc: Global, place: usize, word: &str, text: &str) -> bool {
-    is_told(rt, alloc, changed(alloc, place, word, "--report"), text)
+fn is_changed_told<R: Wait>(
+    rt: &R,
+    alloc: Global,
+    position: usize,
+    word: &str,
+    text: &str,
+) -> bool {
+    is_told(rt, alloc, changed(alloc, position, word, "--report"), text)
 }
 
 /// The position of an option's text among the words, a text that is refused, and what is told of it.
@@ -86,7 +92,8 @@ const REFUSED: [(usize, &str, &str); 16] = [
     (
         16,
         "900, 1800",
-        "ttm: --within is \"900, 1800\"; a list is numbers parted by commas, with no space; each is digits alone, 0 to 4294967295\n",
+        "ttm: --within is \"900, 1800\"; a list is numbers parted by commas, with no space; \
+            each is digits alone, 0 to 4294967295\n",
     ),
     (
         16,
@@ -111,14 +118,15 @@ const REFUSED: [(usize, &str, &str); 16] = [
     (
         20,
         "a text of more than sixty bytes is shown as far as the sixtieth",
-        "ttm: --tries is \"a text of more than sixty bytes is shown as far as the sixti..\"; tries are a whole number, 1 to 8\n",
+        "ttm: --tries is \"a text of more than sixty bytes is shown as far as the sixti..\"; \
+            tries are a whole number, 1 to 8\n",
     ),
 ];
 
 #[test]
 fn texts_of_options_are_explained(rt: HostRuntime) {
-    for (place, word, text) in &REFUSED {
-        assert!(rt; is_changed_told(&rt, rt.alloc(), *place, word, text));
+    for (position, word, text) in &REFUSED {
+        assert!(rt; is_changed_told(&rt, rt.alloc(), *position, word, text));
     }
 }
 

@@ -120,7 +120,8 @@ ttm: direct footpaths: 0
 ttm: origins: 1
 ttm: destinations: 3
 ttm: closed footpaths: 0
-ttm: warning: no walk leads anywhere, so changes are at one stop alone; ttm-tools walks makes a file for --footpaths, and --walk says how long a walk may be
+ttm: warning: no walk leads anywhere, so changes are at one stop alone; \
+    ttm-tools walks makes a file for --footpaths, and --walk says how long a walk may be
 ttm: runs on 2026-05-05: 0
 ttm: warning: no trip runs on the date itself; is it a date of the feed's calendar?
 ttm: dates of the calendars: 2026-05-04 to 2026-05-31
@@ -131,7 +132,8 @@ ttm: rows: 1
 ttm: cells: 3
 ttm: bytes of the matrix and its text, about: 56
 ttm: bytes that the machine has free: 41
-ttm: warning: the machine may not have memory for the matrix; ttm-tools split makes parts of the origins, and ttm-tools join joins their matrices
+ttm: warning: the machine may not have memory for the matrix; \
+    ttm-tools split makes parts of the origins, and ttm-tools join joins their matrices
 ttm: rows done: 1 of 1, 100 percent, about 0:00:00 left
 ttm: rows done: 1 of 1
 ttm: time: 0:03:03
@@ -328,7 +330,12 @@ fn lines_are_a_minute_apart(rt: HostRuntime) {
             rt.alloc(),
             later,
             false,
-            b"free: 1000\nttm: rows done: 1 of 1, 100 percent, about 0:00:00 left\nttm: rows done: 1 of 1\nttm: time: 0:03:00\nttm: bytes taken at most: 500\n"
+            b"free: 1000
+ttm: rows done: 1 of 1, 100 percent, about 0:00:00 left
+ttm: rows done: 1 of 1
+ttm: time: 0:03:00
+ttm: bytes taken at most: 500
+"
         )
     );
 }
@@ -369,7 +376,10 @@ fn a_shorter_line_covers_the_one_before(rt: HostRuntime) {
             alloc,
             12_000_000,
             b"free: 448
-ttm: rows done: 1 of 4, 25 percent, about 10:00:00 left\rttm: rows done: 2 of 4, 50 percent, about 6:40:00 left \rttm: rows done: 3 of 4, 75 percent, about 3:20:00 left\rttm: rows done: 4 of 4, 100 percent, about 0:00:00 left\r
+ttm: rows done: 1 of 4, 25 percent, about 10:00:00 left\r\
+    ttm: rows done: 2 of 4, 50 percent, about 6:40:00 left \r\
+    ttm: rows done: 3 of 4, 75 percent, about 3:20:00 left\r\
+    ttm: rows done: 4 of 4, 100 percent, about 0:00:00 left\r
 ttm: rows done: 4 of 4
 ttm: time: 20:00:00
 ttm: bytes taken at most: 500

@@ -40,13 +40,13 @@ struct Refusal {
 /// The arguments of the study with one in place of another, and one more.
 pub(crate) fn changed(
     alloc: Global,
-    place: usize,
+    position: usize,
     word: &str,
     more: &str,
 ) -> Result<Vec<String>, AllocError> {
     let mut words = Vec::new(alloc);
     for (k, kept) in STUDY.iter().enumerate() {
-        let chosen = if k == place { word } else { *kept };
+        let chosen = if k == position { word } else { *kept };
         words.push(String::from_str(alloc, chosen)?)?;
     }
     words.push(String::from_str(alloc, more)?)?;
@@ -78,8 +78,8 @@ fn asked(alloc: Global, words: Result<Vec<String>, AllocError>) -> Result<Settin
 }
 
 /// Why the changed arguments ask for no study.
-fn why_not(alloc: Global, place: usize, word: &str, more: &str) -> Option<Refusal> {
-    asked(alloc, changed(alloc, place, word, more)).err()
+fn why_not(alloc: Global, position: usize, word: &str, more: &str) -> Option<Refusal> {
+    asked(alloc, changed(alloc, position, word, more)).err()
 }
 
 /// The settings but the date and the lists: the days back and ahead, the window, what is asked of journeys, and of the
@@ -111,8 +111,8 @@ fn asks_for_a_study_of_one_minute(rt: HostRuntime) {
 }
 
 /// Whether the arguments, with one text in place of another, ask for these shares and limits.
-fn asks_for(alloc: Global, place: usize, text: &str, shares: &[u32], withins: &[u32]) -> bool {
-    match asked(alloc, changed(alloc, place, text, "cut.csv")) {
+fn asks_for(alloc: Global, position: usize, text: &str, shares: &[u32], withins: &[u32]) -> bool {
+    match asked(alloc, changed(alloc, position, text, "cut.csv")) {
         Ok(settings) => {
             settings.shares.as_slice() == shares && settings.withins.as_slice() == withins
         }
@@ -196,12 +196,12 @@ fn a_report_is_asked_for_by_a_flag_without_text(rt: HostRuntime) {
 }
 
 /// Whether the changed arguments are refused for this option.
-fn is_bad(alloc: Global, place: usize, word: &str, option: Opt) -> bool {
+fn is_bad(alloc: Global, position: usize, word: &str, option: Opt) -> bool {
     let want = Refusal {
         bad: Some(option),
         status: 2,
     };
-    why_not(alloc, place, word, "cut.csv") == Some(want)
+    why_not(alloc, position, word, "cut.csv") == Some(want)
 }
 
 #[test]
@@ -222,7 +222,7 @@ fn tells_the_option_whose_text_is_bad(rt: HostRuntime) {
         (20, "two", Opt::Tries),
         (0, "ttm", Opt::Back),
     ];
-    for (place, word, option) in &cases {
-        assert_eq!(rt; is_bad(rt.alloc(), *place, word, *option), *place > 0);
+    for (position, word, option) in &cases {
+        assert_eq!(rt; is_bad(rt.alloc(), *position, word, *option), *position > 0);
     }
 }

@@ -115,7 +115,7 @@ changes_all feed i changes past each are =
     ∙ ap (λ (l : List Link). change_of feed.children l p) (take_all i feed.links past)
     ∙ sym (get_or-map f (range_with_len 0 (length feed.stops)) p 0 0 (omega (arith, long, below)) ∙ ap f number))
 
--- the places of a list stay when an element is set
+-- the positions of a list stay when an element is set
 pub set_within : (now : List ℕ) (q time p : ℕ) → p < length (set now q time) → p < length now
 set_within now q time p within = let same = length-set now q time in omega (arith, same, within)
 

@@ -10,7 +10,7 @@ use Rattle.footpaths.specs.Chains.{Foot}
 use Rattle.footpaths.specs.Closure.{AllAscend, AreClosed, ClosuresAreUnique, TooManyHaveNoClosure}
 use Rattle.footpaths.proofs.Ascending.{At, no_longer, one_row, no_more}
 
--- a foot of a list is in the row at that place
+-- a foot of a list is in the row at that position
 at_row : (f : FootLists) (a : ℕ) (z : StopNo × ℕ) (row : List (StopNo × ℕ)) → slice_get f a ≡ Some row →
     IsFoot f a z.0.0 z.1 → At row z
 at_row f a z row e h =

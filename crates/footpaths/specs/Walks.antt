@@ -1,6 +1,6 @@
 -- The direct footpaths of a feed: those of the walks in transfers.txt, and then those of a file of footpaths, row by
 -- row.
--- Each end of a walk is a stop, or a station that stands for all its stops, or another place that stands for none.
+-- Each end of a walk is a stop, or a station that stands for all its stops, or another location that stands for none.
 -- (After the GTFS Schedule reference, transfers.txt: from_stop_id and to_stop_id may name stations.)
 use Rattle.std.specs.Prelude.{◌++◌, ℕ, Bool, List, [], ◌∷◌, Option, codes, is_none, length, nat_lt, position, unwrap_or}
 use Rattle.std.specs.Prelude.{if◌then◌else◌}

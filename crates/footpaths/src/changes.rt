@@ -48,7 +48,7 @@ fn raise(changes: &mut [u32], stops: &[StopNo], seconds: u32)
         slice_index changes.new p ≡ spec.longer (spec.has_stop p stops.now) (slice_index changes.old p) seconds }
 {
     for stop in stops {
-        let place = stop.0 as usize;
-        changes[place] = changes[place].max(seconds);
+        let position = stop.0 as usize;
+        changes[position] = changes[position].max(seconds);
     }
 }

@@ -22,7 +22,7 @@ use Rattle.gtfs_tables.specs.declared.trip.FeedTrip.{FeedTrip}
 abbrev pub trip_of : List ℕ → TripNumbers → List Event → List Departures → FeedTrip
 trip_of id n e d = record { route = n.route; service = n.service; id = id; events = e; departures = d }
 
--- the rest of a list from a place on
+-- the rest of a list from a position on
 pub drop_get : {X : Type 0} (xs : List X) (i : ℕ) (x : X) → Some x ≡ slice_get xs i → drop i xs ≡ x ∷ drop (suc i) xs
 drop_get [] i x h = cc h
 drop_get (y ∷ xs) zero x h = cc h

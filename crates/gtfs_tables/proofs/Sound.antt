@@ -14,7 +14,7 @@ use Rattle.table_files.specs.Calendar as calendar
 use Rattle.table_files.specs.CalendarDates as dates
 use Rattle.table_files.specs.FeedTrips as trips
 use Rattle.table_files.specs.Frequencies.{departures_at, frequency_faults, frequency_rows}
-use Rattle.table_files.specs.Children.{IsPlace}
+use Rattle.table_files.specs.Children.{IsLocation}
 use Rattle.table_files.specs.Locations.{AreLocations, LocationData}
 use Rattle.table_files.specs.Routes.{route_faults, route_ids}
 use Rattle.table_records.specs.Identifiers.{number_in}
@@ -221,7 +221,7 @@ module _ (f : FeedFiles) where
             (rows_in dates.date_rows f.calendar_dates) services_dates;
         few_aside = omega (arith, count, aside);
         as_many = locations.as_many;
-        locations = subst (λ (n : ℕ). All (IsPlace (length (files.stops_in f)) n) (files.locations_in f).locations)
+        locations = subst (λ (n : ℕ). All (IsLocation (length (files.stops_in f)) n) (files.locations_in f).locations)
             (sym locations.lists) locations.in_range;
         children = locations.children;
         links = links;

@@ -11,7 +11,7 @@ ghost use Rattle.gtfs_tables.specs.FeedParts.{data_of};
 use crate::catalog::Catalog;
 use crate::trip::FeedTrip;
 use std::marker::Model;
-use table_files::{CalendarRow, Ends, ExceptionRow, Link, Locations, Place, Transfers};
+use table_files::{CalendarRow, Ends, ExceptionRow, Link, Location, Locations, Transfers};
 use table_records::Identifiers;
 use timetable::StopNo;
 
@@ -211,13 +211,13 @@ impl Feed {
     }
 
     /// The location with an identifier, a record of `stops.txt`; none where no record has it.
-    pub fn place(&self, id: &[u8]) -> Option<Place>
+    pub fn location(&self, id: &[u8]) -> Option<Location>
         ensures named { result ≡ location_named self.now.names self.now.locations id.now }
         ensures unknown { is_none result ≡ is_none (position (bytes_eq id.now) self.now.names) }
-        ensures in_range { IfSome result (children_spec.IsPlace (length self.now.stops) (length self.now.children)) }
+        ensures in_range { IfSome result (children_spec.IsLocation (length self.now.stops) (length self.now.children)) }
     {
         self.locations.known();
-        self.locations.place(id)
+        self.locations.location(id)
     }
 
     /// The stops of a station, in file order.
@@ -230,12 +230,12 @@ impl Feed {
     }
 
     /// The stops that a location stands for: a stop for itself, a station for its stops, another for none.
-    pub fn stops_at(&self, place: Place) -> Ends<'_>
-        requires { children_spec.IsPlace (length self.now.stops) (length self.now.children) place }
-        ensures { ends_spec.stops_of result ≡ children_spec.stops_at place self.now.children }
+    pub fn stops_at(&self, location: Location) -> Ends<'_>
+        requires { children_spec.IsLocation (length self.now.stops) (length self.now.children) location }
+        ensures { ends_spec.stops_of result ≡ children_spec.stops_at location self.now.children }
     {
         self.locations.known();
-        self.locations.stops_at(place)
+        self.locations.stops_at(location)
     }
 
     /// The rows of `transfers.txt` that give a walk between two different stops, or a change time, in file order.

@@ -2,9 +2,9 @@
 //! (GTFS Schedule reference, the files from `stops.txt` to `transfers.txt`.)
 //!
 //! [`read_feed`] takes the files as [`FeedBytes`] and gives a [`Feed`]: stops, routes, services and trips by number,
-//! each trip a [`FeedTrip`] with its events, the rows of both calendars, the [`Place`]s of `stops.txt` with the stops
-//! of each station, and each walk of `transfers.txt` as a [`Link`] between two locations. A refusal is a [`FeedFault`]:
-//! which file, which record, and what is wrong with it.
+//! each trip a [`FeedTrip`] with its events, the rows of both calendars, the [`Location`]s of `stops.txt` with the
+//! stops of each station, and each walk of `transfers.txt` as a [`Link`] between two locations. A refusal is a
+//! [`FeedFault`]: which file, which record, and what is wrong with it.
 //!
 //! [`read_origins`] and [`read_opportunities`] read the two files of an analysis that name the feed's stops: where
 //! journeys begin, and how much there is to reach at each stop. Neither is part of GTFS, and each may be absent.
@@ -32,7 +32,7 @@ pub use opportunities::{opportunity_checks, read_opportunities};
 pub use origins::{origin_checks, read_origins};
 pub use read::read_feed;
 pub use table_files::{
-    CalendarRow, Departures, Ends, ExceptionRow, Link, Place, calendar_checks,
+    CalendarRow, Departures, Ends, ExceptionRow, Link, Location, calendar_checks,
     calendar_date_checks, feed_trip_checks, frequency_checks, location_checks, route_checks,
     transfer_checks,
 };

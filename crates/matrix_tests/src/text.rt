@@ -49,7 +49,9 @@ fn feed_of(alloc: Global, own: Files) -> Option<Box<Feed>> {
         stops: Some(own.stops),
         routes: Some(b"route_id\nR1\nR2\n"),
         calendar: Some(
-            b"service_id,monday,tuesday,wednesday,thursday,friday,saturday,sunday,start_date,end_date\nMON,1,0,0,0,0,0,0,20260504,20260531\n",
+            b"service_id,monday,tuesday,wednesday,thursday,friday,saturday,sunday,start_date,end_date
+MON,1,0,0,0,0,0,0,20260504,20260531
+",
         ),
         calendar_dates: None,
         trips: Some(b"route_id,service_id,trip_id\nR1,MON,T1\nR2,MON,T2\n"),

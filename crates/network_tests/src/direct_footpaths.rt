@@ -166,8 +166,12 @@ fn change_times_of_stops_and_stations(rt: HostRuntime) {
     assert!(rt; states(alloc, station, &[0, 60, 90, 5, 0]));
 
     // the longest time, and more than that
-    let long =
-        b"from_stop_id,to_stop_id,transfer_type,min_transfer_time\nA,A,2,16777216\nB,B,2,16777217\nE,E,2,4294967295\nC,C,2,16777215\n";
+    let long = b"from_stop_id,to_stop_id,transfer_type,min_transfer_time
+A,A,2,16777216
+B,B,2,16777217
+E,E,2,4294967295
+C,C,2,16777215
+";
     assert!(rt;
         states(
             alloc,

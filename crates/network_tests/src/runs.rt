@@ -8,8 +8,12 @@ use std::alloc::Global;
 
 const TRIPS: &[u8] = b"route_id,service_id,trip_id\nR1,MON,T1\nR2,MON,T2\n";
 
-const TIMES: &[u8] =
-    b"trip_id,arrival_time,departure_time,stop_id,stop_sequence\nT1,07:58:00,08:00:00,A,1\nT1,08:10:00,08:10:00,B,2\nT2,08:15:00,08:15:00,B,1\nT2,08:30:00,08:30:00,C,2\n";
+const TIMES: &[u8] = b"trip_id,arrival_time,departure_time,stop_id,stop_sequence
+T1,07:58:00,08:00:00,A,1
+T1,08:10:00,08:10:00,B,2
+T2,08:15:00,08:15:00,B,1
+T2,08:30:00,08:30:00,C,2
+";
 
 // Two trips on Mondays in May 2026, from 08:00 and from 08:15.
 fn mondays() -> FeedBytes<'static> {
@@ -144,10 +148,18 @@ fn runs_on_its_days(feed: &Feed) -> bool {
 fn services_run_on_their_days(rt: HostRuntime) {
     let files = FeedBytes {
         calendar: Some(
-            b"service_id,monday,tuesday,wednesday,thursday,friday,saturday,sunday,start_date,end_date\nMON,1,0,0,0,0,0,0,20260504,20260525\n",
+            b"service_id,monday,tuesday,wednesday,thursday,friday,saturday,sunday,start_date,end_date
+MON,1,0,0,0,0,0,0,20260504,20260525
+",
         ),
         calendar_dates: Some(
-            b"service_id,date,exception_type\nMON,20260511,2\nMON,20260518,1\nMON,20260518,2\nNEW,20260506,1\nNEW,20260507,2\n",
+            b"service_id,date,exception_type
+MON,20260511,2
+MON,20260518,1
+MON,20260518,2
+NEW,20260506,1
+NEW,20260507,2
+",
         ),
         ..mondays()
     };
@@ -221,7 +233,14 @@ fn a_study_sees_the_days_around_its_date(rt: HostRuntime) {
             b"route_id,service_id,trip_id\nR1,MON,T1\nR2,MON,T2\nR1,SUN,T0\nR1,SUN,empty\n",
         ),
         stop_times: Some(
-            b"trip_id,arrival_time,departure_time,stop_id,stop_sequence\nT0,24:05:00,24:05:00,A,1\nT0,24:20:00,24:20:00,B,2\nT1,08:00:00,08:00:00,A,1\nT1,08:10:00,08:10:00,B,2\nT2,08:15:00,08:15:00,B,1\nT2,08:30:00,08:30:00,C,2\n",
+            b"trip_id,arrival_time,departure_time,stop_id,stop_sequence
+T0,24:05:00,24:05:00,A,1
+T0,24:20:00,24:20:00,B,2
+T1,08:00:00,08:00:00,A,1
+T1,08:10:00,08:10:00,B,2
+T2,08:15:00,08:15:00,B,1
+T2,08:30:00,08:30:00,C,2
+",
         ),
         ..mondays()
     };
@@ -244,7 +263,13 @@ fn lists_departures(alloc: Global, feed: &Feed) -> bool {
 fn trips_with_headways_run_as_their_departures(rt: HostRuntime) {
     let files = FeedBytes {
         frequencies: Some(
-            b"trip_id,start_time,end_time,headway_secs\nT1,08:00:00,08:20:00,600\nT1,08:10:00,08:20:01,600\nT2,07:00:00,07:00:01,60\nT1,09:00:00,09:00:00,1\nT1,09:00:00,08:00:00,1\n",
+            b"trip_id,start_time,end_time,headway_secs
+T1,08:00:00,08:20:00,600
+T1,08:10:00,08:20:01,600
+T2,07:00:00,07:00:01,60
+T1,09:00:00,09:00:00,1
+T1,09:00:00,08:00:00,1
+",
         ),
         ..mondays()
     };

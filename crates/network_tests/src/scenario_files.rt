@@ -78,8 +78,13 @@ fn shift_over(alloc: Global, feed: &Feed, bytes: &[u8], trip: u32) -> Option<i64
     }
 }
 
-const SHIFTS: &[u8] =
-    b"seconds,id,action,id\n +300,T1,shift_trip,T2\n-0100 ,T1,shift_trip\n7,T2,shift_trip\nx,T0,remove_trip\n20,T1,shift_trip\n";
+const SHIFTS: &[u8] = b"seconds,id,action,id
+ +300,T1,shift_trip,T2
+-0100 ,T1,shift_trip
+7,T2,shift_trip
+x,T0,remove_trip
+20,T1,shift_trip
+";
 
 #[test]
 fn shifts_of_a_trip_add_up(rt: HostRuntime) {

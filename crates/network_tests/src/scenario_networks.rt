@@ -9,8 +9,14 @@ use timetable::{Event, Feet, NetFault, Network, StopNo, Trip};
 
 const TRIPS: &[u8] = b"route_id,service_id,trip_id\nR1,MON,T1\nR2,MON,T2\nR1,SUN,T0\n";
 
-const TIMES: &[u8] =
-    b"trip_id,arrival_time,departure_time,stop_id,stop_sequence\nT1,07:58:00,08:00:00,A,1\nT1,08:10:00,08:11:00,B,2\nT2,08:15:00,08:15:00,B,1\nT2,08:30:00,08:30:00,C,2\nT0,24:05:00,24:05:00,A,1\nT0,24:20:00,24:20:00,B,2\n";
+const TIMES: &[u8] = b"trip_id,arrival_time,departure_time,stop_id,stop_sequence
+T1,07:58:00,08:00:00,A,1
+T1,08:10:00,08:11:00,B,2
+T2,08:15:00,08:15:00,B,1
+T2,08:30:00,08:30:00,C,2
+T0,24:05:00,24:05:00,A,1
+T0,24:20:00,24:20:00,B,2
+";
 
 // Two trips on Mondays in May 2026, and one on Sundays that runs past midnight.
 pub(crate) fn mondays() -> FeedBytes<'static> {

@@ -8,7 +8,10 @@ pub(crate) const STOPS: &[u8] = b"stop_id,stop_name\nA,Alpha\nB,Beta\nC,Gamma\n"
 pub(crate) const ROUTES: &[u8] = b"route_id,route_type\nR1,3\nR2,3\n";
 
 pub(crate) const CALENDAR: &[u8] =
-    b"service_id,monday,tuesday,wednesday,thursday,friday,saturday,sunday,start_date,end_date\nMON,1,0,0,0,0,0,0,20260504,20260531\nSUN,0,0,0,0,0,0,1,20260503,20260531\n";
+    b"service_id,monday,tuesday,wednesday,thursday,friday,saturday,sunday,start_date,end_date
+MON,1,0,0,0,0,0,0,20260504,20260531
+SUN,0,0,0,0,0,0,1,20260503,20260531
+";
 
 // A trip of twenty events.
 pub(crate) const LONG_TRIP: &[u8] = b"trip_id,arrival_time,departure_time,stop_id,stop_sequence

@@ -22,8 +22,10 @@ pub(crate) fn limit_of(alloc: Global, file: FileName) -> Option<String> {
             "stop_times.txt may have {MOST_EVENTS} records beside its header"
         ).ok(),
         FileName::Transfers | FileName::Footpaths => format!(in alloc;
-            "there may be {MOST_FOOTPATHS} direct footpaths; a record between stations gives one for each pair of their stops"
-        ).ok(),
+            "there may be {MOST_FOOTPATHS} direct footpaths; \
+                a record between stations gives one for each pair of their stops"
+        )
+        .ok(),
         _ => None,
     }
 }
@@ -55,8 +57,10 @@ pub(crate) fn advice_for(alloc: Global, fault: &StudyFault) -> Option<String> {
         ).ok(),
         StudyFault::Net(_, NetFault::Memory) => None,
         StudyFault::Net(_, _) => format!(in alloc;
-            "a network may have {MOST_TRIPS} runs with {MOST_EVENTS} stop times; with --back 0 --ahead 0 there are fewer"
-        ).ok(),
+            "a network may have {MOST_TRIPS} runs with {MOST_EVENTS} stop times; \
+                with --back 0 --ahead 0 there are fewer"
+        )
+        .ok(),
         _ => None,
     }
 }

@@ -11,8 +11,8 @@ use studies::Settings;
 use timetable::{Feet, StopNo};
 
 /// What is said where nobody can walk from a stop to another.
-const NO_WALKS: &str =
-    "no walk leads anywhere, so changes are at one stop alone; ttm-tools walks makes a file for --footpaths, and --walk says how long a walk may be";
+const NO_WALKS: &str = "no walk leads anywhere, so changes are at one stop alone; \
+    ttm-tools walks makes a file for --footpaths, and --walk says how long a walk may be";
 
 /// What is said where no trip runs on the date of the departures.
 const NO_RUNS: &str = "no trip runs on the date itself; is it a date of the feed's calendar?";

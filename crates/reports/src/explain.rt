@@ -149,7 +149,7 @@ fn refused_line(
 
 /// Whether a rule may have refused a text, given the bytes of `stops.txt`; none where there is no memory to find out.
 fn refuses(alloc: Global, rule: Rule, text: &[u8], stops: Option<&[u8]>) -> Option<bool> {
-    if rule == Rule::Place {
+    if rule == Rule::Location {
         Some(!is_named(alloc, stops?, b"stop_id", text)?)
     } else {
         Some(rule.refuses(text))
@@ -168,8 +168,10 @@ fn back_line(alloc: Global, found: &Found) -> Option<String> {
     let arrive = shown(alloc, found.text(b"arrival_time")).ok()?;
     let depart = shown(alloc, found.text(b"departure_time")).ok()?;
     format!(in alloc;
-        "ttm: column arrival_time is \"{arrive}\" and column departure_time is \"{depart}\"; along a trip no time is before the one ahead of it\n"
-    ).ok()
+        "ttm: column arrival_time is \"{arrive}\" and column departure_time is \"{depart}\"; \
+            along a trip no time is before the one ahead of it\n"
+    )
+    .ok()
 }
 
 /// The first required column that the header of a file lacks, and those that it has.

@@ -11,8 +11,8 @@ const CELL_BYTES: u64 = 8;
 const TEXT_BYTES: u64 = 6;
 
 /// What is said where the matrix is larger than what the machine has free.
-const NO_ROOM: &str =
-    "the machine may not have memory for the matrix; ttm-tools split makes parts of the origins, and ttm-tools join joins their matrices";
+const NO_ROOM: &str = "the machine may not have memory for the matrix; \
+    ttm-tools split makes parts of the origins, and ttm-tools join joins their matrices";
 
 /// How many rows a study has.
 pub(crate) fn row_count(study: &Study<'_>) -> u64 {

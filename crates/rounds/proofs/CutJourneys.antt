@@ -10,9 +10,9 @@ use Rattle.rounds.proofs.Journeying.{not_before, not_early}
 use Rattle.rounds.proofs.CutRides.{cut_ride, from_cut, ride_rises}
 
 -- the same stop at the same time
-same_place : (p q x y : ℕ) → p ≡ q → x ≡ y → let v : Whereabouts = record { stop = p; time = x } in
+same_position : (p q x y : ℕ) → p ≡ q → x ≡ y → let v : Whereabouts = record { stop = p; time = x } in
     let w : Whereabouts = record { stop = q; time = y } in v ≡ w
-same_place p q x y e f = rw (e, f) refl
+same_position p q x y e f = rw (e, f) refl
 
 module _ (n : Net) (ok : IsNet n) (base cap origin since depart : ℕ) (counted : since + base
     ≡ depart) (live : (0 < since) ⊎ (base ≡ 0)) where
@@ -111,7 +111,7 @@ module _ (n : Net) (ok : IsNet n) (base cap origin since depart : ℕ) (counted 
           here = c.here;
           in_time = omega (arith, in_time, shift);
           there =
-              same_place p c.off.stop.0 (time + base) c.off.arrive (ap (λ (v : Whereabouts). v.stop) c.there)
+              same_position p c.off.stop.0 (time + base) c.off.arrive (ap (λ (v : Whereabouts). v.stop) c.there)
               (omega (arith, end, in_time, rise));
         },
       )

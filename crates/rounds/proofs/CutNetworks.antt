@@ -13,7 +13,7 @@ use Rattle.timetable.specs.declared.views.Times.{Times}
 use Rattle.timetable.specs.declared.limits.TheConstants.{END_OF_AXIS}
 use Rattle.timetable.specs.Trips.{EventsRise}
 use Rattle.timetable.specs.Networks.{Net, IsNet, IsEvent}
-use Rattle.timetable.specs.Lines.{Line, LineTable, Follows, IsLine, AreLines, IsPlace, AreBoarded, AreLinesOf}
+use Rattle.timetable.specs.Lines.{Line, LineTable, Follows, IsLine, AreLines, IsPosition, AreBoarded, AreLinesOf}
 use Rattle.timetable.specs.LineViews.{events_of, rows_of_line, IsAt, IsViewOf}
 use Rattle.trip_lanes.specs.Cut.{cut}
 use Rattle.trip_lanes.specs.Rows.{NoneOvertakes, IsCutViewOf}
@@ -153,10 +153,10 @@ module _ (base cap : ℕ) where
         all = λ trip l. ok.all trip (omega (arith, cut_trips_long trips));
       }
 
-  cut_place_got : (trips : List Trip) (lines : List Line) (line k : ℕ) (e : Event) →
-      IsPlace (map (cut_trip base cap) trips) lines line k e →
-      (f : Event) × IsPlace trips lines line k f × (cut_event base cap f ≡ e)
-  cut_place_got trips lines line k e h =
+  cut_position_got : (trips : List Trip) (lines : List Line) (line k : ℕ) (e : Event) →
+      IsPosition (map (cut_trip base cap) trips) lines line k e →
+      (f : Event) × IsPosition trips lines line k f × (cut_event base cap f ≡ e)
+  cut_position_got trips lines line k e h =
       let f = cut_event_got trips h.0 k e h.2 in
       (f.0, (h.0, h.1, f.1), f.2)
 
@@ -165,8 +165,8 @@ module _ (base cap : ℕ) where
   cut_boarded stops trips lines boarded ok =
       record {
         size = ok.size;
-        complete = λ line k e place board.
-            let f = cut_place_got trips lines line k e place in
+        complete = λ line k e position board.
+            let f = cut_position_got trips lines line k e position in
             rw (← f.2) (ok.complete line k f.0 f.1 (subst IsTrue (ap (λ (x : Event). x.board) (sym f.2)) board));
         sound = λ p line k h.
             let s = ok.sound p line k h in
@@ -217,9 +217,9 @@ module _ (base cap : ℕ) where
       IsCutViewOf base cap (rows_of_line (map (cut_trip base cap) trips) line) calls times
   cut_line_view trips line calls times v =
       record {
-        places = λ r row h.
+        positions = λ r row h.
             let own = cut_row_got trips line r row h in
-            rw (← own.2) (length-map own.0 (cut_event base cap) ∙ v.places r own.0 own.1);
+            rw (← own.2) (length-map own.0 (cut_event base cap) ∙ v.positions r own.0 own.1);
         size = v.size ∙ ap (λ m. m * length calls) (sym (cut_rows_long trips line));
         stop = λ r j e c h g. let f = cut_at_got trips line r j e h in
             v.stop r j f.0 c f.1 g ∙ ap (λ (x : Event). x.stop.0) f.2;

@@ -79,11 +79,11 @@ module _ (trips : List Trip) (lines : List Line) (are : AreLines trips lines) wh
           })
         ]
 
-    -- nobody newly catches a trip of a line before the place that is noted for it
+    -- nobody newly catches a trip of a line before the position that is noted for it
     pub catches_from : (stops : ℕ) (boarded : List (List (ℕ × ℕ))) → AreBoarded stops trips lines boarded →
         (falls : List Fall) (due : List ℕ) → length falls ≡ stops → AreFalls before ready falls
-        → ((p line place : ℕ) (f : Fall) → IsIn boarded p (line, place) → slice_get falls p ≡ Some f → f.low < f.top →
-        slice_index due line ≤ place)
+        → ((p line position : ℕ) (f : Fall) → IsIn boarded p (line, position) → slice_get falls p ≡ Some f →
+        f.low < f.top → slice_index due line ≤ position)
         → (r j : ℕ) → IsCaught before ready (rows_of_line trips line) r j → slice_index due i ≤ j
     catches_from stops boarded board falls due same fallen notes r j g =
         let t = row_trip trips line (line_at i line at_i) r g.from.row g.from.trip in

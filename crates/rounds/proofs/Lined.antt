@@ -15,7 +15,7 @@ use Rattle.timetable.proofs.Lowering.{lowers_alike}
 use Rattle.timetable.proofs.Viewing.{events_at, row_of}
 use Rattle.trip_lanes.specs.Scan.{NothingLower, FallsTo}
 use Rattle.trip_lanes.specs.Rows.{IsCutViewOf, NoneOvertakes, CarriesRow, IsCaught, IsPast, NoneCaughtBefore}
-use Rattle.trip_lanes.proofs.Lining.{at_place, carries_row, line_lowers}
+use Rattle.trip_lanes.proofs.Lining.{at_position, carries_row, line_lowers}
 use Rattle.rounds.specs.Rank.{IsOfRank}
 use Rattle.rounds.specs.Scan.{CarriesLine}
 use Rattle.rounds.proofs.Ranked.{ahead}
@@ -107,13 +107,13 @@ module _ (trips : List Trip) (line : Line) (is : IsLine trips line) where
       (line_lowers before ready (rows_of_line trips line) from (λ p x l c. settled p x l (line_of_row before p x c))
       none falls past)
 
-  -- the places of a line are at stops that there are
+  -- the positions of a line are at stops that there are
   pub call_stops : (base cap stops : ℕ) → All (λ (t : Trip). All (λ (e : Event). e.stop.0 < stops) t.events) trips →
       (calls : List Call) (times : List Times) → IsCutViewOf base cap (rows_of_line trips line) calls times →
       All (λ (c : Call). c.stop.0 < stops) calls
   call_stops base cap stops within calls times view k d l =
       let long : 0 < length (rows_of_line trips line) = omega (arith, rows_long, is.some) in
-      let w = at_place base cap (rows_of_line trips line) calls times view 0 k long l in
+      let w = at_position base cap (rows_of_line trips line) calls times view 0 k long l in
       let t = row_trip 0 w.1.row w.1.trip in
       let at_e : slice_get t.0.events k ≡ Some w.0 = ap (λ (v : List Event). slice_get v k) t.2 ∙ w.1.event in
       let inside = all_at (λ (t : Trip). All (λ (e : Event). e.stop.0 < stops) t.events) trips t.1.trip t.0 within

@@ -13,7 +13,7 @@ use Rattle.rounds.specs.Window.{departure, AreDurations}
 use Rattle.rounds.specs.Batches.{AreLabels}
 use Rattle.rounds.specs.Table.{IsTimes, AreLanes, times_of, durations_of, batches_of, label_in, label_of, known_of, at}
 use Rattle.rounds.specs.Table.{IsLeastOrNone}
-use Rattle.rounds.proofs.Filling.{place_before, known_least}
+use Rattle.rounds.proofs.Filling.{position_before, known_least}
 
 length_durations : (stops minutes : ℕ) (labels : List (List ℕ)) →
     length (durations_of stops minutes labels) ≡ stops * minutes
@@ -33,7 +33,7 @@ pub known_at : (stops minutes : ℕ) (labels : List (List ℕ)) (p m : ℕ) → 
 unfolding durations_of
 known_at stops minutes labels p m l r =
     get_or-map-range_with_len (λ (i : ℕ). known_of (label_of minutes labels (i / minutes) (i % minutes))) 0
-    (stops * minutes) (p * minutes + m) (p * minutes + m) None (place_before minutes p stops m l r)
+    (stops * minutes) (p * minutes + m) (p * minutes + m) None (position_before minutes p stops m l r)
     (omega arith)
     ∙ (ap (λ (q : ℕ). known_of (label_of minutes labels q ((p * minutes + m) % minutes))) (div-mul-add p minutes m r)
     ∙ ap (λ (k : ℕ). known_of (label_of minutes labels p k)) (mod-mul-add p minutes m r))
@@ -45,7 +45,7 @@ pub part_at : (labels : List (List ℕ)) (s minutes p m : ℕ) → length labels
 part_at labels s minutes p m all l r =
     let w = batches_of minutes in
     let b : m / 16 < w = omega (arith, r) in
-    let place = place_before w p s (m / 16) l b in
+    let position = position_before w p s (m / 16) l b in
     let one : get_or (slice_range labels (p * w) (p * w + w)) (m / 16) [] ≡ get_or labels (p * w + m / 16) [] =
     rw (
       between_is labels (p * w) (p * w + w),

@@ -13,7 +13,7 @@ pub record IsAsked (q : Query) : Type 0 where
   pub rides : q.rides ≤ MOST_RIDES
   pub lines : AreLinesOf q.network.now.stops q.network.now.trips q.lines.now
 
--- the tables have a place for each stop and line
+-- the tables have a position for each stop and line
 pub record AreTablesFor {R : Type 0} (stops : ℕ) (lines : LineTable) (t : Tables R) : Type 0 where
   pub ride : length t.ride.items ≡ stops
   pub ready : length t.ready.items ≡ stops

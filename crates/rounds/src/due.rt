@@ -10,23 +10,24 @@ use trip_lanes::Fall;
 
 /// Notes the lines of a list, each from its position on, unless it is noted from an earlier one on.
 fn note_all(row: &[(u32, u32)], due: &mut [u32])
-    requires { (k line place : ℕ) → slice_get row.now k ≡ Some (line, place) → line < length due.old }
+    requires { (k line position : ℕ) → slice_get row.now k ≡ Some (line, position) → line < length due.old }
     ensures earlier { (line : ℕ) → slice_index due.new line ≤ slice_index due.old line }
-    ensures new { (k line place : ℕ) → slice_get row.now k ≡ Some (line, place) → slice_index due.new line ≤ place }
+    ensures new { (k line position : ℕ) → slice_get row.now k ≡ Some (line, position) →
+        slice_index due.new line ≤ position }
 {
-    for (line, place) in row {
-        note(due, *line as usize, *place);
+    for (line, position) in row {
+        note(due, *line as usize, *position);
     }
 }
 
 /// Notes a line from a position on, unless it is noted from an earlier one on.
-fn note(due: &mut [u32], line: usize, place: u32)
+fn note(due: &mut [u32], line: usize, position: u32)
     requires { line < length due.old }
     ensures earlier { (other : ℕ) → slice_index due.new other ≤ slice_index due.old other }
-    ensures new { slice_index due.new line ≤ place }
+    ensures new { slice_index due.new line ≤ position }
 {
-    if place < due[line] {
-        due[line] = place;
+    if position < due[line] {
+        due[line] = position;
     }
 }
 
@@ -34,9 +35,9 @@ fn note(due: &mut [u32], line: usize, place: u32)
 pub(crate) fn note_lines(lines: &Lines, falls: &[Fall], due: &mut [u32])
     requires stops { length falls.now ≡ length lines.now.boarded }
     requires few { length falls.now ≤ MOST_STOPS }
-    requires in_range { (p line place : ℕ) → IsIn lines.now.boarded p (line, place) → line < length due.old }
-    ensures { (p line place : ℕ) (f : FallValue) → IsIn lines.now.boarded p (line, place) →
-        slice_get falls.now p ≡ Some f → f.low < f.top → slice_index due.new line ≤ place }
+    requires in_range { (p line position : ℕ) → IsIn lines.now.boarded p (line, position) → line < length due.old }
+    ensures { (p line position : ℕ) (f : FallValue) → IsIn lines.now.boarded p (line, position) →
+        slice_get falls.now p ≡ Some f → f.low < f.top → slice_index due.new line ≤ position }
 {
     for stop in 0..falls.len() {
         if falls[stop].low < falls[stop].top {

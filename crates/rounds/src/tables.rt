@@ -59,41 +59,41 @@ impl<R: Row> Tables<R> {
 }
 
 /// Makes a table of labels that is so long, unless it is.
-fn make_rows<R: Row>(alloc: Global, table: &mut Vec<R>, places: usize) -> Result<(), AllocError>
-    ensures { OnOk result (length table.new.items ≡ places) }
+fn make_rows<R: Row>(alloc: Global, table: &mut Vec<R>, count: usize) -> Result<(), AllocError>
+    ensures { OnOk result (length table.new.items ≡ count) }
 {
-    if table.len() != places {
-        *table = vec![in alloc; R::all(R::NEVER); places]?;
+    if table.len() != count {
+        *table = vec![in alloc; R::all(R::NEVER); count]?;
     }
     Ok(())
 }
 
 /// Makes a table of falls that is so long, unless it is.
-fn make_falls(alloc: Global, table: &mut Vec<Fall>, places: usize) -> Result<(), AllocError>
-    ensures { OnOk result (length table.new.items ≡ places) }
+fn make_falls(alloc: Global, table: &mut Vec<Fall>, count: usize) -> Result<(), AllocError>
+    ensures { OnOk result (length table.new.items ≡ count) }
 {
-    if table.len() != places {
-        *table = vec![in alloc; UNFALLEN; places]?;
+    if table.len() != count {
+        *table = vec![in alloc; UNFALLEN; count]?;
     }
     Ok(())
 }
 
 /// Makes a table of marks that is so long, unless it is.
-fn make_marks(alloc: Global, table: &mut Vec<bool>, places: usize) -> Result<(), AllocError>
-    ensures { OnOk result (length table.new.items ≡ places) }
+fn make_marks(alloc: Global, table: &mut Vec<bool>, count: usize) -> Result<(), AllocError>
+    ensures { OnOk result (length table.new.items ≡ count) }
 {
-    if table.len() != places {
-        *table = vec![in alloc; false; places]?;
+    if table.len() != count {
+        *table = vec![in alloc; false; count]?;
     }
     Ok(())
 }
 
 /// Makes a table of positions on lines that is so long, unless it is.
-fn make_times(alloc: Global, table: &mut Vec<u32>, places: usize) -> Result<(), AllocError>
-    ensures { OnOk result (length table.new.items ≡ places) }
+fn make_times(alloc: Global, table: &mut Vec<u32>, count: usize) -> Result<(), AllocError>
+    ensures { OnOk result (length table.new.items ≡ count) }
 {
-    if table.len() != places {
-        *table = vec![in alloc; NEVER; places]?;
+    if table.len() != count {
+        *table = vec![in alloc; NEVER; count]?;
     }
     Ok(())
 }

@@ -14,12 +14,12 @@ same_length false events = refl
 same_length true [] = refl
 same_length true (e ∷ es) = refl
 
-at_place : (departs : Bool) (events : List Event) (i : ℕ) (d : Event) → i < length events →
+at_position : (departs : Bool) (events : List Event) (i : ℕ) (d : Event) → i < length events →
     get_or (arriving departs events) i d ≡ departing_event (departs && (i == 0)) (get_or events i d)
-at_place false events i d lt = refl
-at_place true [] i d lt = absurd (omega arith)
-at_place true (e ∷ es) zero d lt = refl
-at_place true (e ∷ es) (suc i) d lt =
+at_position false events i d lt = refl
+at_position true [] i d lt = absurd (omega arith)
+at_position true (e ∷ es) zero d lt = refl
+at_position true (e ∷ es) (suc i) d lt =
     let later : (suc i == 0) ≡ false = grind (arith, nat_tests) in
     sym (ap (λ b. departing_event b (get_or es i d)) later)
 
@@ -38,7 +38,7 @@ module _ (departs first : Bool) (events : List Event) (i : ℕ) (d : Event) (lt 
   within = let l = same_length departs events in omega arith
 
   here : get_or (arriving departs events) i d ≡ departing_event first (get_or events i d)
-  here = at_place departs events i d lt ∙ ap (λ b. departing_event b (get_or events i d)) (sym is)
+  here = at_position departs events i d lt ∙ ap (λ b. departing_event b (get_or events i d)) (sym is)
 
   pub moved_more : (made new : List Event) (f : Event) → Some f ≡ moved_if_on_axis first z (get_or events i d) →
       new ≡ made ++ f ∷ []

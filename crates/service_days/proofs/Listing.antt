@@ -45,7 +45,7 @@ pub list_whole : {A B : Type 0} (f : A → List B) (xs : List A) (i : ℕ) → l
     old ≡ start ++ flat_map f (take i xs) → old ≡ start ++ flat_map f xs
 list_whole f xs i le start old before = before ∙ ap (λ l. start ++ flat_map f l) (take_all i xs le)
 
--- an item with its place
+-- an item with its position
 pub numbered : {A : Type 0} (xs : List A) (i : ℕ) (x : A) → slice_get xs i ≡ Some x →
     (i, x) ≡ get_or (enumerate_from 0 xs) i (i, x)
 numbered {A = A} xs i x at =
@@ -55,7 +55,7 @@ numbered {A = A} xs i x at =
     get_or-enumerate_from 0 xs i (i, x) (slice_get_within xs i x at) in
     sym (here ∙ (λ k. (zero k, it k)))
 
--- a number below another, at its place
+-- a number below another, at its position
 pub number_at : (n i : ℕ) → i < n → i ≡ get_or (range_with_len 0 n) i i
 number_at n i lt = let zero : 0 + i ≡ i = omega arith in sym (get_or-range_with_len 0 n i i lt ∙ zero)
 
@@ -67,7 +67,7 @@ same_at : {A : Type 0} (xs : List A) (i : ℕ) (d e : A) → i < length xs → g
 same_at xs i d e lt = same_Some (get_or xs i d) (get_or xs i e) (sym (slice_get-get_or xs i d lt)
     ∙ slice_get-get_or xs i e lt)
 
--- what stands at a place
+-- what stands at a position
 pub read_at : {A : Type 0} (xs : List A) (i : ℕ) (x d y : A) → i < length xs → x ≡ get_or xs i x → get_or xs i d ≡ y →
     x ≡ y
 read_at xs i x d y lt is so = is ∙ same_at xs i x d lt ∙ so

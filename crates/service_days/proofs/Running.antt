@@ -156,15 +156,15 @@ day_runs feed is day base low =
     all_parts (IsRun feed) (λ (at : ℕ × FeedTrip). runs_if feed day base at.0 at.1) (enumerate_from 0 feed.trips)
     (All-weaker (λ (at : ℕ × FeedTrip). slice_get feed.trips at.0
     ≡ Some at.1) (λ (at : ℕ × FeedTrip). All (IsRun feed) (runs_if feed day base at.0 at.1))
-    (λ at here. if_running (runs_on feed at.1.service day) at here) (enumerate_from 0 feed.trips) places)
+    (λ at here. if_running (runs_on feed at.1.service day) at here) (enumerate_from 0 feed.trips) positions)
   where
     if_running : (b : Bool) (at : ℕ × FeedTrip) → slice_get feed.trips at.0 ≡ Some at.1 →
         All (IsRun feed) (if b then runs_of_trip base at.0 at.1 else [])
     if_running true at here = trip_runs feed is base low at.0 at.1 here
     if_running false at here = All-nil (IsRun feed)
 
-    places : All (λ (at : ℕ × FeedTrip). slice_get feed.trips at.0 ≡ Some at.1) (enumerate_from 0 feed.trips)
-    places k d lt =
+    positions : All (λ (at : ℕ × FeedTrip). slice_get feed.trips at.0 ≡ Some at.1) (enumerate_from 0 feed.trips)
+    positions k d lt =
         let count = length-enumerate_from 0 feed.trips in
         let within : k < length feed.trips = omega arith in
         subst (λ (at : ℕ × FeedTrip). slice_get feed.trips at.0

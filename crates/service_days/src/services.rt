@@ -126,8 +126,8 @@ fn set_mark(running: &mut [bool], first: u32, service: u32, runs: bool)
     if service < first {
         return;
     }
-    let place = (service - first) as usize;
-    if place < running.len() {
-        running[place] = runs;
+    let position = (service - first) as usize;
+    if position < running.len() {
+        running[position] = runs;
     }
 }

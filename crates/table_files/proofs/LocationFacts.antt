@@ -10,10 +10,10 @@ use Rattle.std.proofs.lemmas.Bool.{lt-leb}
 use Rattle.std.proofs.lemmas.List.{append-nil, length-append, length-map, map-append}
 use Rattle.std.proofs.lemmas.List.Elements.{All-cons, All-nil, filter-append}
 use Rattle.table_records.specs.Fields.{is_empty}
-use Rattle.table_files.specs.declared.place.Place.{Place}
-use Rattle.table_files.specs.declared.place.Place.TheVariants.{Stop, Station, Other}
+use Rattle.table_files.specs.declared.location.Location.{Location}
+use Rattle.table_files.specs.declared.location.Location.TheVariants.{Stop, Station, Other}
 use Rattle.table_files.specs.declared.locations.LocationList.{LocationList}
-use Rattle.table_files.specs.Children.{IsPlace, children_of}
+use Rattle.table_files.specs.Children.{IsLocation, children_of}
 use Rattle.table_files.specs.Locations.{AreLocations, IsLocationList, IsLocated, LocationRecord, checks, is_station}
 use Rattle.table_files.specs.Locations.{is_stop, kind_of, names_of, parents_of, location_at, locations_after}
 use Rattle.table_files.specs.Locations.{locations_in, stations_of, stops_of, with_id}
@@ -74,7 +74,7 @@ locations_after-push : (before rows : List LocationRecord) (r : LocationRecord) 
     locations_after before (rows ++ r ∷ []) ≡ locations_after before rows ++ location_at (before ++ rows) r ∷ []
 locations_after-push before [] r = λ k. location_at (sym (append-nil before) k) r ∷ []
 locations_after-push before (x ∷ rows) r =
-    ap (λ (l : List Place). location_at before x ∷ l) (locations_after-push (before ++ x ∷ []) rows r
+    ap (λ (l : List Location). location_at before x ∷ l) (locations_after-push (before ++ x ∷ []) rows r
     ∙ (λ k. locations_after (before ++ x ∷ []) rows ++ location_at (append_assoc before (x ∷ []) rows k)
     r ∷ []))
 
@@ -127,16 +127,16 @@ as_many before (r ∷ rows) = let more = as_many (before ++ r ∷ []) rows in om
 
 -- each record's number is below the count of all stops or stations
 locations_in_range : (before rows : List LocationRecord) →
-    All (IsPlace (length (stops_of (before ++ rows))) (length (stations_of (before ++ rows))))
+    All (IsLocation (length (stops_of (before ++ rows))) (length (stations_of (before ++ rows))))
     (locations_after before rows)
-locations_in_range before [] = All-nil (IsPlace (length (stops_of (before ++ [])))
+locations_in_range before [] = All-nil (IsLocation (length (stops_of (before ++ [])))
     (length (stations_of (before ++ []))))
 locations_in_range before (r ∷ rows) =
-    All-cons (IsPlace (length (stops_of (before ++ r ∷ rows))) (length (stations_of (before ++ r ∷ rows))))
+    All-cons (IsLocation (length (stops_of (before ++ r ∷ rows))) (length (stations_of (before ++ r ∷ rows))))
     (location_at before r) (locations_after (before ++ r ∷ []) rows)
     (by (is_stop r) (is_station r) refl refl)
     (let all : List LocationRecord → Type 0 =
-    λ l. All (IsPlace (length (stops_of l)) (length (stations_of l))) (locations_after (before ++ r ∷ []) rows)
+    λ l. All (IsLocation (length (stops_of l)) (length (stations_of l))) (locations_after (before ++ r ∷ []) rows)
     in
     subst all (append_assoc before (r ∷ []) rows) (locations_in_range (before ++ r ∷ []) rows))
   where
@@ -156,7 +156,7 @@ locations_in_range before (r ∷ rows) =
         )
 
     by : (a b : Bool) → is_stop r ≡ a → is_station r ≡ b
-        → IsPlace (length (stops_of (before ++ r ∷ rows))) (length (stations_of (before ++ r ∷ rows)))
+        → IsLocation (length (stops_of (before ++ r ∷ rows))) (length (stations_of (before ++ r ∷ rows)))
         (if a then Stop (record { 0 = length (stops_of before) }) else if b then Station (length (stations_of before))
         else Other)
     by true b e g = counted is_stop e

@@ -22,7 +22,7 @@ at_position p xs i is lt =
     let within : nat_lt i (length xs) ≡ true = grind (arith, nat_tests) in
     rw (is, within) refl
 
--- the first place is the same with more after it
+-- the first position is the same with more after it
 front : {X : Type 0} (p : X → Bool) (xs ys : List X) → list_any p xs ≡ true →
     (position_or_len p (xs ++ ys) ≡ position_or_len p xs) × (position_or_len p xs < length xs)
 front p [] ys h = cc h
@@ -125,7 +125,7 @@ all_listed key before (r ∷ rows) =
     last_true true = refl
     last_true false = refl
 
--- a place that was found, and one that was not
+-- a position that was found, and one that was not
 pub found : {X : Type 0} (p : X → Bool) (xs : List X) (n : ℕ) → Some n ≡ position p xs →
     (n < length xs) × (list_any p xs ≡ true)
 found p xs n h = by (list_any p xs) refl

@@ -13,9 +13,9 @@ use Rattle.table_records.specs.declared.limits.TheConstants.{MOST_BYTES}
 use Rattle.table_records.proofs.ReadingFacts.{few_records}
 use Rattle.table_files.specs.declared.transfers.Link.{Link}
 use Rattle.table_files.specs.declared.transfers.Transfers.{Transfers}
-use Rattle.table_files.specs.declared.place.Place.{Place}
-use Rattle.table_files.specs.declared.place.Place.TheVariants.{Other}
-use Rattle.table_files.specs.Children.{IsPlace}
+use Rattle.table_files.specs.declared.location.Location.{Location}
+use Rattle.table_files.specs.declared.location.Location.TheVariants.{Other}
+use Rattle.table_files.specs.Children.{IsLocation}
 use Rattle.table_files.specs.Locations.{AreLocations, LocationData, kind_of}
 use Rattle.table_files.specs.Transfers.{AreTransfers, IsLink, Takes, TransferRow, checks, end_of, gives_any, is_change}
 use Rattle.table_files.specs.Transfers.{is_general, is_used, is_whole, link_at, link_of, links_of, row_of, unused_of}
@@ -60,20 +60,20 @@ pub count_unused : (locations : LocationData) (t : Transfers) (rows : List Trans
     AreTransfers locations t rows → t.unused ≡ unused_of locations rows
 count_unused locations t rows are = omega (arith, are.unused, ap length are.links)
 
--- an end is a place of the feed, or stands for no stop
+-- an end is a location of the feed, or stands for no stop
 end_in_range : (locations : LocationData) (id : List ℕ) → AreLocations locations →
-    IsPlace (length locations.stops) (length locations.stations) (end_of locations.names locations.locations id)
+    IsLocation (length locations.stops) (length locations.stations) (end_of locations.names locations.locations id)
 end_in_range locations id are = by (position (bytes_eq id) locations.names)
   where
-    at : (o : Option Place) (n : ℕ) → slice_get locations.locations n ≡ o →
-        IsPlace (length locations.stops) (length locations.stations) (unwrap_or o Other)
+    at : (o : Option Location) (n : ℕ) → slice_get locations.locations n ≡ o →
+        IsLocation (length locations.stops) (length locations.stations) (unwrap_or o Other)
     at None n e = tt
-    at (Some place) n e =
-        let in_range : Place → Type 0 = IsPlace (length locations.stops) (length locations.stations) in
-        subst in_range (get_or_from_slice_get locations.locations n place Other e)
-        (are.in_range n Other (slice_get_within locations.locations n place e))
+    at (Some location) n e =
+        let in_range : Location → Type 0 = IsLocation (length locations.stops) (length locations.stations) in
+        subst in_range (get_or_from_slice_get locations.locations n location Other e)
+        (are.in_range n Other (slice_get_within locations.locations n location e))
 
-    by : (o : Option ℕ) → IsPlace (length locations.stops) (length locations.stations)
+    by : (o : Option ℕ) → IsLocation (length locations.stops) (length locations.stations)
         (unwrap_or (option_and_then (slice_get locations.locations) o) Other)
     by None = tt
     by (Some n) = at (slice_get locations.locations n) n refl

@@ -16,12 +16,12 @@ use Rattle.table_records.specs.declared.fault.FileName.TheVariants as file
 use Rattle.table_records.specs.declared.fault.What.{What}
 use Rattle.table_records.specs.declared.fault.What.TheVariants as what
 use Rattle.timetable.specs.declared.trips.StopNo.{StopNo}
-use Rattle.table_files.specs.declared.place.Place.{Place}
-use Rattle.table_files.specs.declared.place.Place.TheVariants.{Stop, Station, Other}
+use Rattle.table_files.specs.declared.location.Location.{Location}
+use Rattle.table_files.specs.declared.location.Location.TheVariants.{Stop, Station, Other}
 use Rattle.table_files.specs.declared.locations.LocationColumns.{LocationColumns}
 use Rattle.table_files.specs.declared.locations.LocationList.{LocationList}
 use Rattle.table_records.specs.Fields.{is_number}
-use Rattle.table_files.specs.Children.{AreChildren, IsPlace, children_of}
+use Rattle.table_files.specs.Children.{AreChildren, IsLocation, children_of}
 
 -- the fields of a record that are read
 pub record LocationRecord : Type 0 where
@@ -93,25 +93,26 @@ abbrev pub parents_of : List LocationRecord → List (List ℕ)
 parents_of rows = map (λ r. r.parent) (filter is_stop rows)
 
 -- what a record after others is
-abbrev pub location_at : List LocationRecord → LocationRecord → Place
+abbrev pub location_at : List LocationRecord → LocationRecord → Location
 location_at before r =
     if is_stop r then Stop (record { 0 = length (stops_of before) }) else if is_station r then Station
     (length (stations_of before)) else Other
 
-abbrev pub locations_after : List LocationRecord → List LocationRecord → List Place
+abbrev pub locations_after : List LocationRecord → List LocationRecord → List Location
 locations_after before [] = []
 locations_after before (r ∷ rows) = location_at before r ∷ locations_after (before ++ r ∷ []) rows
 
 -- what each record is
-abbrev pub locations_of : List LocationRecord → List Place
+abbrev pub locations_of : List LocationRecord → List Location
 locations_of rows = locations_after [] rows
 
--- the names of all locations, the stops and the stations among them, what each place is, and the stops of each station
+-- the names of all locations, the stops and the stations among them, what each location is, and the stops of each
+-- station
 pub record LocationData : Type 0 where
   pub names : List (List ℕ)
   pub stops : List (List ℕ)
   pub stations : List (List ℕ)
-  pub locations : List Place
+  pub locations : List Location
   pub children : List (List StopNo)
 
 -- what the records state
@@ -124,8 +125,8 @@ locations_in rows = record {
   children = children_of (stations_of rows) (parents_of rows);
 }
 
--- the place with an identifier
-abbrev pub location_named : List (List ℕ) → List Place → List ℕ → Option Place
+-- the location with an identifier
+abbrev pub location_named : List (List ℕ) → List Location → List ℕ → Option Location
 location_named names locations id = option_and_then (slice_get locations) (position (bytes_eq id) names)
 
 -- no stop comes twice, and every number is that of a stop or a station
@@ -135,7 +136,7 @@ pub record AreLocations (p : LocationData) : Type 0 where
   pub stops_within : length p.stops ≤ length p.names
   pub stations_within : length p.stations ≤ length p.names
   pub distinct : IsDistinct bytes_eq p.stops
-  pub in_range : All (IsPlace (length p.stops) (length p.stations)) p.locations
+  pub in_range : All (IsLocation (length p.stops) (length p.stations)) p.locations
   pub lists : length p.children ≡ length p.stations
   pub children : AreChildren (length p.stops) p.children
 
@@ -159,7 +160,7 @@ pub record HasRoom (l : LocationList) (at : ℕ) : Type 0 where
 abbrev pub with_id : List (List ℕ) → List ℕ → List (List ℕ)
 with_id ids id = if list_any (bytes_eq id) ids then ids else ids ++ id ∷ []
 
--- a place of this kind stands after the others
+-- a location of this kind stands after the others
 pub record IsLocated (kind : ℕ) (id parent : List ℕ) (old new : LocationList) : Type 0 where
   pub names : new.names ≡ old.names
   pub stops : new.stops ≡ (if kind == 0 then with_id old.stops id else old.stops)

@@ -21,12 +21,12 @@ use Rattle.table_records.specs.declared.fault.FileName.TheVariants as file
 use Rattle.table_records.specs.declared.fault.What.{What}
 use Rattle.table_records.specs.declared.fault.What.TheVariants as what
 use Rattle.timetable.specs.declared.trips.StopNo.{StopNo}
-use Rattle.table_files.specs.declared.place.Place.{Place}
-use Rattle.table_files.specs.declared.place.Place.TheVariants.{Other}
+use Rattle.table_files.specs.declared.location.Location.{Location}
+use Rattle.table_files.specs.declared.location.Location.TheVariants.{Other}
 use Rattle.table_files.specs.declared.transfers.Link.{Link}
 use Rattle.table_files.specs.declared.transfers.TransferColumns.{TransferColumns}
 use Rattle.table_files.specs.declared.transfers.Transfers.{Transfers}
-use Rattle.table_files.specs.Children.{IsPlace, stops_at}
+use Rattle.table_files.specs.Children.{IsLocation, stops_at}
 use Rattle.table_files.specs.Ends.{pairs_between}
 use Rattle.table_files.specs.Locations.{LocationData, kind_of, location_named}
 
@@ -90,7 +90,7 @@ abbrev pub is_minimum : Option ℕ → Bool
 is_minimum None = false
 is_minimum (Some kind) = kind == 2
 
--- the row states a change time: a minimum time from a place to itself
+-- the row states a change time: a minimum time from a location to itself
 abbrev pub is_change : TransferRow → Bool
 is_change r = is_minimum (kind_of r.kind) && bytes_eq r.from r.to
 
@@ -114,8 +114,8 @@ transfer_rows bytes = table_rows row_of (records_of bytes)
 abbrev pub transfer_faults : List (List ℕ) → List ℕ → List FeedFault
 transfer_faults names bytes = faults_after file.Transfers (checks names) [] (transfer_rows bytes)
 
--- the place that an end names
-abbrev pub end_of : List (List ℕ) → List Place → List ℕ → Place
+-- the location that an end names
+abbrev pub end_of : List (List ℕ) → List Location → List ℕ → Location
 end_of names locations id = unwrap_or (location_named names locations id) Other
 
 -- the values of a record with its number
@@ -163,8 +163,8 @@ unused_of locations rows = length rows - length (links_of locations rows)
 
 -- both ends of a link are locations with these numbers of stops and stations
 pub record IsLink (stops stations : ℕ) (link : Link) : Type 0 where
-  pub origin : IsPlace stops stations link.origin
-  pub target : IsPlace stops stations link.target
+  pub origin : IsLocation stops stations link.origin
+  pub target : IsLocation stops stations link.target
 
 -- a row's link stands after the others, or the row is counted as unused
 abbrev pub Takes : Option Link → Transfers → Transfers → Type 0

@@ -6,7 +6,7 @@ ghost use Rattle.table_files.specs.Children as children_spec;
 ghost use Rattle.table_files.specs.Ends as spec;
 
 use crate::children::Children;
-use crate::place::Place;
+use crate::location::Location;
 use timetable::StopNo;
 
 /// The stops that a location stands for: a stop stands for itself, a station for its stops, another for none.
@@ -31,14 +31,14 @@ impl<'a> Ends<'a> {
 }
 
 /// The stops that a location stands for, by the stops of each station.
-pub fn stops_at(place: Place, children: &Children) -> Ends<'_>
-    requires { children_spec.HasChildren children.now place }
-    ensures { spec.stops_of result ≡ children_spec.stops_at place children.now }
+pub fn stops_at(location: Location, children: &Children) -> Ends<'_>
+    requires { children_spec.HasChildren children.now location }
+    ensures { spec.stops_of result ≡ children_spec.stops_at location children.now }
 {
-    match place {
-        Place::Stop(stop) => Ends::Alone([stop]),
-        Place::Station(station) => Ends::Children(children.at(station)),
-        Place::Other => Ends::Children(&[]),
+    match location {
+        Location::Stop(stop) => Ends::Alone([stop]),
+        Location::Station(station) => Ends::Children(children.at(station)),
+        Location::Other => Ends::Children(&[]),
     }
 }
 

@@ -14,7 +14,7 @@ ghost use Rattle.table_files.specs.Locations as spec;
 
 use crate::children::{Children, children_of};
 use crate::ends::{Ends, stops_at};
-use crate::place::Place;
+use crate::location::Location;
 use csv::ByteRecord;
 use std::alloc::{AllocError, Global};
 use std::marker::Model;
@@ -30,7 +30,7 @@ pub struct Locations {
     names: Identifiers,
     stops: Identifiers,
     stations: Identifiers,
-    locations: Vec<Place>,
+    locations: Vec<Location>,
     children: Children,
 }
 
@@ -80,10 +80,10 @@ impl Locations {
     }
 
     /// The location with an identifier, none where no record has it.
-    pub fn place(&self, id: &[u8]) -> Option<Place>
+    pub fn location(&self, id: &[u8]) -> Option<Location>
         ensures named { result ≡ spec.location_named self.now.names self.now.locations id.now }
         ensures unknown { is_none result ≡ is_none (position (bytes_eq id.now) self.now.names) }
-        ensures in_range { IfSome result (children_spec.IsPlace (length self.now.stops) (length self.now.stations)) }
+        ensures in_range { IfSome result (children_spec.IsLocation (length self.now.stops) (length self.now.stations)) }
     {
         let number = self.names.number(id)?;
         Some(self.locations[number])
@@ -98,11 +98,11 @@ impl Locations {
     }
 
     /// The stops that a location stands for: a stop stands for itself, a station for its stops.
-    pub fn stops_at(&self, place: Place) -> Ends<'_>
-        requires { children_spec.IsPlace (length self.now.stops) (length self.now.stations) place }
-        ensures { ends_spec.stops_of result ≡ children_spec.stops_at place self.now.children }
+    pub fn stops_at(&self, location: Location) -> Ends<'_>
+        requires { children_spec.IsLocation (length self.now.stops) (length self.now.stations) location }
+        ensures { ends_spec.stops_of result ≡ children_spec.stops_at location self.now.children }
     {
-        stops_at(place, &self.children)
+        stops_at(location, &self.children)
     }
 }
 
@@ -138,7 +138,7 @@ pub struct LocationList {
     pub names: Identifiers,
     pub stops: Identifiers,
     pub stations: Identifiers,
-    pub locations: Vec<Place>,
+    pub locations: Vec<Location>,
     pub parents: Vec<Vec<u8>>,
 }
 
@@ -170,16 +170,16 @@ impl LocationList {
         match kind {
             0 => {
                 self.locations
-                    .push(Place::Stop(StopNo(self.stops.len() as u32)))?;
+                    .push(Location::Stop(StopNo(self.stops.len() as u32)))?;
                 self.stops.push(alloc, id)?;
                 self.parents.push(Vec::from_slice(alloc, parent)?)?;
             }
             1 => {
                 self.locations
-                    .push(Place::Station(self.stations.len() as u32))?;
+                    .push(Location::Station(self.stations.len() as u32))?;
                 self.stations.push(alloc, id)?;
             }
-            _ => self.locations.push(Place::Other)?,
+            _ => self.locations.push(Location::Other)?,
         }
         Ok(())
     }

@@ -12,8 +12,8 @@ ghost use Rattle.table_records.specs.declared.limits.TheConstants.{MOST_BYTES};
 ghost use Rattle.table_files.specs.Transfers as spec;
 
 use crate::ends::have_pair;
+use crate::location::Location;
 use crate::locations::{Locations, kind_number};
-use crate::place::Place;
 use csv::ByteRecord;
 use std::alloc::{AllocError, Global};
 use table_records::{
@@ -25,8 +25,8 @@ use table_records::{
 /// A row of type 2 from a location to itself states a change time too: the least that a change of vehicles takes there.
 #[derive(Clone, Copy, Debug, PartialEq, Eq)]
 pub struct Link {
-    pub origin: Place,
-    pub target: Place,
+    pub origin: Location,
+    pub target: Location,
     /// How long the walk takes, or the change.
     pub seconds: u32,
     /// Whether the row states a change time, for the stop or for each stop of the station.
@@ -47,8 +47,8 @@ const CHECKS: Checks = Checks {
     required: &[],
     fields: &[
         Check(b"transfer_type", Rule::OpenNumber, What::BadNumber),
-        Check(b"from_stop_id", Rule::Place, What::UnknownStop),
-        Check(b"to_stop_id", Rule::Place, What::UnknownStop),
+        Check(b"from_stop_id", Rule::Location, What::UnknownStop),
+        Check(b"to_stop_id", Rule::Location, What::UnknownStop),
         Check(b"min_transfer_time", Rule::Number, What::BadNumber),
     ],
 };
@@ -143,10 +143,10 @@ impl<'a> TransferReader<'a> {
             (map (λ w. record { file = file_name.Transfers; at = at; what = w })
             (used_checks self.now.locations.now.names (row_at self.now.columns (fields_of row.now))))) }
     {
-        let Some(origin) = self.locations.place(field(row, self.columns.from)) else {
+        let Some(origin) = self.locations.location(field(row, self.columns.from)) else {
             return Err(FeedFault::at(FileName::Transfers, at, What::UnknownStop));
         };
-        let Some(target) = self.locations.place(field(row, self.columns.to)) else {
+        let Some(target) = self.locations.location(field(row, self.columns.to)) else {
             return Err(FeedFault::at(FileName::Transfers, at, What::UnknownStop));
         };
         let Some(seconds) = number(trim(field(row, self.columns.time))) else {

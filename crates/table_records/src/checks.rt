@@ -18,7 +18,7 @@ pub enum Rule {
     /// A stop.
     Stop,
     /// A stop, a station or another location.
-    Place,
+    Location,
     /// A route.
     Route,
     /// A trip.

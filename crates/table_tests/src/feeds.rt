@@ -143,12 +143,17 @@ fn takes_byte_order_marks_and_carriage_returns(rt: HostRuntime) {
         stops: Some(b"\xef\xbb\xbfstop_id,stop_name\r\nA,Alpha\r\nB,Beta\r\nC,Gamma\r\n"),
         routes: Some(b"\xef\xbb\xbfroute_id,route_type\r\nR1,3\r\nR2,3\r\n"),
         calendar: Some(
-            b"\xef\xbb\xbfservice_id,monday,tuesday,wednesday,thursday,friday,saturday,sunday,start_date,end_date\r\nMON,1,0,0,0,0,0,0,20260504,20260531\r\n",
+            b"\xef\xbb\xbfservice_id,monday,tuesday,wednesday,thursday,friday,saturday,sunday,start_date,end_date\r\n\
+            MON,1,0,0,0,0,0,0,20260504,20260531\r\n",
         ),
         calendar_dates: Some(b"\xef\xbb\xbfservice_id,date,exception_type\r\nMON,20260518,2\r\n"),
         trips: Some(b"\xef\xbb\xbfroute_id,service_id,trip_id\r\nR1,MON,T1\r\nR2,MON,T2\r\n"),
         stop_times: Some(
-            b"\xef\xbb\xbftrip_id,arrival_time,departure_time,stop_id,stop_sequence\r\nT1,08:00:00,08:00:00,A,1\r\nT1,08:10:00,08:10:00,B,2\r\nT2,08:15:00,08:15:00,B,1\r\nT2,08:30:00,08:30:00,C,2\r\n",
+            b"\xef\xbb\xbftrip_id,arrival_time,departure_time,stop_id,stop_sequence\r\n\
+            T1,08:00:00,08:00:00,A,1\r\n\
+            T1,08:10:00,08:10:00,B,2\r\n\
+            T2,08:15:00,08:15:00,B,1\r\n\
+            T2,08:30:00,08:30:00,C,2\r\n",
         ),
         frequencies: Some(
             b"\xef\xbb\xbftrip_id,start_time,end_time,headway_secs\r\nT2,08:00:00,09:00:00,600\r\n",
@@ -160,8 +165,12 @@ fn takes_byte_order_marks_and_carriage_returns(rt: HostRuntime) {
 
 #[test]
 fn puts_records_in_order_of_sequence(rt: HostRuntime) {
-    let times =
-        b"stop_sequence,stop_id,departure_time,arrival_time,trip_id\n 12 ,C, 8:30:00,08:30:00 ,T2\n0010,B,08:10:00,8:10:00,T1\n3,B,08:15:00,08:15:00,T2\n9,A,08:00:00,08:00:00,T1\n";
+    let times = b"stop_sequence,stop_id,departure_time,arrival_time,trip_id
+ 12 ,C, 8:30:00,08:30:00 ,T2
+0010,B,08:10:00,8:10:00,T1
+3,B,08:15:00,08:15:00,T2
+9,A,08:00:00,08:00:00,T1
+";
     assert!(rt; reads(rt.alloc(), Expected::Small, feed_of(STOPS, TRIPS, times)));
 }
 
@@ -267,7 +276,10 @@ fn departs(feed: &Feed, trip: u32, rows: &[Departures]) -> bool {
 fn departures_of_each_trip(rt: HostRuntime) {
     let files = FeedBytes {
         frequencies: Some(
-            b"trip_id,start_time,end_time,headway_secs,exact_times\nT2,08:00:00,09:00:00,600,1\nT2,12:00:00,11:00:00,1,0\n",
+            b"trip_id,start_time,end_time,headway_secs,exact_times
+T2,08:00:00,09:00:00,600,1
+T2,12:00:00,11:00:00,1,0
+",
         ),
         ..small_feed()
     };
@@ -315,8 +327,12 @@ fn has_events(feed: &Feed, trip: u32, events: &[Event]) -> bool {
 
 #[test]
 fn trips_with_a_record_of_no_stop_are_set_aside(rt: HostRuntime) {
-    let times =
-        b"trip_id,arrival_time,departure_time,stop_id,stop_sequence\nT1,08:00:00,08:00:00,A,1\nT1,,,,2\nT2,08:15:00,08:15:00,B,1\nT2,08:30:00,08:30:00,C,2\n";
+    let times = b"trip_id,arrival_time,departure_time,stop_id,stop_sequence
+T1,08:00:00,08:00:00,A,1
+T1,,,,2
+T2,08:15:00,08:15:00,B,1
+T2,08:30:00,08:30:00,C,2
+";
     assert!(rt; reads(rt.alloc(), Expected::OneAside, feed_of(STOPS, TRIPS, times)));
 }
 
@@ -334,7 +350,11 @@ fn has_open_times(feed: &Feed) -> bool {
 #[test]
 fn open_times_and_pickups(rt: HostRuntime) {
     let times =
-        b"trip_id,arrival_time,departure_time,stop_id,stop_sequence,pickup_type,drop_off_type\nT1,09:00:00,,A,1,,1\nT1,,,B,2,1,0\nT1,,09:10:00,C,3,2,01\n";
+        b"trip_id,arrival_time,departure_time,stop_id,stop_sequence,pickup_type,drop_off_type
+T1,09:00:00,,A,1,,1
+T1,,,B,2,1,0
+T1,,09:10:00,C,3,2,01
+";
     assert!(rt;
         reads(
             rt.alloc(),

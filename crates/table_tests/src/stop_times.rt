@@ -87,7 +87,11 @@ fn times_between_timed_events(rt: HostRuntime) -> Result<(), Fail> {
     ];
     let holds = gives(
         rt.alloc(),
-        b"trip_id,stop_id,stop_sequence,arrival_time,departure_time\nT1,A,1,09:00:00,09:00:00\nT1,B,2,,\nT1,C,3,09:10:00,09:10:00\n",
+        b"trip_id,stop_id,stop_sequence,arrival_time,departure_time
+T1,A,1,09:00:00,09:00:00
+T1,B,2,,
+T1,C,3,09:10:00,09:10:00
+",
         &expected,
         &[],
         0,
@@ -106,7 +110,12 @@ fn times_between_are_rounded_down(rt: HostRuntime) -> Result<(), Fail> {
     ];
     let holds = gives(
         rt.alloc(),
-        b"trip_id,stop_id,stop_sequence,arrival_time,departure_time\nT2,C,40,09:00:10,09:00:20\nT2,A,10,08:59:00,09:00:00\nT2,B,30,,\nT2,B,20,  ,\n",
+        b"trip_id,stop_id,stop_sequence,arrival_time,departure_time
+T2,C,40,09:00:10,09:00:20
+T2,A,10,08:59:00,09:00:00
+T2,B,30,,
+T2,B,20,  ,
+",
         &[],
         &expected,
         0,
@@ -124,7 +133,11 @@ fn one_time_gives_the_other(rt: HostRuntime) -> Result<(), Fail> {
     ];
     let both = gives(
         rt.alloc(),
-        b"trip_id,stop_id,stop_sequence,arrival_time,departure_time\nT1,A,1,,09:00:00\nT1,B,2,09:01:00\nT1,C,3, 9:02:00 ,09:03:00\n",
+        b"trip_id,stop_id,stop_sequence,arrival_time,departure_time
+T1,A,1,,09:00:00
+T1,B,2,09:01:00
+T1,C,3, 9:02:00 ,09:03:00
+",
         &expected,
         &[],
         0,
@@ -150,7 +163,13 @@ fn one_forbids_boarding_and_alighting(rt: HostRuntime) -> Result<(), Fail> {
     expected[3].alight = false;
     let holds = gives(
         rt.alloc(),
-        b"trip_id,stop_id,stop_sequence,arrival_time,pickup_type,drop_off_type\nT1,A,1,09:00:00,1,0\nT1,A,2,09:00:00,01,2\nT1,A,3,09:00:00,,1\nT1,A,4,09:00:00,3, 001 \nT1,A,5,09:00:00, ,4294967295\n",
+        b"trip_id,stop_id,stop_sequence,arrival_time,pickup_type,drop_off_type
+T1,A,1,09:00:00,1,0
+T1,A,2,09:00:00,01,2
+T1,A,3,09:00:00,,1
+T1,A,4,09:00:00,3, 001 
+T1,A,5,09:00:00, ,4294967295
+",
         &expected,
         &[],
         0,
@@ -194,7 +213,10 @@ fn leading_zeros(rt: HostRuntime) -> Result<(), Fail> {
     expected[1].board = false;
     let holds = gives(
         alloc,
-        b"trip_id,stop_id,stop_sequence,arrival_time,pickup_type\nT1,B,00000000000000000000000000000000000000004294967295,09:00:00,00000000000000000000000000000000000000001\nT1,A,00000000000000000000000000000000000000002,09:00:00,\n",
+        b"trip_id,stop_id,stop_sequence,arrival_time,pickup_type
+T1,B,00000000000000000000000000000000000000004294967295,09:00:00,00000000000000000000000000000000000000001
+T1,A,00000000000000000000000000000000000000002,09:00:00,
+",
         &expected,
         &[],
         0,

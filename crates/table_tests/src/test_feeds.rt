@@ -10,12 +10,18 @@ pub(crate) const STOPS: &[u8] = b"stop_id,stop_name\nA,Alpha\nB,Beta\nC,Gamma\n"
 pub(crate) const ROUTES: &[u8] = b"route_id,route_type\nR1,3\nR2,3\n";
 
 pub(crate) const CALENDAR: &[u8] =
-    b"service_id,monday,tuesday,wednesday,thursday,friday,saturday,sunday,start_date,end_date\nMON,1,0,0,0,0,0,0,20260504,20260531\n";
+    b"service_id,monday,tuesday,wednesday,thursday,friday,saturday,sunday,start_date,end_date
+MON,1,0,0,0,0,0,0,20260504,20260531
+";
 
 pub(crate) const TRIPS: &[u8] = b"route_id,service_id,trip_id\nR1,MON,T1\nR2,MON,T2\n";
 
-pub(crate) const TIMES: &[u8] =
-    b"trip_id,arrival_time,departure_time,stop_id,stop_sequence\nT1,08:00:00,08:00:00,A,1\nT1,08:10:00,08:10:00,B,2\nT2,08:15:00,08:15:00,B,1\nT2,08:30:00,08:30:00,C,2\n";
+pub(crate) const TIMES: &[u8] = b"trip_id,arrival_time,departure_time,stop_id,stop_sequence
+T1,08:00:00,08:00:00,A,1
+T1,08:10:00,08:10:00,B,2
+T2,08:15:00,08:15:00,B,1
+T2,08:30:00,08:30:00,C,2
+";
 
 pub(crate) const STATIONS: &[u8] =
     b"stop_id,location_type,parent_station\nA,,S\nS,1,\nB,0,S\nC,,\nE,2,S\nT,1,\n";

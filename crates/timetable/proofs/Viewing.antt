@@ -32,8 +32,8 @@ grid_more m n F xs ys ok long here =
             get_or_append_left xs ys 0 (a * n + b) within ∙ ok.at a b lt k
         | inr ge ↦
             let e : a ≡ m = omega (arith, ge, l) in
-            let place : a * n + b ≡ length xs + b = ap (λ i. i * n + b) e ∙ ap (λ i. i + b) (sym ok.size) in
-            ap (λ i. slice_index (xs ++ ys) i) place
+            let position : a * n + b ≡ length xs + b = ap (λ i. i * n + b) e ∙ ap (λ i. i + b) (sym ok.size) in
+            ap (λ i. slice_index (xs ++ ys) i) position
             ∙ (get_or-append-add xs ys b 0 ∙ (here b k ∙ ap (λ i. F i b) (sym e)))
       ];
     }
@@ -99,18 +99,19 @@ row_long trips line ok t r d l =
     ∙ (sym same ∙ ap length (sym (events_at trips (get_or line 0 0) (get_or trips (get_or line 0 0) t) first))))
 
 -- the times of one more trip, by when it arrives or by when it departs
-row_more : (time : Event → ℕ) (trips : List Trip) (line : List ℕ) (r places : ℕ) (t : Trip) (xs : List ℕ) →
+row_more : (time : Event → ℕ) (trips : List Trip) (line : List ℕ) (r positions : ℕ) (t : Trip) (xs : List ℕ) →
     r < length line → get_or line r 0 < length trips →
-    All (λ (row : List Event). length row ≡ places) (rows_of_line trips line) →
-    IsGrid r places (λ a b. slice_index (map time (get_or (rows_of_line trips line) a [])) b) xs →
-    IsGrid (r + 1) places (λ a b. slice_index (map time (get_or (rows_of_line trips line) a [])) b)
+    All (λ (row : List Event). length row ≡ positions) (rows_of_line trips line) →
+    IsGrid r positions (λ a b. slice_index (map time (get_or (rows_of_line trips line) a [])) b) xs →
+    IsGrid (r + 1) positions (λ a b. slice_index (map time (get_or (rows_of_line trips line) a [])) b)
     (xs ++ map time (get_or trips (get_or line r 0) t).events)
-row_more time trips line r places t xs l within all ok =
+row_more time trips line r positions t xs l within all ok =
     let l' : r < length (rows_of_line trips line) = omega (arith, l, length-map line (events_of trips)) in
     let read = row_of trips line r l ∙ events_read trips (get_or line r 0) t within in
     let events = (get_or trips (get_or line r 0) t).events in
-    let long : length events ≡ places = subst (λ (row : List Event). length row ≡ places) read (all r [] l') in
-    grid_more r places (λ a b. slice_index (map time (get_or (rows_of_line trips line) a [])) b) xs (map time events) ok
+    let long : length events ≡ positions = subst (λ (row : List Event). length row ≡ positions) read (all r [] l') in
+    grid_more r positions (λ a b. slice_index (map time (get_or (rows_of_line trips line) a [])) b) xs
+    (map time events) ok
     (length-map events time ∙ long)
     (λ b k. ap (λ (row : List Event). slice_index (map time row) b) (sym read))
 
@@ -126,25 +127,25 @@ departures_added xs events = map-append (λ (t : Times). t.depart) xs (map times
     ∙ ap (λ (ys : List ℕ). departures_in xs ++ ys) (map-map (λ (t : Times). t.depart) times_at events)
 
 -- the times of one more trip
-pub times_more : (trips : List Trip) (line : List ℕ) (r places : ℕ) (t : Trip) (xs : List Times) → r < length line →
-    get_or line r 0 < length trips → All (λ (row : List Event). length row ≡ places) (rows_of_line trips line) →
-    AreTimes r places (rows_of_line trips line) xs →
-    AreTimes (r + 1) places (rows_of_line trips line) (xs ++ map times_at (get_or trips (get_or line r 0) t).events)
-times_more trips line r places t xs l within all ok =
+pub times_more : (trips : List Trip) (line : List ℕ) (r positions : ℕ) (t : Trip) (xs : List Times) → r < length line →
+    get_or line r 0 < length trips → All (λ (row : List Event). length row ≡ positions) (rows_of_line trips line) →
+    AreTimes r positions (rows_of_line trips line) xs →
+    AreTimes (r + 1) positions (rows_of_line trips line) (xs ++ map times_at (get_or trips (get_or line r 0) t).events)
+times_more trips line r positions t xs l within all ok =
     let events = (get_or trips (get_or line r 0) t).events in
     record {
-      arrivals = subst (λ (ns : List ℕ). IsGrid (r + 1) places (arrives (rows_of_line trips line)) ns)
-          (sym (arrivals_added xs events)) (row_more (λ (e : Event). e.arrive) trips line r places t
+      arrivals = subst (λ (ns : List ℕ). IsGrid (r + 1) positions (arrives (rows_of_line trips line)) ns)
+          (sym (arrivals_added xs events)) (row_more (λ (e : Event). e.arrive) trips line r positions t
           (arrivals_in xs) l within all ok.arrivals);
-      departures = subst (λ (ns : List ℕ). IsGrid (r + 1) places (departs (rows_of_line trips line)) ns)
-          (sym (departures_added xs events)) (row_more (λ (e : Event). e.depart) trips line r places t
+      departures = subst (λ (ns : List ℕ). IsGrid (r + 1) positions (departs (rows_of_line trips line)) ns)
+          (sym (departures_added xs events)) (row_more (λ (e : Event). e.depart) trips line r positions t
           (departures_in xs) l within all ok.departures);
     }
 
-pub times_none : (places : ℕ) (rows : List (List Event)) → AreTimes 0 places rows []
-times_none places rows = record {
-  arrivals = grid_none places (arrives rows);
-  departures = grid_none places (departs rows);
+pub times_none : (positions : ℕ) (rows : List (List Event)) → AreTimes 0 positions rows []
+times_none positions rows = record {
+  arrivals = grid_none positions (arrives rows);
+  departures = grid_none positions (departs rows);
 }
 
 -- a time of an event of the rows
@@ -156,7 +157,7 @@ time_at time rows r j e h =
     ap (λ (x : List Event). slice_index (map time x) j) row
     ∙ (get_or-map time h.row j e 0 within ∙ ap time (get_or_from_slice_get h.row j e e h.event))
 
--- the call at a place is that of each trip's event there
+-- the call at a position is that of each trip's event there
 alike_at : (trips : List Trip) (line : Line) → IsLine trips line → (t : Trip) (none : Event) (calls : List Call) →
     IsCalls trips line calls → (r j : ℕ) (e : Event) (c : Call) → IsAt (rows_of_line trips line) r j e →
     slice_get calls j ≡ Some c → (c.stop.0 ≡ e.stop.0) × (c.board ≡ e.board) × (c.alight ≡ e.alight)
@@ -206,7 +207,7 @@ view_of_line trips line calls times ok t none is_calls is_times =
     let j_in = λ (r j : ℕ) (e : Event) (h : IsAt rows r j e). let w = slice_get_within h.row j e h.event in
     let inside : j < length first = omega (arith, w, long r h.row h.trip) in inside in
     record {
-      places = λ r row h. long r row h ∙ sym calls_long;
+      positions = λ r row h. long r row h ∙ sym calls_long;
       size = sym (length-map times (λ (x : Times). x.arrive))
           ∙ (is_times.arrivals.size ∙ (ap (λ n. length line * n) (sym calls_long)
           ∙ ap (λ n. n * length calls) (sym rows_long)));

@@ -32,7 +32,7 @@ departures_in times = map (λ t. t.depart) times
 -- each as it is
 -- told
 pub record IsToldView (told : ℕ → ℕ) (rows : List (List Event)) (calls : List Call) (times : List Times) : Type 0 where
-  pub places : (r : ℕ) (row : List Event) → slice_get rows r ≡ Some row → length row ≡ length calls
+  pub positions : (r : ℕ) (row : List Event) → slice_get rows r ≡ Some row → length row ≡ length calls
   pub size : length times ≡ length rows * length calls
   pub stop : (r j : ℕ) (e : Event) (c : Call) → IsAt rows r j e → slice_get calls j ≡ Some c → c.stop.0 ≡ e.stop.0
   pub board : (r j : ℕ) (e : Event) (c : Call) → IsAt rows r j e → slice_get calls j ≡ Some c → c.board ≡ e.board

@@ -51,8 +51,8 @@ pub record AreLines (trips : List Trip) (lines : List Line) : Type 0 where
   pub all : (trip : ℕ) → trip < length trips → IsInLine lines trip
 
 -- an event at a position of one of a line's trips
-abbrev pub IsPlace : List Trip → List Line → ℕ → ℕ → Event → Type 0
-IsPlace trips lines line k event = (trip : ℕ) × IsIn lines line trip × IsEvent trips trip k event
+abbrev pub IsPosition : List Trip → List Line → ℕ → ℕ → Event → Type 0
+IsPosition trips lines line k event = (trip : ℕ) × IsIn lines line trip × IsEvent trips trip k event
 
 -- one of the first n events of a line allows to board at the stop
 abbrev pub BoardsBefore : ℕ → ℕ → List Event → ℕ → ℕ × ℕ → Type 0
@@ -69,9 +69,9 @@ FirstBoards trips lines n p x = (line : ℕ) × (row : Line) × (i : ℕ) × (t 
 pub record AreBoarded (stops : ℕ) (trips : List Trip) (lines : List Line) (boarded : List (List (ℕ × ℕ))) : Type 0 where
   pub size : length boarded ≡ stops
   pub complete : (line k : ℕ) (e : Event) →
-      IsPlace trips lines line k e → IsTrue e.board → IsIn boarded e.stop.0 (line, k)
+      IsPosition trips lines line k e → IsTrue e.board → IsIn boarded e.stop.0 (line, k)
   pub sound : (p line k : ℕ) → IsIn boarded p (line, k) →
-      (e : Event) × IsPlace trips lines line k e × (e.stop.0 ≡ p) × IsTrue e.board
+      (e : Event) × IsPosition trips lines line k e × (e.stop.0 ≡ p) × IsTrue e.board
 
 -- the lines, for each stop where they can be boarded, and for each line its events laid out for a scan
 pub record LineTable : Type 0 where

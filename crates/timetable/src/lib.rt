@@ -4,8 +4,8 @@
 //! - `trips`: [`StopNo`], [`Event`], [`Events`] and [`Trip`].
 //! - `footpaths`: [`Feet`], at most one footpath from each stop to each other, and the change time of each stop.
 //! - `networks`: [`Network`], what journeys are made in. `lines`: [`Lines`], its trips by the way they go; `views` lays
-//!   their times out. `serving`: which trips serve a stop. `last_arrivals`: how late rides end. `flat_lists`: lists in one
-//!   piece of memory.
+//!   their times out. `serving`: which trips serve a stop. `last_arrivals`: how late rides end. `flat_lists`: lists in
+//!   one piece of memory.
 //! - `faults`: [`NetFault`], why footpaths or a network were refused.
 //! - `limits`: how large all of these may be.
 //! - `least`: [`NEVER`], the label of a stop that isn't reached, and the law that least durations are unique.

@@ -47,8 +47,8 @@ impl Lines {
         let order = order_of(alloc, trips)?;
         let grouped = grouped(alloc, trips, &order)?;
         let lines = FlatLists::new(alloc, &grouped)?;
-        let places = boarded_of(alloc, stops, trips, &lines)?;
-        let boarded = FlatLists::new(alloc, &places)?;
+        let positions = boarded_of(alloc, stops, trips, &lines)?;
+        let boarded = FlatLists::new(alloc, &positions)?;
         let views = views_of(alloc, trips, &lines)?;
         let calls = FlatLists::new(alloc, &views.0)?;
         let times = FlatLists::new(alloc, &views.1)?;
@@ -256,7 +256,7 @@ fn boarded_of(
     let mut boarded = no_lists(alloc, stops as usize)?;
     for line in 0..lines.count() {
         let first = lines.list(line)[0];
-        add_places(
+        add_positions(
             &mut boarded,
             line as u32,
             trips[first as usize].events.as_slice(),
@@ -266,7 +266,7 @@ fn boarded_of(
 }
 
 /// Adds the positions of a line where one may board.
-fn add_places(
+fn add_positions(
     boarded: &mut Vec<Vec<(u32, u32)>>,
     line: u32,
     events: &[Event],

@@ -67,8 +67,9 @@ fn calls_of(alloc: Global, events: &[Event]) -> Result<Vec<Call>, AllocError>
 /// Trip by trip, in the order of the line, its times.
 fn times_of(alloc: Global, trips: &[Trip], line: &[u32]) -> Result<Vec<Times>, AllocError>
     requires in_range { All (λ i. i < length trips.now) line.now }
-    ensures { IfOk result (λ made. (places : ℕ) → All (λ row. length row ≡ places) (rows_of_line trips.now line.now) →
-        AreTimes (length line.now) places (rows_of_line trips.now line.now) made.items) }
+    ensures { IfOk result (λ made. (positions : ℕ) → All (λ row. length row ≡ positions)
+        (rows_of_line trips.now line.now) →
+        AreTimes (length line.now) positions (rows_of_line trips.now line.now) made.items) }
 {
     let mut times = Vec::new(alloc);
     for trip in line {

@@ -132,7 +132,7 @@ impl<'a> RecordReader for TimeReader<'a> {
         table.likely.note(trip_stop.trip, trip_stop.stop);
         let count = table.likely.count();
         let trip_times = &mut table.trips[trip_stop.trip];
-        let Some(place) = trip_times.place_of(trip_stop.sequence) else {
+        let Some(position) = trip_times.position_of(trip_stop.sequence) else {
             return Err(FeedFault::at(FileName::StopTimes, at, What::DuplicateId));
         };
         let visit = match self.visit(row) {
@@ -147,7 +147,7 @@ impl<'a> RecordReader for TimeReader<'a> {
             board: visit.board,
             alight: visit.alight,
         };
-        trip_times.insert(place, stop_time, count)?;
+        trip_times.insert(position, stop_time, count)?;
         Ok(())
     }
 }

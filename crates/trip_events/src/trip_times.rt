@@ -66,7 +66,7 @@ impl TripTimes {
     }
 
     /// Where a record with this sequence number belongs, none where there is one already.
-    pub fn place_of(&self, sequence: u32) -> Option<usize>
+    pub fn position_of(&self, sequence: u32) -> Option<usize>
         ensures taken { IfNone result (has_number sequence self.now ≡ true) }
         ensures free { IfSome result (λ i. FitsAt i sequence self.now) }
     {
@@ -80,18 +80,18 @@ impl TripTimes {
     /// Puts a record where its sequence number belongs. With the first one room is made for `likely` records in all.
     pub fn insert(
         &mut self,
-        place: usize,
+        position: usize,
         stop_time: StopTime,
         likely: usize,
     ) -> Result<(), AllocError>
-        requires fits { FitsAt place stop_time.sequence self.old }
+        requires fits { FitsAt position stop_time.sequence self.old }
         ensures put { OnOk result (self.new ≡ insert_in_order stop_time self.old) }
         ensures err { OnErr result (self.new ≡ self.old) }
     {
         if self.items.is_empty() {
             self.items.reserve(likely)?;
         }
-        insert_at(&mut self.items, place, stop_time)
+        insert_at(&mut self.items, position, stop_time)
     }
 
     /// The records, in a vector.
@@ -105,20 +105,20 @@ impl TripTimes {
 
 fn insert_at(
     trip_times: &mut VecDeque<StopTime>,
-    place: usize,
+    position: usize,
     stop_time: StopTime,
 ) -> Result<(), AllocError>
-    requires fits { FitsAt place stop_time.sequence trip_times.old.items }
+    requires fits { FitsAt position stop_time.sequence trip_times.old.items }
     requires ascending { IsAscending 0 trip_times.old.items }
     ensures put { OnOk result (trip_times.new.items ≡ insert_in_order stop_time trip_times.old.items) }
     ensures ascending { IsAscending 0 trip_times.new.items }
     ensures err { OnErr result (trip_times.new.items ≡ trip_times.old.items) }
 {
     // Last, nothing has to move.
-    if place == trip_times.len() {
+    if position == trip_times.len() {
         trip_times.push_back(stop_time)?;
     } else {
-        trip_times.insert(place, stop_time)?;
+        trip_times.insert(position, stop_time)?;
     }
     Ok(())
 }

@@ -1,4 +1,4 @@
--- The trips of a line, place by place, in one lane.
+-- The trips of a line, position by position, in one lane.
 use Rattle.std.proofs.Common.{◌≡◌, ℕ, ◌+◌, ◌<◌, ◌≤◌, ◌⊎◌, inl, inr, false, List, [], length, get_or, slice_index}
 use Rattle.std.proofs.Common.{slice_get, Some, IsTrue, refl, sym, ◌∙◌, arith}
 use Rattle.std.proofs.lemmas.Bool.{cases_lt}
@@ -15,7 +15,7 @@ use Rattle.trip_lanes.proofs.Again.{nothing_changes}
 use Rattle.trip_lanes.proofs.Carry.{lane_falls}
 use Rattle.trip_lanes.proofs.Falling.{falls_none, falls_then, lowers_of}
 
--- a trip makes one event at a place
+-- a trip makes one event at a position
 pub one_event : (rows : List (List Event)) (r i j : ℕ) (e f : Event) → i ≡ j → IsAt rows r i e → IsAt rows r j f → e ≡ f
 one_event rows r i j e f same a b =
     let row = same_Some _ _ (sym a.trip ∙ b.trip) in
@@ -26,18 +26,18 @@ one_event rows r i j e f same a b =
 pub slice_get_row : (rows : List (List Event)) (r j : ℕ) (e : Event) → IsAt rows r j e → r < length rows
 slice_get_row rows r j e at = slice_get_within rows r at.row at.trip
 
--- each trip of the line makes an event at each place
-pub at_place : (base cap : ℕ) (rows : List (List Event)) (calls : List Call) (times : List Times) →
+-- each trip of the line makes an event at each position
+pub at_position : (base cap : ℕ) (rows : List (List Event)) (calls : List Call) (times : List Times) →
     IsCutViewOf base cap rows calls times → (r j : ℕ) → r < length rows → j < length calls →
     (e : Event) × IsAt rows r j e
-at_place base cap rows calls times view r j below inside =
+at_position base cap rows calls times view r j below inside =
     let row = get_or rows r [] in
     let trip : slice_get rows r ≡ Some row = slice_get-get_or rows r [] below in
-    let long = view.places r row trip in
+    let long = view.positions r row trip in
     let none : Event = record { stop = record { 0 = 0 }; arrive = 0; depart = 0; board = false; alight = false } in
     (get_or row j none, record { row = row; trip = trip; event = slice_get-get_or row j none (omega (arith, long)) })
 
--- somebody boards trip r at one of the first x places
+-- somebody boards trip r at one of the first x positions
 pub record BoardsRow (ready : List ℕ) (rows : List (List Event)) (r x : ℕ) : Type 0 where
   pub j : ℕ
   pub on : Event
@@ -46,12 +46,12 @@ pub record BoardsRow (ready : List ℕ) (rows : List (List Event)) (r x : ℕ) :
   pub may_board : IsTrue on.board
   pub in_time : slice_index ready on.stop.0 ≤ on.depart
 
--- as IsPast, of the places below y
+-- as IsPast, of the positions below y
 pub record PastTo (rows : List (List Event)) (ride : List ℕ) (r j y : ℕ) : Type 0 where
   pub label : (i : ℕ) (e : Event) → j < i → i < y → IsAt rows r i e → IsTrue e.alight →
       slice_index ride e.stop.0 ≤ e.arrive
 
--- a lane after boarding at the places below x, and alighting at those below y
+-- a lane after boarding at the positions below x, and alighting at those below y
 pub record LineAt (before ready : List ℕ) (rows : List (List Event)) (from x y : ℕ) (old now : List ℕ) (On : ℕ →
     Type 0) : Type 0 where
   pub falls : FallsTo (CarriesRow ready rows) old now
@@ -181,12 +181,12 @@ module _ (before ready : List ℕ) (rows : List (List Event)) (from : ℕ) where
       LineAt before ready rows from x (x + 1) old now On → LineAt before ready rows from (x + 1) (x + 1) old now On
   line_stay x none s = line_board x (λ r on. inl on) (λ r on. (r, omega arith, on)) (λ r c. absurd (none r c)) s
 
-  -- all places
-  pub line_past : {On : ℕ → Type 0} (x places : ℕ) {old now : List ℕ} →
-      ((r : ℕ) (row : List Event) → slice_get rows r ≡ Some row → length row ≡ places) → places ≤ x →
+  -- all positions
+  pub line_past : {On : ℕ → Type 0} (x positions : ℕ) {old now : List ℕ} →
+      ((r : ℕ) (row : List Event) → slice_get rows r ≡ Some row → length row ≡ positions) → positions ≤ x →
       LineAt before ready rows from x x old now On → (r j : ℕ) → from ≤ j → IsCaught before ready rows r j →
       IsPast rows now r j
-  line_past x places long all s r j low c =
+  line_past x positions long all s r j low c =
       let inside : (i : ℕ) (e : Event) → IsAt rows r i e → i < x = λ i e at. let l = long r at.row at.trip in
       let w = slice_get_within at.row i e at.event in omega arith in
       let p = s.past r j low (inside j c.on c.from) c in

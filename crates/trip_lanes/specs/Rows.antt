@@ -7,7 +7,7 @@ use Rattle.timetable.specs.declared.views.Times.{Times}
 use Rattle.timetable.specs.LineViews.{IsAt, IsToldView}
 use Rattle.trip_lanes.specs.Cut.{cut}
 
--- no trip overtakes another: a later one arrives and departs no earlier at any place
+-- no trip overtakes another: a later one arrives and departs no earlier at any position
 pub record NoneOvertakes (rows : List (List Event)) : Type 0 where
   pub arrive : (r s j : ℕ) (e f : Event) → r ≤ s → IsAt rows r j e → IsAt rows s j f → e.arrive ≤ f.arrive
   pub depart : (r s j : ℕ) (e f : Event) → r ≤ s → IsAt rows r j e → IsAt rows s j f → e.depart ≤ f.depart
@@ -32,7 +32,7 @@ pub record CarriesRow (ready : List ℕ) (rows : List (List Event)) (p end : ℕ
   pub stop : off.stop.0 ≡ p
   pub time : off.arrive ≡ end
 
--- at place j of trip r somebody who is ready by the departure, and was not before it, may board
+-- at position j of trip r somebody who is ready by the departure, and was not before it, may board
 pub record IsCaught (before ready : List ℕ) (rows : List (List Event)) (r j : ℕ) : Type 0 where
   pub on : Event
   pub from : IsAt rows r j on
@@ -40,10 +40,10 @@ pub record IsCaught (before ready : List ℕ) (rows : List (List Event)) (r j : 
   pub in_time : slice_index ready on.stop.0 ≤ on.depart
   pub fresh : on.depart < slice_index before on.stop.0
 
--- trip r arrives no earlier than the label at each place after j where travellers may alight
+-- trip r arrives no earlier than the label at each position after j where travellers may alight
 pub record IsPast (rows : List (List Event)) (ride : List ℕ) (r j : ℕ) : Type 0 where
   pub label : (i : ℕ) (e : Event) → j < i → IsAt rows r i e → IsTrue e.alight → slice_index ride e.stop.0 ≤ e.arrive
 
--- nobody newly catches a trip of the line before this place
+-- nobody newly catches a trip of the line before this position
 abbrev pub NoneCaughtBefore : List ℕ → List ℕ → List (List Event) → ℕ → Type 0
 NoneCaughtBefore before ready rows from = (r j : ℕ) → IsCaught before ready rows r j → from ≤ j

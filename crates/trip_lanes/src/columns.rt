@@ -11,9 +11,9 @@ pub(crate) struct Column<'a> {
     /// The times of all trips, trip by trip, and of each trip position by position.
     pub times: &'a [Times],
     /// How many positions the line has.
-    pub places: usize,
+    pub positions: usize,
     /// The position, counted from 0.
-    pub place: usize,
+    pub position: usize,
     /// How many trips the line has.
     pub trips: usize,
     /// From when on times are counted, in seconds.
@@ -36,7 +36,7 @@ pub(crate) fn arrival(column: Column<'_>, rank: usize) -> u32
     requires rank { rank < column.trips }
     ensures { result ≡ arrives column.entry rank }
 {
-    let time = column.times[rank * column.places + column.place].arrive;
+    let time = column.times[rank * column.positions + column.position].arrive;
     told(time, column.base, column.cap)
 }
 
@@ -46,6 +46,6 @@ pub(crate) fn departure(column: Column<'_>, rank: usize) -> u32
     requires rank { rank < column.trips }
     ensures { result ≡ departs column.entry rank }
 {
-    let time = column.times[rank * column.places + column.place].depart;
+    let time = column.times[rank * column.positions + column.position].depart;
     told(time, column.base, column.cap)
 }

@@ -71,17 +71,17 @@ pub fn scan_line<R: Row>(
         (lane l (labels_in R.labels labels.entry.ready.now)) rows r j →
         IsPast rows (lane l (labels_in R.labels ride.new)) r j }
 {
-    let places = line.calls.len();
+    let positions = line.calls.len();
     let mut run = R::all(R::NEVER);
     let mut span = Span { first: 0, end: 0 };
     let mut near = line.trips;
-    for place in from..places {
-        let call = line.calls[place];
+    for position in from..positions {
+        let call = line.calls[position];
         let stop = call.stop.0 as usize;
         let column = Column {
             times: line.times,
-            places,
-            place,
+            positions,
+            position,
             trips: line.trips,
             base: line.base,
             cap: R::NEVER,
@@ -93,7 +93,7 @@ pub fn scan_line<R: Row>(
         if call.board && fall.low < fall.top {
             let first = first_from(column, fall.low, near);
             near = first;
-            run = board_place(column, first, fall, labels.ready[stop], run);
+            run = board_position(column, first, fall, labels.ready[stop], run);
             span = run.span();
         }
     }
@@ -165,7 +165,7 @@ fn forth(column: Column<'_>, time: u32, start: usize) -> usize
 
 /// Takes the lanes aboard at a position that newly catch a trip there: of all trips from the first on that somebody
 /// catches.
-fn board_place<R: Row>(column: Column<'_>, first: usize, fall: Fall, ready: R, run: R) -> R
+fn board_position<R: Row>(column: Column<'_>, first: usize, fall: Fall, ready: R, run: R) -> R
     requires column { IsColumn column }
     requires cap { column.cap ≡ R.NEVER }
     requires few { column.trips ≤ R.NEVER }

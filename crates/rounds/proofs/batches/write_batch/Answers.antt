@@ -15,10 +15,10 @@ returns-clause-written g c l p h there within =
     let whole : 16 * (lanes / 16) ≡ lanes = g.met.R.Row.sixteens in
     let parts : c.LANES-parts.result / 16 ≡ lanes / 16 = ap (λ (x : ℕ). x / 16) c.LANES-parts.ensures in
     let begun : c.LANES-parts.result / 16 * b ≡ lanes / 16 * b = ap (λ (x : ℕ). x * b) parts in
-    let place : (lanes * b + l) / 16 ≡ lanes / 16 * b + l / 16 = part_of lanes b l whole in
+    let position : (lanes * b + l) / 16 ≡ lanes / 16 * b + l / 16 = part_of lanes b l whole in
     let which : (lanes * b + l) % 16 ≡ l % 16 = lane_of lanes b l whole in
     let same : 16 * (l / 16) + l % 16 ≡ l = omega arith in
-    let at : c.LANES-parts.result / 16 * b + l / 16 ≡ (lanes * b + l) / 16 = omega (arith, begun, place) in
+    let at : c.LANES-parts.result / 16 * b + l / 16 ≡ (lanes * b + l) / 16 = omega (arith, begun, position) in
     let w = c.loop-part.invariant.written (l / 16) (l % 16) p (omega (
       arith,
       h,

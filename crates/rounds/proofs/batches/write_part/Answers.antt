@@ -6,7 +6,7 @@ use Rattle.trip_lanes.specs.Lane.{lane, labels_in}
 use Rattle.trip_lanes.specs.Since.{IsSinceTo}
 use Rattle.rounds.specs.State.{arrival}
 use Rattle.rounds.proofs.BatchRows.{lower_arrival}
-use Rattle.rounds.proofs.Filling.{place_before, placed, apart}
+use Rattle.rounds.proofs.Filling.{position_before, placed, apart}
 use Rattle.rounds.proofs.batches.write_part.Goals as goal
 
 pub since-requires-clause-fits : goal.since-requires-clause-fits
@@ -63,8 +63,8 @@ loop-stop-preserved g c =
     let in_ready : s < length c.args.tables.now.ready.items =
     omega (arith, c.loop-stop-test.true, ap length c.as_slice-ready.ensures.value) in
     let in_ride : s < length ride = omega (arith, in_ready, c.requires.same, ap length c.as_slice-ride.ensures.value) in
-    let place = place_before w s (length c.args.tables.now.ready.items) b in_ready c.requires.at in
-    let room : s * w + b < length rows = omega (arith, place, old.same, c.requires.room) in
+    let position = position_before w s (length c.args.tables.now.ready.items) b in_ready c.requires.at in
+    let room : s * w + b < length rows = omega (arith, position, old.same, c.requires.room) in
     record {
       same = length-set rows (s * w + b) times ∙ old.same;
       written = λ l p h below. elim (cases_lt p s) [

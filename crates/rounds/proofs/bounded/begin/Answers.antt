@@ -7,7 +7,7 @@ use Rattle.trip_lanes.specs.Lane.{labels_in}
 use Rattle.rounds.proofs.Bounding.{one_more_row}
 use Rattle.rounds.proofs.bounded.begin.Goals as goal
 
--- lists that are alike at each place
+-- lists that are alike at each position
 alike : {A : Type 0} (xs ys : List A) → length xs ≡ length ys →
     ((p : ℕ) (none : A) → p < length xs → get_or xs p none ≡ get_or ys p none) → xs ≡ ys
 alike [] [] same each = refl

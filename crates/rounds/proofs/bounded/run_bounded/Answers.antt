@@ -40,7 +40,7 @@ unfallen_same lanes old new was is l p marks long low h none = elim (cases_lt p 
       get_or_past (lane l old) p 0 (omega arith) ∙ sym (get_or_past (lane l new) p 0 (omega (arith, low.same_length)))
 ]
 
--- what is kept of labels has a place for each stop
+-- what is kept of labels has a position for each stop
 kept_long : (base never k : ℕ) (n : Net) (o : Whereabouts) (x : Kept) →
     LaneStateTo never (cut_net base never n) o k (bounds_in base never x.ride.items)
     (bounds_in base never x.ready.items) → (length x.ride.items ≡ n.stops) × (length x.ready.items ≡ n.stops)

@@ -5,6 +5,6 @@ abbrev pub invariant-loop-line : goal.invariant-loop-line
 invariant-loop-line l =
     record {
       earlier : (line : ℕ) → slice_index l.due line ≤ slice_index l.initial.due line;
-      new : (k line place : ℕ) → k < l.line-index → slice_get l.row k ≡ Some (line, place) →
-          slice_index l.due line ≤ place;
+      new : (k line position : ℕ) → k < l.line-index → slice_get l.row k ≡ Some (line, position) →
+          slice_index l.due line ≤ position;
     }

@@ -5,5 +5,5 @@ use Rattle.rounds.proofs.due.note_lines.Given as goal
 
 abbrev pub invariant-loop-stop : goal.invariant-loop-stop
 invariant-loop-stop v =
-    (p line place : ℕ) (f : Fall) → p < v.stop → IsIn v.lines.boarded p (line, place) → slice_get v.falls p ≡ Some f →
-    f.low < f.top → slice_index v.due line ≤ place
+    (p line position : ℕ) (f : Fall) → p < v.stop → IsIn v.lines.boarded p (line, position) →
+    slice_get v.falls p ≡ Some f → f.low < f.top → slice_index v.due line ≤ position

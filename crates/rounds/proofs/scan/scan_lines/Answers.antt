@@ -14,8 +14,8 @@ use Rattle.rounds.proofs.scan.scan_lines.Goals as goal
 use Rattle.rounds.proofs.scan.scan_lines.Goals.{then-first-calls_of, else-first-calls_of}
 
 pub note_lines-requires-clause-in_range : goal.note_lines-requires-clause-in_range
-note_lines-requires-clause-in_range g c p line place b = let r =
-    boarded_line (length c.args.ride.now) c.args.round.trips.now c.args.round.lines.now c.requires.lines p line place
+note_lines-requires-clause-in_range g c p line position b = let r =
+    boarded_line (length c.args.ride.now) c.args.round.trips.now c.args.round.lines.now c.requires.lines p line position
     b in omega (arith, c.requires.due)
 
 pub scan_trips-requires-clause-fits : goal.scan_trips-requires-clause-fits
@@ -93,7 +93,7 @@ loop-i-preserved g c =
             c.note_lines.ensures r j caught in
             let own = cut_at_got base cap c.args.round.trips.now line r j caught.on caught.from in
             let inside = slice_get_within own.1.row j own.0 own.1.event in
-            let long = view.places r own.1.row own.1.trip in
+            let long = view.positions r own.1.row own.1.trip in
             let past = w.if-first-calls_of.false in
             omega arith in
             let none = none_catches trips lists.lines cut_are x line at_x before ready outside now settled in

@@ -1,4 +1,5 @@
-use Rattle.std.proofs.Common.{◌≡◌, ◌+◌, ◌≤◌, ◌++◌, ℕ, List, length, take, drop, slice_index, append-nil, ap, sym, ◌∙◌, arith}
+use Rattle.std.proofs.Common.{◌≡◌, ◌+◌, ◌≤◌, ◌++◌, ℕ, List, length, take, drop, slice_index, append-nil}
+use Rattle.std.proofs.Common.{ap, sym, ◌∙◌, arith}
 use Rattle.std.proofs.Math.ListN.{drop_of_length-le}
 use Rattle.std.proofs.Math.Seq.{take-length}
 use Rattle.timetable.proofs.last_arrivals.last_arrivals_of.Goals as goal
@@ -16,12 +17,24 @@ returns c =
     let many : length ridden ≡ length c.in_ok-ridden.ridden.items =
     omega (arith, ap length c.as_mut_slice.ensures.value, c.note_rides.auto.ridden) in
     let noted : c.as_slice.result.now ≡ ridden =
-    c.as_slice.ensures.value ∙ come_back c.in_ok-ridden.ridden.len c.in_ok-ridden.ridden.items ridden c.in_ok-ridden.ridden.ok.0 many in
+    c.as_slice.ensures.value ∙ come_back c.in_ok-ridden.ridden.len c.in_ok-ridden.ridden.items
+    ridden c.in_ok-ridden.ridden.ok.0 many in
     let size : length last ≡ length c.in_ok-last.last.items =
     omega (arith, ap length c.as_mut_slice-2.ensures.value, c.note_walks.auto.last) in
     let same = come_back c.in_ok-last.last.len c.in_ok-last.last.items last c.in_ok-last.last.ok.0 size in
     rw same (record {
-      size = omega (arith, size, many, ap length noted, c.in_ok-last.last.ok.0, c.in_ok-ridden.ridden.ok.0, c.in_ok-last.ensures.len, c.in_ok-ridden.ensures.len, c.deref.ensures.len, c.stops.ensures);
+      size = omega (
+        arith,
+        size,
+        many,
+        ap length noted,
+        c.in_ok-last.last.ok.0,
+        c.in_ok-ridden.ridden.ok.0,
+        c.in_ok-last.ensures.len,
+        c.in_ok-ridden.ensures.len,
+        c.deref.ensures.len,
+        c.stops.ensures,
+      );
       ride = λ p time a.
           let low : time ≤ slice_index ridden p = c.note_rides.ensures.last p time a in
           let up = rw noted at (c.note_walks.ensures.rides p) in

@@ -24,7 +24,8 @@ loop-trip-preserved c =
             let s : x ≡ i = omega arith in
             let same : t ≡ c.trip-item.result =
             is_at c.args.trips.now x i t c.trip-item.result c.loop-trip-test.true s at ∙ sym c.trip-item.is in
-            let events : c.as_slice.result.now ≡ t.events = c.as_slice.ensures ∙ ap (λ (u : Trip). u.events) (sym same) in
+            let events : c.as_slice.result.now ≡ t.events = c.as_slice.ensures ∙ ap (λ (u : Trip). u.events)
+            (sym same) in
             told.here k e (ap (λ (v : List Event). slice_get v k) events ∙ at_k) may
       ];
       early = told.early;
@@ -34,6 +35,7 @@ pub returns-clause-last : goal.returns-clause-last
 returns-clause-last c p time a =
     let within = slice_get_within c.args.trips.now a.trip a.t a.runs in
     let low : a.off.arrive ≤ slice_index c.loop-trip.ridden a.off.stop.0 =
-    c.loop-trip.invariant.here a.trip a.i a.t a.off (omega (arith, c.loop-trip-test.false)) a.runs a.ride.to a.ride.may_alight in
+    c.loop-trip.invariant.here a.trip a.i a.t a.off (omega (arith, c.loop-trip-test.false)) a.runs
+    a.ride.to a.ride.may_alight in
     let here : a.off.arrive ≤ slice_index c.loop-trip.ridden p = rw a.stop at low in
     omega (arith, here, a.time_is)

@@ -14,7 +14,7 @@ use Rattle.trip_lanes.specs.Ranks.{Rides, Ascend}
 use Rattle.trip_lanes.specs.Rows.{IsCutViewOf, NoneOvertakes, IsCaught}
 use Rattle.trip_lanes.proofs.Lower.{row_lane}
 use Rattle.trip_lanes.proofs.Carry.{lane_falls, marks_then}
-use Rattle.trip_lanes.proofs.Lining.{LineAt, at_place, slice_get_row, line_alight, line_pass, line_board, line_stay}
+use Rattle.trip_lanes.proofs.Lining.{LineAt, at_position, slice_get_row, line_alight, line_pass, line_board, line_stay}
 use Rattle.trip_lanes.proofs.Lining.{line_past}
 use Rattle.trip_lanes.proofs.line_scan.scan_line.Goals as goal
 use Rattle.trip_lanes.proofs.line_scan.scan_line.Goals.{then-call+then-span, else-call}
@@ -29,9 +29,9 @@ no_call = record { stop = record { 0 = 0 }; board = false; alight = false }
 abbrev no_fall : Fall
 no_fall = record { low = 0; high = 0; top = 0 }
 
-pub loop-place-preserved : goal.loop-place-preserved
-loop-place-preserved g c =
-    let x = c.loop-place.place in
+pub loop-position-preserved : goal.loop-position-preserved
+loop-position-preserved g c =
+    let x = c.loop-position.position in
     let lanes = g.R.Row.LANES in
     let never = g.R.Row.NEVER in
     let base = c.args.line.base in
@@ -41,19 +41,19 @@ loop-place-preserved g c =
     let calls = c.args.line.calls.now in
     let times = c.args.line.times.now in
     let here = get_or calls x no_call in
-    let at_x : slice_get calls x ≡ Some here = slice_get-get_or calls x no_call c.loop-place-test.true in
-    let old = c.loop-place.invariant in
-    let stop : here.stop.0 < length c.args.ride.now = c.requires.stops x no_call c.loop-place-test.true in
+    let at_x : slice_get calls x ≡ Some here = slice_get-get_or calls x no_call c.loop-position-test.true in
+    let old = c.loop-position.invariant in
+    let stop : here.stop.0 < length c.args.ride.now = c.requires.stops x no_call c.loop-position-test.true in
     let fall : Fall = get_or c.args.labels.falls.now here.stop.0 no_fall in
     let at_fall : slice_get c.args.labels.falls.now here.stop.0 ≡ Some fall =
     slice_get-get_or c.args.labels.falls.now here.stop.0 no_fall (omega (arith, c.requires.falls)) in
     let told : (rows : List (List Event)) → IsCutViewOf base never rows calls times →
-    IsCutViewOf base c.NEVER-in-loop-place.result rows calls times =
-    λ rows view. rw c.NEVER-in-loop-place.ensures view in
+    IsCutViewOf base c.NEVER-in-loop-position.result rows calls times =
+    λ rows view. rw c.NEVER-in-loop-position.ensures view in
     let got_off : (rows : List (List Event)) → IsCutViewOf base never rows calls times →
     length rows ≡ c.args.line.trips → NoneOvertakes rows → (k : ℕ) → k < lanes →
     LineAt (lane k given) (lane k now) rows c.args.from x (x + 1) (lane k (labels_in labels c.args.ride.now))
-    (lane k (labels_in labels c.if-call.ride)) (Rides never (labels c.loop-place.run) k) =
+    (lane k (labels_in labels c.if-call.ride)) (Rides never (labels c.loop-position.run) k) =
     λ rows view size order k h.
     let before = lane k given in
     let ready = lane k now in
@@ -66,15 +66,15 @@ loop-place-preserved g c =
             arith,
             stop,
             old.stops,
-            length-map (labels_in labels c.loop-place.ride) (λ v. slice_index v k),
-            length-map c.loop-place.ride labels,
+            length-map (labels_in labels c.loop-position.ride) (λ v. slice_index v k),
+            length-map c.loop-position.ride labels,
           ))
           (λ r on.
-          let e = at_place base never rows calls times view r x (omega (
+          let e = at_position base never rows calls times view r x (omega (
             arith,
             old.ranks k r h on,
             size,
-          )) c.loop-place-test.true in
+          )) c.loop-position-test.true in
           let least = w.arrivals.ensures.least k r h on in
           let is = (told rows view).arrival r x e.0 e.1 in
           (e.0, e.1, omega (arith, least, is)))
@@ -108,11 +108,11 @@ loop-place-preserved g c =
     record {
       stops = elim c.if-call.branch [ then-call+then-span w ↦ search rules | else-call w ↦ search rules ];
       ranks = elim c.if-call-2.branch [
-        | then-call-2+then-fall w ↦ rw w.run-is w.board_place-run.ensures.ranks
+        | then-call-2+then-fall w ↦ rw w.run-is w.board_position-run.ensures.ranks
         | else-call-2 w ↦ rw w.run-is old.ranks
       ];
       runs = elim c.if-call-2.branch [
-        | then-call-2+then-fall w ↦ rw w.run-is w.board_place-run.ensures.fits
+        | then-call-2+then-fall w ↦ rw w.run-is w.board_position-run.ensures.fits
         | else-call-2 w ↦ rw w.run-is old.runs
       ];
       spans = elim c.if-call-2.branch [
@@ -121,13 +121,13 @@ loop-place-preserved g c =
       ];
       ends = elim c.if-call-2.branch [
         | then-call-2+then-fall w ↦ rw w.span-is
-            (w.span-span.ensures.ends c.args.line.trips w.board_place-run.ensures.ranks)
+            (w.span-span.ensures.ends c.args.line.trips w.board_position-run.ensures.ranks)
         | else-call-2 w ↦ rw w.span-is old.ends
       ];
       fell = λ k p h. elim c.if-call.branch [
         | then-call+then-span w ↦ rw w.ride-is (
             let a = old.fell k p h in
-            let b = lane_falls (lane k (labels_in labels c.loop-place.ride))
+            let b = lane_falls (lane k (labels_in labels c.loop-position.ride))
             (lane k (labels_in labels w.lower_row.new.labels)) (w.lower_row.ensures.lanes k h) p in
             omega arith)
         | else-call w ↦ rw w.ride-is (old.fell k p h)
@@ -136,10 +136,10 @@ loop-place-preserved g c =
         | then-call+then-span w ↦ rw (
           w.ride-is,
           w.marked-is,
-        ) (marks_then (labels_in labels c.args.ride.now) (labels_in labels c.loop-place.ride)
-            (labels_in labels w.lower_row.new.labels) c.args.marked.now c.loop-place.marked w.lower_row.new.marked
+        ) (marks_then (labels_in labels c.args.ride.now) (labels_in labels c.loop-position.ride)
+            (labels_in labels w.lower_row.new.labels) c.args.marked.now c.loop-position.marked w.lower_row.new.marked
             (λ l p h. old.fell l p h)
-            (λ l p h. lane_falls (lane l (labels_in labels c.loop-place.ride))
+            (λ l p h. lane_falls (lane l (labels_in labels c.loop-position.ride))
             (lane l (labels_in labels w.lower_row.new.labels)) (w.lower_row.ensures.lanes l h) p)
             old.marks w.lower_row.ensures.marks)
         | else-call w ↦ rw (w.ride-is, w.marked-is) old.marks
@@ -150,8 +150,8 @@ loop-place-preserved g c =
           elim c.if-call-2.branch [
             | then-call-2+then-fall w ↦
                 let event : (r : ℕ) → r < length rows → (e : Event) × IsAt rows r x e =
-                λ r below. at_place base never rows calls times view r x below c.loop-place-test.true in
-                let up : Ascend (λ r. cut base c.NEVER-in-loop-place.result
+                λ r below. at_position base never rows calls times view r x below c.loop-position-test.true in
+                let up : Ascend (λ r. cut base c.NEVER-in-loop-position.result
                 (slice_index (departures_in times) (r * length calls + x))) c.args.line.trips = λ r s le below.
                 let e = event r (omega (arith, size)) in
                 let f = event s (omega (arith, size)) in
@@ -166,10 +166,10 @@ loop-place-preserved g c =
                 let fallen : HasFallen (slice_index before here.stop.0) (slice_index (labels is) k) fall =
                 rw read at ((c.requires.fallen k h).fall here.stop.0 fall at_fall) in
                 rw w.run-is (line_board before ready rows c.args.from x
-                (λ r on. elim (w.board_place-run.ensures.sound k r h on) [
+                (λ r on. elim (w.board_position-run.ensures.sound k r h on) [
                   | inl o ↦ inl o
                   | inr b ↦
-                      let below : r < length rows = omega (arith, w.board_place-run.ensures.ranks k r h on, size) in
+                      let below : r < length rows = omega (arith, w.board_position-run.ensures.ranks k r h on, size) in
                       let e = event r below in
                       let d = (told rows view).departure r x e.0 e.1 in
                       let soon : slice_index ready here.stop.0 ≤ e.0.depart = omega (arith, b, read) in
@@ -182,14 +182,14 @@ loop-place-preserved g c =
                         in_time = rw (← view.stop r x e.0 here e.1 at_x) soon;
                       })
                 ])
-                (λ r on. w.board_place-run.ensures.kept k r h on)
+                (λ r on. w.board_position-run.ensures.kept k r h on)
                 (λ r on.
                 let w' = slice_get_row rows r x on.on on.from in
                 let d = (told rows view).departure r x on.on on.from in
                 let at_stop = view.stop r x on.on here on.from at_x in
                 let soon = rw (← at_stop) at on.in_time in
                 let fresh = rw (← at_stop) at on.fresh in
-                w.board_place-run.ensures.caught k r (slice_index before here.stop.0) h up fallen (omega (
+                w.board_position-run.ensures.caught k r (slice_index before here.stop.0) h up fallen (omega (
                   arith,
                   size,
                   w',
@@ -206,6 +206,6 @@ loop-place-preserved g c =
 pub returns-clause-caught : goal.returns-clause-caught
 returns-clause-caught g c rows view size order l r j h low caught =
     line_past (lane l (labels_in g.R.Row.labels c.args.labels.before.now))
-    (lane l (labels_in g.R.Row.labels c.args.labels.ready.now)) rows c.args.from c.loop-place.place
-    (length c.args.line.calls.now) view.places c.loop-place-test.false
-    (c.loop-place.invariant.lanes rows view size order l h) r j low caught
+    (lane l (labels_in g.R.Row.labels c.args.labels.ready.now)) rows c.args.from c.loop-position.position
+    (length c.args.line.calls.now) view.positions c.loop-position-test.false
+    (c.loop-position.invariant.lanes rows view size order l h) r j low caught

@@ -6,8 +6,8 @@ use Rattle.trip_lanes.specs.Rows.{IsCutViewOf, NoneOvertakes}
 use Rattle.trip_lanes.proofs.Lining.{LineAt}
 use Rattle.trip_lanes.proofs.line_scan.scan_line.Given as goal
 
-abbrev pub invariant-loop-place : goal.invariant-loop-place
-invariant-loop-place g l =
+abbrev pub invariant-loop-position : goal.invariant-loop-position
+invariant-loop-position g l =
     record {
       stops : length l.ride ≡ length l.initial.ride;
       ranks : (k r : ℕ) → k < g.R.Row.LANES → Rides g.R.Row.NEVER (g.R.Row.labels l.run) k r → r < l.line.trips;
@@ -21,7 +21,7 @@ invariant-loop-place g l =
       lanes : (rows : List (List Event)) → IsCutViewOf l.line.base g.R.Row.NEVER rows l.line.calls.now
           l.line.times.now → length rows ≡ l.line.trips → NoneOvertakes rows →
           (k : ℕ) → k < g.R.Row.LANES → LineAt (lane k (labels_in g.R.Row.labels l.labels.before.now))
-          (lane k (labels_in g.R.Row.labels l.labels.ready.now)) rows l.fn.from l.place l.place
+          (lane k (labels_in g.R.Row.labels l.labels.ready.now)) rows l.fn.from l.position l.position
           (lane k (labels_in g.R.Row.labels l.initial.ride)) (lane k (labels_in g.R.Row.labels l.ride))
           (Rides g.R.Row.NEVER (g.R.Row.labels l.run) k);
     }

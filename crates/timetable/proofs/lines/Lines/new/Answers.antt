@@ -21,7 +21,7 @@ returns c =
     rw (c.in_ok-lines.ensures ∙ ap lists_of c.deref-2.ensures.value) c.in_ok-grouped.ensures in
     record {
       lines = lined;
-      boarded = rw (c.in_ok-boarded.ensures ∙ ap lists_of c.deref-3.ensures.value) c.in_ok-places.ensures;
+      boarded = rw (c.in_ok-boarded.ensures ∙ ap lists_of c.deref-3.ensures.value) c.in_ok-positions.ensures;
       viewed = views_of_lines trips c.in_ok-lines.lines c.in_ok-boarded.boarded c.in_ok-calls.calls c.in_ok-times.times
           lined.line
           (rw (c.in_ok-calls.ensures ∙ ap lists_of c.deref-4.ensures.value) c.in_ok-views.ensures.calls)

@@ -6,7 +6,7 @@ use timetable::StopNo;
 ///
 /// Stops are numbered from 0 in file order, and so are stations.
 #[derive(Clone, Copy, Debug, PartialEq, Eq)]
-pub enum Place {
+pub enum Location {
     /// Where vehicles stop: `location_type` empty or 0.
     Stop(StopNo),
     /// A station, by its number: `location_type` 1. It stands for the stops whose `parent_station` it is.

@@ -1,6 +1,6 @@
 use Rattle.std.proofs.Common.{◌<◌, inl, inr, slice_index, arith}
 use Rattle.std.proofs.lemmas.Bool.{cases_eq, cases_lt}
-use Rattle.trip_lanes.proofs.line_scan.board_place.Goals as goal
+use Rattle.trip_lanes.proofs.line_scan.board_position.Goals as goal
 
 pub returns-then-depart-fall-2-clause-ranks : goal.returns-then-depart-fall-2-clause-ranks
 returns-then-depart-fall-2-clause-ranks g c l r h on =

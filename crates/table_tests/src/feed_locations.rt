@@ -1,7 +1,7 @@
 //! The locations of a feed and the walks between them: `location_type`, `parent_station` and `transfers.txt`.
 
 use crate::test_feeds::{expect_fault, feed_in, small_feed, station_feed};
-use gtfs_tables::{Feed, FeedBytes, FileName, Link, Place, What};
+use gtfs_tables::{Feed, FeedBytes, FileName, Link, Location, What};
 use std::alloc::Global;
 use timetable::StopNo;
 
@@ -12,9 +12,9 @@ const UNKNOWN: &[u8] =
 // What a test expects of a feed.
 #[derive(Clone, Copy)]
 enum Expected {
-    Places,
+    Locations,
     Stations,
-    StopsOfPlaces,
+    StopsOfLocations,
     TwoLinks,
     ThreeUnused,
     NoTransfers,
@@ -31,9 +31,9 @@ fn reads(alloc: Global, expected: Expected, files: FeedBytes<'static>) -> bool {
 
 fn is_as_expected(feed: &Feed, expected: Expected) -> bool {
     match expected {
-        Expected::Places => has_places(feed),
+        Expected::Locations => has_locations(feed),
         Expected::Stations => has_stations(feed),
-        Expected::StopsOfPlaces => has_stops_of_places(feed),
+        Expected::StopsOfLocations => has_stops_of_locations(feed),
         Expected::TwoLinks => has_two_links(feed),
         Expected::ThreeUnused => has_three_unused(feed),
         Expected::NoTransfers => has_no_transfers(feed),
@@ -42,33 +42,33 @@ fn is_as_expected(feed: &Feed, expected: Expected) -> bool {
 
 // Whether an identifier is that of a station with these children.
 fn has_children(feed: &Feed, id: &[u8], stops: &[StopNo]) -> bool {
-    match feed.place(id) {
-        Some(Place::Station(station)) => feed.children(station) == stops,
+    match feed.location(id) {
+        Some(Location::Station(station)) => feed.children(station) == stops,
         _ => false,
     }
 }
 
 // Whether a location stands for these stops.
 fn stands_for(feed: &Feed, id: &[u8], stops: &[StopNo]) -> bool {
-    match feed.place(id) {
-        Some(place) => feed.stops_at(place).as_slice() == stops,
+    match feed.location(id) {
+        Some(location) => feed.stops_at(location).as_slice() == stops,
         None => false,
     }
 }
 
 // Whether each of six identifiers is that of its location.
-fn has_places(feed: &Feed) -> bool {
-    feed.place(b"A") == Some(Place::Stop(StopNo(0)))
-        && feed.place(b"B") == Some(Place::Stop(StopNo(1)))
-        && feed.place(b"S") == Some(Place::Station(0))
-        && feed.place(b"T") == Some(Place::Station(1))
-        && feed.place(b"E") == Some(Place::Other)
-        && feed.place(b"Z") == None
+fn has_locations(feed: &Feed) -> bool {
+    feed.location(b"A") == Some(Location::Stop(StopNo(0)))
+        && feed.location(b"B") == Some(Location::Stop(StopNo(1)))
+        && feed.location(b"S") == Some(Location::Station(0))
+        && feed.location(b"T") == Some(Location::Station(1))
+        && feed.location(b"E") == Some(Location::Other)
+        && feed.location(b"Z") == None
 }
 
 #[test]
-fn a_place_is_a_stop_a_station_or_another(rt: HostRuntime) {
-    assert!(rt; reads(rt.alloc(), Expected::Places, station_feed()));
+fn a_location_is_a_stop_a_station_or_another(rt: HostRuntime) {
+    assert!(rt; reads(rt.alloc(), Expected::Locations, station_feed()));
 }
 
 // Whether the station S has the children A and B, T has none, and A is no station.
@@ -84,29 +84,29 @@ fn a_station_between_its_children_has_both(rt: HostRuntime) {
 }
 
 // Whether the station S, the stop C and the entrance E stand for their stops.
-fn has_stops_of_places(feed: &Feed) -> bool {
+fn has_stops_of_locations(feed: &Feed) -> bool {
     stands_for(feed, b"S", &[StopNo(0), StopNo(1)])
         && stands_for(feed, b"C", &[StopNo(2)])
         && stands_for(feed, b"E", &[])
 }
 
 #[test]
-fn a_place_stands_for_its_stops(rt: HostRuntime) {
-    assert!(rt; reads(rt.alloc(), Expected::StopsOfPlaces, station_feed()));
+fn a_location_stands_for_its_stops(rt: HostRuntime) {
+    assert!(rt; reads(rt.alloc(), Expected::StopsOfLocations, station_feed()));
 }
 
 // Whether a walk leads from A to B, and one from the station S to C.
 fn has_two_links(feed: &Feed) -> bool {
     let walk = Link {
-        origin: Place::Stop(StopNo(0)),
-        target: Place::Stop(StopNo(1)),
+        origin: Location::Stop(StopNo(0)),
+        target: Location::Stop(StopNo(1)),
         seconds: 60,
         changes: false,
         at: 2,
     };
     let change = Link {
-        origin: Place::Station(0),
-        target: Place::Stop(StopNo(2)),
+        origin: Location::Station(0),
+        target: Location::Stop(StopNo(2)),
         seconds: 120,
         changes: false,
         at: 4,

@@ -1,7 +1,7 @@
 use Rattle.std.proofs.Common.{ℕ, ◌<◌, ◌≤◌, ◌⊎◌, slice_index}
 use Rattle.trip_lanes.specs.Columns.{departs}
 use Rattle.trip_lanes.specs.Ranks.{Rides, RidesBy}
-use Rattle.trip_lanes.proofs.line_scan.board_place.Given as goal
+use Rattle.trip_lanes.proofs.line_scan.board_position.Given as goal
 
 abbrev pub invariant-loop-rank : goal.invariant-loop-rank
 invariant-loop-rank g l =
