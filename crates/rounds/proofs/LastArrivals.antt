@@ -1,27 +1,27 @@
 -- No journey ends at a stop after its last arrival, or the longest walk from its start.
-use Rattle.std.proofs.Common.{◌≡◌, ℕ, ◌+◌, ◌<◌, ◌≤◌, ◌⊎◌, inl, inr, List, [], ◌∷◌, slice_index, sym, ap, ◌∙◌, arith}
+use Rattle.std.proofs.Common.{◌≡◌, ℕ, ◌+◌, ◌<◌, ◌≤◌, ◌⊎◌, inl, inr, List, [], ◌∷◌, slice_index, sym, ap}
+use Rattle.std.proofs.Common.{refl, ◌∙◌, arith}
 use Rattle.std.proofs.lemmas.Bool.{cases_lt}
 use Rattle.timetable.specs.declared.trips.Trip.{Trip}
 use Rattle.timetable.specs.declared.limits.TheConstants.{MOST_FOOT_SECONDS}
 use Rattle.timetable.specs.Networks.{Net, IsNet}
 use Rattle.timetable.specs.Journeys.{Whereabouts, Leg, Ride, Walk, Journey, Rides, rides, IsReached}
-use Rattle.timetable.specs.LastArrivals.{Alights, AreLastArrivals}
+use Rattle.timetable.specs.LastArrivals.{Arrives, AreLastArrivals}
 use Rattle.timetable.proofs.Known.{foot_short}
 use Rattle.rounds.specs.Last.{AreLastFrom}
 
--- a last leg that is a ride alights where the journey ends
-alights : {trips : List Trip} {trip j i ready : ℕ} {a b : Whereabouts} → Rides trips trip j i a ready b →
-    Alights trips b.stop b.time
-alights {trips} {trip} {j} {i} r =
+-- a last leg that is a ride arrives where the journey ends
+arrives : {trips : List Trip} {trip j i ready : ℕ} {a b : Whereabouts} → Rides trips trip j i a ready b →
+    Arrives trips b.stop b.time
+arrives {trips} {trip} {j} {i} r =
     record {
       trip = trip;
       t = r.t;
-      j = j;
-      i = i;
-      on = r.on;
+      k = i;
       off = r.off;
       runs = r.runs;
-      ride = r.ride;
+      at = r.ride.to;
+      may_alight = r.ride.may_alight;
       stop = sym (ap (λ (v : Whereabouts). v.stop) r.there);
       time_is = sym (ap (λ (v : Whereabouts). v.time) r.there);
     }
@@ -32,10 +32,17 @@ module _ (n : Net) (o : Whereabouts) where
       Journey n o legs b → 0 < rides legs → b.time ≤ slice_index last b.stop
   ends_by_last last ok [] b j some = absurd (omega (arith, some))
   ends_by_last last ok (Ride trip j i ∷ before) b (a, jo, r) some =
-      ok.ride b.stop b.time (alights r)
+      ok.comes b.stop b.time (inr (arrives r))
   ends_by_last last ok (Walk ∷ []) b j some = absurd (omega (arith, some))
   ends_by_last last ok (Walk ∷ Ride trip j i ∷ before) b (a, (c, jo, r), no_walk, w) some =
-      let late = ok.walk a.stop b.stop w.seconds a.time (alights r) w.foot in
+      let late = ok.walks b.stop (a.time + w.seconds) (record {
+        from = a.stop;
+        arrival = a.time;
+        seconds = w.seconds;
+        comes = inr (arrives r);
+        foot = w.foot;
+        time_is = refl;
+      }) in
       omega (arith, w.there)
   ends_by_last last ok (Walk ∷ Walk ∷ before) b (a, jo, no_walk, w) some = absurd no_walk
 

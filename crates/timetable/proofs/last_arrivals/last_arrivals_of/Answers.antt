@@ -1,7 +1,8 @@
 use Rattle.std.proofs.Common.{◌≡◌, ◌+◌, ◌≤◌, ◌++◌, ℕ, List, length, take, drop, slice_index, append-nil}
-use Rattle.std.proofs.Common.{ap, sym, ◌∙◌, arith}
+use Rattle.std.proofs.Common.{ap, sym, ◌∙◌, inl, inr, subst, arith}
 use Rattle.std.proofs.Math.ListN.{drop_of_length-le}
 use Rattle.std.proofs.Math.Seq.{take-length}
+use Rattle.timetable.specs.LastArrivals.{Comes}
 use Rattle.timetable.proofs.last_arrivals.last_arrivals_of.Goals as goal
 
 -- what was lent whole comes back whole
@@ -35,13 +36,24 @@ returns c =
         c.deref.ensures.len,
         c.stops.ensures,
       );
-      ride = λ p time a.
+      comes = λ p time a.
           let low : time ≤ slice_index ridden p = c.note_rides.ensures.last p time a in
           let up = rw noted at (c.note_walks.ensures.rides p) in
           omega arith;
-      walk = λ q p seconds time a foot.
-          let low : time ≤ slice_index ridden q = c.note_rides.ensures.last q time a in
-          let up = rw noted at (c.note_walks.ensures.walks q p seconds foot) in
-          omega arith;
+      walks = λ p time w.
+          let low : w.arrival ≤ slice_index ridden w.from = c.note_rides.ensures.last w.from w.arrival w.comes in
+          let up = rw noted at (c.note_walks.ensures.walks w.from p w.seconds w.foot) in
+          omega (arith, w.time_is);
+      some = λ p. elim (rw noted at (c.note_walks.ensures.some p)) [
+        | inl e ↦ inl (subst (λ (n : ℕ). Comes c.args.trips.now p n) (sym e) (c.note_rides.ensures.some p))
+        | inr y ↦ inr (record {
+          from = y.0;
+          arrival = slice_index ridden y.0;
+          seconds = y.1;
+          comes = c.note_rides.ensures.some y.0;
+          foot = y.2;
+          time_is = y.3;
+        })
+      ];
       early = c.note_walks.ensures.early;
     })

@@ -30,6 +30,13 @@ loop-stop-preserved c =
             let same = same_Some foot.0 c.leaving.result.now (sym (rw e at foot.2) ∙ c.leaving.ensures) in
             rw e (told.here foot.1 p seconds (rw same at foot.3))
       ];
+      some = λ p. elim (told.told p) [
+        | inl e ↦ elim (before.some p) [
+          | inl none ↦ inl (e ∙ none)
+          | inr y ↦ inr (y.0, y.1, y.2, y.3 ∙ sym e)
+        ]
+        | inr y ↦ inr (x, y.1, (c.leaving.result.now, y.0, c.leaving.ensures, y.2), y.3)
+      ];
       early = told.early;
     }
 
