@@ -95,11 +95,11 @@ one_value : 1 ≤ (unwrap_or_range None).start_inclusive
 one_value = omega arith
 
 -- the argument that the rule at a position is of
-position : (xs : List Arg) (k : ℕ) (r : Rule) → slice_get (map rule_of xs) k ≡ Some r
+rule_at : (xs : List Arg) (k : ℕ) (r : Rule) → slice_get (map rule_of xs) k ≡ Some r
     → (d : Arg) × (k < length xs) × (rule_of (slice_index_or xs k d) ≡ r)
-position [] k r e = let bad : None ≡ Some r = e in cc
-position (x ∷ xs) zero r e = (x, omega arith, ap (λ o. unwrap_or o r) e)
-position (x ∷ xs) (suc k) r e = let p = position xs k r e in (p.0, omega arith, p.2)
+rule_at [] k r e = let bad : None ≡ Some r = e in cc
+rule_at (x ∷ xs) zero r e = (x, omega arith, ap (λ o. unwrap_or o r) e)
+rule_at (x ∷ xs) (suc k) r e = let p = rule_at xs k r e in (p.0, omega arith, p.2)
 
 pub required_text : (c : Command) (m : ArgMatches) (a : App) (id : Text) (k : ℕ) → IsParsedFrom c m → app_of c ≡ a
     → slice_get a.top.rules k ≡ Some (needed id) → is_fit a id k ≡ true
@@ -107,7 +107,7 @@ pub required_text : (c : Command) (m : ArgMatches) (a : App) (id : Text) (k : �
 required_text c m a id k parsed app_is there fit =
     let xs = args_of c in
     let rules : map rule_of xs ≡ a.top.rules = ap (λ (b : App). b.top.rules) app_is in
-    let found = position xs k (needed id) (ap (λ rs. slice_get rs k) rules ∙ there) in
+    let found = rule_at xs k (needed id) (ap (λ rs. slice_get rs k) rules ∙ there) in
     let d = found.0 in
     let arg = slice_index_or xs k d in
     let is : rule_of arg ≡ needed id = found.2 in

@@ -23,24 +23,24 @@ differs x [] s id all e = cc e
 differs x (y ∷ ids) zero id all e = let is : y ≡ id = cc e in ap (bytes_eq x) (sym is) ∙ all.0
 differs x (y ∷ ids) (suc s) id all e = differs x ids s id all.1 e
 
-position : (ids : List (List ℕ)) (s : ℕ) (id : List ℕ) → IsDistinct bytes_eq ids → slice_get ids s ≡ Some id →
+found_at : (ids : List (List ℕ)) (s : ℕ) (id : List ℕ) → IsDistinct bytes_eq ids → slice_get ids s ≡ Some id →
     (position_or_len (bytes_eq id) ids ≡ s) × (s < length ids)
 unfolding IsDistinct
-position [] s id apart e = cc e
-position (x ∷ ids) zero id apart e =
+found_at [] s id apart e = cc e
+found_at (x ∷ ids) zero id apart e =
     let is : x ≡ id = cc e in
     let here : bytes_eq id x ≡ true = same id x (sym is) in
     (rw here refl, omega arith)
-position (x ∷ ids) (suc s) id apart e =
+found_at (x ∷ ids) (suc s) id apart e =
     let other : bytes_eq id x ≡ false = flipped x id (differs x ids s id apart.0 e) in
-    let (is, lt) = position ids s id apart.1 e in
+    let (is, lt) = found_at ids s id apart.1 e in
     (rw other (omega (arith, is)), omega (arith, lt))
 
 -- the number of an identifier is its position
 pub position_of : (ids : List (List ℕ)) (s : ℕ) (id : List ℕ) → IsDistinct bytes_eq ids → slice_get ids s ≡ Some id →
     position (bytes_eq id) ids ≡ Some s
 position_of ids s id apart e =
-    let (is, lt) = position ids s id apart e in
+    let (is, lt) = found_at ids s id apart e in
     let within : nat_lt s (length ids) ≡ true = grind (arith, nat_tests) in
     rw (is, within) refl
 
