@@ -206,7 +206,7 @@ impl Collector {
     }
 
     // The scenario and the origin of a place.
-    #[tactic(auto, using(crate::proofs::Divide::some_right, crate::proofs::Divide::scenario_below, crate::proofs::Divide::origin_below, crate::proofs::Divide::joined))]
+    #[tactic(auto, using(crate::proofs::Divide::divided))]
     fn position(&self, index: usize) -> (u32, u32)
         requires { index < length self.now.rows }
         ensures scenario { result.0 < self.now.scenarios }

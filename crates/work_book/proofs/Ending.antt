@@ -1,8 +1,8 @@
 -- The first state of a board keeps the rule, and what its last state shows of the seat that closes it.
-use Rattle.std.proofs.Common.{◌≡◌, ◌==◌, ℕ, zero, suc, ◌+◌, ◌-◌, ◌<◌, ◌≤◌, List, [], ◌∷◌, Bool, true, false}
+use Rattle.std.proofs.Common.{◌≡◌, ◌==◌, ℕ, zero, suc, ◌+◌, ◌-◌, ◌<◌, ◌≤◌, List, [], ◌∷◌, Bool, true}
 use Rattle.std.proofs.Common.{slice_index, nat_lt, if◌then◌else◌, replicate, true≢false, refl, sym, ap, ◌∙◌, subst}
 use Rattle.std.proofs.Common.{zero-add, arith, not, ◌*◌, mul-le-mul_left}
-use Rattle.std.specs.List.{sum_by, All}
+use Rattle.std.specs.List.{All}
 use Rattle.std.specs.Slots.{slots_items}
 use Rattle.std.proofs.lemmas.Bool.Decides.{nat_tests}
 use Rattle.std.proofs.lemmas.List.{length-replicate}
@@ -11,7 +11,7 @@ use lib.ListN.{get_elem?}
 use Rattle.atomic_table.specs.Table.{State, opening, Final, Seen}
 use Rattle.work_book.specs.Book.{is_marked, job_among}
 use Rattle.work_book.specs.Laws.{AreDrawnOnce, AreKeptOnce}
-use Rattle.work_book.specs.Views.{knows, first_view, share_of, untold}
+use Rattle.work_book.specs.Views.{first_view, share_of}
 use Rattle.work_book.specs.Shown.{mark_of, next_of, shown}
 use Rattle.work_book.specs.Rule.{IsKept, Fits, MarksOwn}
 use Rattle.work_book.specs.Board.{Closes, AreSettledAsDrawn}

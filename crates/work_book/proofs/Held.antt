@@ -1,7 +1,7 @@
 -- The rule of a board, as sums over its views and facts about its words.
-use Rattle.std.proofs.Common.{◌≡◌, ◌≢◌, ◌==◌, ◌⊎◌, ℕ, zero, suc, ◌+◌, ◌-◌, ◌*◌, ◌<◌, ◌≤◌, List, [], ◌∷◌, ◌++◌, Bool}
-use Rattle.std.proofs.Common.{true, false, ◌||◌, length, set, get_or, slice_index, map, drop, nat_lt, if◌then◌else◌}
-use Rattle.std.proofs.Common.{unwrap_or, true≢false, refl, sym, ap, ◌∙◌, subst, ⊎_elim, inl, inr, arith, count_by}
+use Rattle.std.proofs.Common.{◌≡◌, ◌≢◌, ◌==◌, ℕ, zero, suc, ◌+◌, ◌*◌, ◌<◌, ◌≤◌, List, [], ◌∷◌, ◌++◌, Bool}
+use Rattle.std.proofs.Common.{true, false, length, set, get_or, slice_index, map, nat_lt, if◌then◌else◌}
+use Rattle.std.proofs.Common.{unwrap_or, true≢false, refl, sym, ap, ◌∙◌, subst, ⊎_elim, arith, count_by}
 use Rattle.std.specs.List.{sum_by, slice_get, list_any, All}
 use Rattle.std.proofs.lemmas.Bool.Decides.{nat_tests}
 use Rattle.std.proofs.lemmas.List.Sums.{sum_by-cons, sum_by-append}
@@ -13,7 +13,7 @@ use Rattle.atomic_table.proofs.Lists.{at_set}
 use Rattle.work_book.specs.Seat.{SeatState}
 use Rattle.work_book.specs.Book.{is_marked, job_among}
 use Rattle.work_book.specs.Laws.{drawn_in, kept_in}
-use Rattle.work_book.specs.Views.{seat_of, knows, settled_under, share_of, untold}
+use Rattle.work_book.specs.Views.{seat_of, share_of, untold}
 use Rattle.work_book.specs.Shown.{mark_of, next_of, shown}
 use Rattle.work_book.specs.Rule.{IsKept, Fits, AreNumbers, MarksOwn}
 use Rattle.work_book.specs.declared.rule.View.{View}

@@ -1,8 +1,8 @@
 -- A look, a settle and a load of any word keep the rule.
-use Rattle.std.proofs.Common.{◌≡◌, ◌≢◌, ◌⊎◌, ◌==◌, ℕ, ◌+◌, ◌-◌, ◌*◌, ◌%◌, ◌<◌, ◌≤◌, min, List, [], ◌∷◌, ◌++◌, Bool}
-use Rattle.std.proofs.Common.{true, false, ◌||◌, length, set, slice_index, map, nat_lt, if◌then◌else◌, true≢false, refl}
-use Rattle.std.proofs.Common.{sym, ap, ◌∙◌, subst, ⊎_elim, inl, inr, arith, eqb}
-use Rattle.std.specs.List.{sum_by, list_any}
+use Rattle.std.proofs.Common.{◌≡◌, ◌≢◌, ◌==◌, ℕ, ◌+◌, ◌-◌, ◌*◌, ◌<◌, ◌≤◌, min, List, [], ◌∷◌, ◌++◌, Bool}
+use Rattle.std.proofs.Common.{true, false, length, set, slice_index, refl}
+use Rattle.std.proofs.Common.{sym, ap, ◌∙◌, subst, ⊎_elim, arith, eqb}
+use Rattle.std.specs.List.{list_any}
 use Rattle.std.proofs.Math.Decide.{dec_lt}
 use Rattle.std.proofs.Math.Nat.{mod-lt}
 use Rattle.std.proofs.lemmas.Bool.Decides.{nat_tests}
@@ -18,8 +18,8 @@ use Rattle.work_book.specs.Seat.{has_drawn}
 use Rattle.work_book.specs.Book.{job_among}
 use Rattle.work_book.specs.Views.{seat_of, knows, settled_under, stepped as one_step, knowing, keeping, share_of}
 use Rattle.work_book.specs.Views.{untold}
-use Rattle.work_book.specs.Shown.{mark_of, next_of, shown}
-use Rattle.work_book.specs.Rule.{IsKept, Fits, AreNumbers, MarksOwn}
+use Rattle.work_book.specs.Shown.{mark_of, next_of}
+use Rattle.work_book.specs.Rule.{IsKept, Fits, MarksOwn}
 use Rattle.work_book.specs.Moves.{Mine, Shows, Looks, Settles, IsOnce}
 use Rattle.work_book.specs.declared.rule.View.{View}
 use Rattle.work_book.specs.declared.rule.Extent.{Extent}

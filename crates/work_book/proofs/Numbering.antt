@@ -1,6 +1,6 @@
 -- A draw keeps the rule.
-use Rattle.std.proofs.Common.{◌≡◌, ◌==◌, ℕ, zero, suc, ◌+◌, ◌-◌, ◌%◌, ◌^◌, ◌<◌, ◌≤◌, min, List, [], ◌∷◌, Bool, true}
-use Rattle.std.proofs.Common.{false, length, set, slice_index, nat_lt, if◌then◌else◌, true≢false, refl, sym, ap, ◌∙◌}
+use Rattle.std.proofs.Common.{◌≡◌, ℕ, zero, suc, ◌+◌, ◌-◌, ◌%◌, ◌^◌, ◌<◌, ◌≤◌, min, List, [], ◌∷◌, Bool, true}
+use Rattle.std.proofs.Common.{false, length, set, slice_index, if◌then◌else◌, true≢false, refl, sym, ap, ◌∙◌}
 use Rattle.std.proofs.Common.{subst, arith}
 use Rattle.std.specs.List.{sum_by, All}
 use Rattle.std.proofs.Math.Nat.{mod-eq_of_lt}

@@ -1,10 +1,9 @@
 -- What a closed board tells is what some run of a book tells.
-use Rattle.std.proofs.Common.{◌≡◌, ◌∷◌, [], ℕ, ◌*◌, ◌≤◌, List, Bool, nat_lt, if◌then◌else◌, refl, sym, ap, ◌∙◌, arith}
+use Rattle.std.proofs.Common.{◌∷◌, [], ℕ, ◌*◌, ◌≤◌, List, Bool, nat_lt, if◌then◌else◌, sym, ap, ◌∙◌, arith}
 use Rattle.std.specs.Slots.{slots_items}
 use Rattle.work_book.specs.Book.{BookState, is_marked}
-use Rattle.work_book.specs.Laws.{reached}
-use Rattle.work_book.specs.Board.{book_of, Closes}
-use Rattle.work_book.specs.Runs.{IsSomeRun, TellsTheSame}
+use Rattle.work_book.specs.Board.{book_of}
+use Rattle.work_book.specs.Runs.{IsSomeRun}
 use Rattle.work_book.specs.Shown.{next_of}
 use Rattle.work_book.specs.declared.rule.View.{View}
 use Rattle.work_book.specs.declared.shared.Closed.{Closed}

@@ -4,7 +4,7 @@ use Rattle.std.specs.List.{sum_by}
 use mathlib.Core.Option.{some}
 use lib.ListN.{get_elem?}
 use Rattle.atomic_table.specs.Table.{State}
-use Rattle.work_book.specs.Book.{BookState, job_among, is_marked}
+use Rattle.work_book.specs.Book.{BookState, job_among}
 use Rattle.work_book.specs.Laws.{AreDrawnOnce, AreKeptOnce}
 use Rattle.work_book.specs.Views.{knows, settled_under, share_of, untold}
 use Rattle.work_book.specs.Shown.{mark_of, shown}

@@ -1,5 +1,5 @@
 -- The book that the words and the views of a board show.
-use Rattle.std.specs.Prelude.{◌*◌, ◌+◌, ◌<◌, ℕ, min, map, drop, nat_lt, List, slice_index}
+use Rattle.std.specs.Prelude.{◌*◌, ◌+◌, ℕ, min, map, drop, nat_lt, List, slice_index}
 use Rattle.work_book.specs.Book.{BookState}
 use Rattle.work_book.specs.Views.{seat_of}
 use Rattle.work_book.specs.declared.rule.Extent.{Extent}

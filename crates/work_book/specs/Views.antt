@@ -1,5 +1,5 @@
 -- What a seat of a board knows, and how its calls change that.
-use Rattle.std.specs.Prelude.{◌==◌, ◌+◌, ◌-◌, ◌||◌, ◌++◌, [], ◌∷◌, ℕ, Bool, true, false, List, if◌then◌else◌}
+use Rattle.std.specs.Prelude.{◌==◌, ◌+◌, ◌-◌, ◌||◌, ◌++◌, [], ◌∷◌, ℕ, Bool, true, false, if◌then◌else◌}
 use Rattle.std.specs.List.{list_any}
 use Rattle.work_book.specs.Seat.{SeatState}
 use Rattle.work_book.specs.declared.rule.View.{View}
