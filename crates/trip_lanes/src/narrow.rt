@@ -174,7 +174,8 @@ fn of_fallen(before: Narrow, ready: Narrow, labels: Narrow, other: u16) -> Narro
         .to_array()
 }
 
-/// Eight of the labels, from eight times a part on.
+/// Eight of the labels, from eight times a part on: one register. A row is reduced and widened by registers, always
+/// inlined, since a loop over lanes in memory is compiled lane by lane.
 #[inline(always)]
 fn eight_of(labels: Narrow, part: usize) -> Eight
     requires { 8 * part + 8 ≤ 32 }
