@@ -109,7 +109,7 @@ def test_a_reader_that_has_gone_ends_it_in_silence(town: Town) -> None:
     assert ran.stderr == b""
 
 
-def test_want_of_memory_has_the_status_3(town: Town, monkeypatch: pytest.MonkeyPatch) -> None:
+def test_out_of_memory_has_the_status_3(town: Town, monkeypatch: pytest.MonkeyPatch) -> None:
     def run(_: argparse.Namespace) -> int:
         raise MemoryError
 

@@ -41,7 +41,7 @@ use Rattle.command_line.specs.declared.statuses.TheConstants.{NO_ROOM, NOT_MOVED
 abbrev pub line : List ℕ → List ℕ
 line rest = codes "ttm: " ++ rest ++ 10 ∷ []
 
--- want of memory, whatever had no room
+-- out of memory, whatever had no room
 abbrev pub no_memory : List ℕ
 no_memory = codes "out of memory"
 
@@ -80,7 +80,7 @@ what_text what.TimesGoBack = codes "times go back"
 what_text what.TooMany = codes "too many"
 what_text what.Memory = no_memory
 
--- a file that is missing has no record; want of memory has no file
+-- a file that is missing has no record; out of memory has no file
 abbrev pub feed_text : FileName → ℕ → What → List ℕ
 feed_text f at what.MissingFile = file_text f ++ codes ": " ++ what_text what.MissingFile
 feed_text f at what.Memory = no_memory
@@ -149,7 +149,7 @@ rest_of fault.Memory names = no_memory
 abbrev pub line_of : StudyFault → List (List ℕ) → List ℕ
 line_of f names = line (rest_of f names)
 
--- why a file isn't read: want of memory has no path
+-- why a file isn't read: out of memory has no path
 abbrev pub path_rest : List ℕ → ReadFault → List ℕ
 path_rest path read.Memory = no_memory
 path_rest path f = path ++ codes ": " ++ words_of f

@@ -202,8 +202,8 @@ fn runs<R: Threads + Wait + Sync>(
     Some(are_all(made))
 }
 
-/// Whether a run gave all rows. The start of a thread takes memory too, so that a run without any thread tells want of
-/// it.
+/// Whether a run gave all rows. The start of a thread takes memory too, so that a run without any thread tells that it
+/// is out of it.
 fn are_all(made: Result<Matrix, RunFault>) -> Result<bool, AllocError> {
     match made {
         Ok(matrix) => Ok(has_rows(&matrix)),

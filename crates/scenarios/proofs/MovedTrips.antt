@@ -189,7 +189,7 @@ only_memory TimesGoBack n range rise within h = absurd (h.1 rise)
 only_memory TooLarge n range rise within h = absurd (h.2 within)
 only_memory Memory n range rise within h = refl
 
--- runs that fit make a network, so that want of memory alone is left
+-- runs that fit make a network, so that out of memory alone is left
 pub memory_is_left : (feed : FeedData) → IsFeed feed →
     (scenario : ScenarioData) (runs : List Run) (feet : FeetData) (stops : ℕ) (trips : List Trip)
     → stops ≡ length feed.stops → length feet.walks ≡ length feed.stops → fits feed scenario runs ≡ true →

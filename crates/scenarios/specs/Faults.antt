@@ -1,5 +1,5 @@
 -- The faults of a scenario's file, in the order in which its records and their checks stand.
--- "What is told is the first fault: the least by record, then by check; want of memory may be told in its place."
+-- "What is told is the first fault: the least by record, then by check; out of memory may be told in its place."
 use Rattle.std.specs.Prelude.{◌≡◌, ◌⊎◌, Bool, List, [], ◌∷◌, if◌then◌else◌}
 use Rattle.table_records.specs.Faults.{IsFirst}
 use Rattle.scenarios.specs.declared.faults.ScenarioFault.{ScenarioFault}

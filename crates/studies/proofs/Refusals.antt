@@ -1,4 +1,4 @@
--- A network in which nothing can be wrong is refused for want of memory alone.
+-- A network in which nothing can be wrong is refused only where memory runs out.
 use Rattle.std.proofs.Common.{◌≡◌, ◌≤◌, ◌<◌, ℕ, All, refl, length, arith, List, []}
 use Rattle.std.proofs.lemmas.List.{length-replicate}
 use Rattle.timetable.specs.declared.trips.StopNo.{StopNo}

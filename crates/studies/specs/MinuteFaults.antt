@@ -23,7 +23,7 @@ origin_faults feed origin =
 abbrev pub minute_faults : FeedFiles → List ℕ → List FeedFault
 minute_faults files origin = feed_faults files ++ origin_faults (feed_of files) origin
 
--- the first of the faults, or want of memory
+-- the first of the faults, or out of memory
 abbrev pub Tells : StudyFault → List FeedFault → Type 0
 Tells (Feed fault) faults = feed.Tells fault faults
 Tells Memory faults = ⊤

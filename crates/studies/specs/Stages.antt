@@ -50,7 +50,7 @@ pub record AreNetworkParts (i : InputFiles) (s : SettingsData) (p : NetworkParts
   pub of_feed : All (IsRun (feed_in i)) p.runs.items
   pub walked : AreWalked i s p.feet
 
--- the first fault of the analyst's own tables, or, where they have none, of the destinations; or want of memory
+-- the first fault of the analyst's own tables, or, where they have none, of the destinations; or out of memory
 abbrev pub TellsTables : StudyFault → InputFiles → FeedData → Type 0
 TellsTables (fault.Feed e) i feed = Tells e (own_faults i feed)
 TellsTables (fault.Destinations e) i feed = (own_faults i feed ≡ []) × Tells e (destination_faults i feed)
@@ -63,13 +63,13 @@ TellsNames fault.Scenarios files = MOST_SCENARIOS ≤ length files
 TellsNames (fault.Name k) files = (length files < MOST_SCENARIOS) × IsFirst k (name_faults files)
 TellsNames _ files = ⊥
 
--- the first fault of the scenario files, or want of memory
+-- the first fault of the scenario files, or out of memory
 abbrev pub TellsEdits : StudyFault → FeedData → List NamedBytes → Type 0
 TellsEdits (fault.Scenario k e) feed files = (e.what ≡ edit.Memory) ⊎ IsFirst (k, e) (edit_faults feed 0 files)
 TellsEdits fault.Memory feed files = ⊤
 TellsEdits _ feed files = ⊥
 
--- the first fault of the networks, or want of memory
+-- the first fault of the networks, or out of memory
 abbrev pub TellsNetworks : StudyFault → FeedData → List Run → List ScenarioData → Type 0
 TellsNetworks (fault.Net k e) feed runs xs = (e ≡ net.Memory) ⊎ IsFirst (k, e) (network_faults feed runs 0 xs)
 TellsNetworks fault.Memory feed runs xs = ⊤
@@ -80,7 +80,7 @@ abbrev pub IsOfNoRun : StudyFault → Type 0
 IsOfNoRun (fault.Run e) = ⊥
 IsOfNoRun _ = ⊤
 
--- want of memory
+-- out of memory
 abbrev pub TellsText : StudyFault → Type 0
 TellsText (fault.Text e) = e ≡ text.Memory
 TellsText fault.Memory = ⊤

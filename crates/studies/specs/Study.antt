@@ -93,7 +93,7 @@ pub record IsFaultOfRun (decides : Decides) (was_told : WasTold) (e : RunFault) 
   pub means : Means i s study
   pub why : IsFaultOfNew study decides was_told s.workers s.tries e
 
--- what the files don't decide: want of memory, and a run of workers that gives no matrix
+-- what the files don't decide: out of memory, and a run of workers that gives no matrix
 abbrev pub IsNotOfFiles : Decides → WasTold → StudyFault → InputFiles → SettingsData → Type 0
 IsNotOfFiles decides was_told fault.Scenarios i s = ⊥
 IsNotOfFiles decides was_told (fault.Name k) i s = ⊥

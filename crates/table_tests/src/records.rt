@@ -202,7 +202,7 @@ fn reads_dates(rt: HostRuntime) {
 }
 
 #[test]
-fn tells_want_of_memory(rt: HostRuntime) {
+fn tells_out_of_memory(rt: HostRuntime) {
     let fault = FeedFault::at(FileName::Trips, 7, What::BadDate);
     assert!(rt; (fault.file, fault.at, fault.what) == (FileName::Trips, 7, What::BadDate));
     assert!(rt; FeedFault::from(AllocError).what == What::Memory);

@@ -39,7 +39,7 @@ pub record IsCutShort (i : InputFiles) (s : Settings) (out printed : Option (Lis
   pub text_is : IsStudyText i s text
   pub part : PutsPart out printed text
 
--- why the matrix isn't out whole: the first fault of the inputs, or want of memory, or a run of workers that left a
+-- why the matrix isn't out whole: the first fault of the inputs, or out of memory, or a run of workers that left a
 -- place
 -- without a row, and nothing is out; or the output took no more
 abbrev pub IsWhy : StudyFault → InputFiles → Settings → Option (List ℕ) → Option (List ℕ) → Type 0
@@ -96,7 +96,7 @@ EndsWell finds words out printed =
 
 -- ---- what a run of the program leaves behind, whatever its status
 
--- nothing is put out, and want of memory is told
+-- nothing is put out, and out of memory is told
 abbrev pub GivesUp : Option (List ℕ) → Option (List ℕ) → Option (List ℕ) → Option (List ℕ) → ℕ → Type 0
 GivesUp out printed err told status = (printed ≡ out) × IsShort err told status
 

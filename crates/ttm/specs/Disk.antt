@@ -1,5 +1,5 @@
 -- What a read of a path finds, by what opening the path gave.
--- "Only where there is nothing at a path no file is found. Want of memory is told as such. All else that hinders an
+-- "Only where there is nothing at a path no file is found. Out of memory is told as such. All else that hinders an
 -- opening is a
 -- read fault: a permission, a folder, a loop of links, too many open files, a broken device. Of a file that is open all
 -- bytes

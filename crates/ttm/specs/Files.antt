@@ -144,7 +144,7 @@ pub record IsUnread (finds : Finds) (asks : List Ask) (err told : Option (List �
   pub line_is : TellsLine err told (line (path_rest path fault))
   pub status_is : status ≡ read_status fault
 
--- want of memory is told, with its status
+-- out of memory is told, with its status
 pub record IsShort (err told : Option (List ℕ)) (status : ℕ) : Type 0 where
   pub line_is : PutsPrefix err told (line no_memory)
   pub status_is : status ≡ NO_ROOM
