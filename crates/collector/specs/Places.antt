@@ -4,8 +4,7 @@ use Rattle.std.specs.Prelude.{is_some, slice_index_or}
 use Rattle.collector.specs.Row.{RowData}
 
 -- the study, how many scenarios and origins there are, how many cells a share of a row has, how many shares and limits,
--- and the row at
--- each place, scenarios in the outer order
+-- and the row at each place, scenarios in the outer order
 pub record PlacesData : Type 0 where
   pub study : ℕ
   pub scenarios : ℕ

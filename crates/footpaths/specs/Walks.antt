@@ -99,8 +99,7 @@ abbrev pub lists_with : FeedData → List WalkRow → DirectLists
 lists_with feed rows = record { stops = length feed.stops; pairs = pairs_with feed rows; changes = change_times feed }
 
 -- what is wrong with a record by itself, in the order of the checks: ends without an identifier, or with that of no
--- record
--- of stops.txt, and seconds that are no number
+-- record of stops.txt, and seconds that are no number
 abbrev pub row_checks : List (List ℕ) → WalkRow → List What
 row_checks names r =
     when (is_empty r.from) what.EmptyId

@@ -23,8 +23,7 @@ pub use Rattle.table_files.specs.Days.{day_number}
 
 -- the identifiers of all locations, and what each of them is; the identifiers of the stops, each at its number, and the
 -- stops of each station; the identifiers of the routes and services; the rows of both calendars; the trips, and how
--- many of
--- them were set aside; the walks and change times that transfers.txt gives, and how many of its rows give none
+-- many of them were set aside; the walks and change times that transfers.txt gives, and how many of its rows give none
 pub record FeedData : Type 0 where
   pub names : List (List ℕ)
   pub locations : List Location
@@ -47,8 +46,7 @@ pub record IsDeparting (row : Departures) : Type 0 where
 
 -- no two stops share an identifier, nor two routes, services or trips; the limits are kept, each event is at one of the
 -- stops and within 168 hours, no trip goes back in time, and numbers of stops, stations, routes and services are those
--- of
--- the feed
+-- of the feed
 pub record IsFeed (d : FeedData) : Type 0 where
   pub few_names : length d.names ≤ MOST_STOPS
   pub few_stops : length d.stops ≤ MOST_STOPS

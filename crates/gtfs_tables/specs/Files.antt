@@ -1,7 +1,7 @@
--- What the files of a feed state, and their faults in order: by file, then by record, then by check.
+-- What the files of a feed state, and their faults in order: by file, then by record, then by check; of
+-- stop_times.txt those of whole trips last.
 -- (GTFS Schedule reference, "Dataset Files": stops.txt, routes.txt, trips.txt and stop_times.txt are required;
--- calendar.txt is
--- required unless calendar_dates.txt is there.)
+-- calendar.txt is required unless calendar_dates.txt is there.)
 use Rattle.std.specs.Prelude.{◌≤◌, ℕ, List, [], ◌∷◌, ◌++◌, length, map, Option, Some, None, is_none, option_map}
 use Rattle.std.specs.Prelude.{if◌then◌else◌}
 use Rattle.std.specs.Option.{ForSome}

@@ -11,8 +11,7 @@ use Rattle.collector.specs.Places.{MatrixData}
 use Rattle.matrix_text.specs.declared.labels.Labels.{Labels}
 
 -- the names of the scenarios, the stop of each origin, the shares of the minutes, the limits of reach in seconds, the
--- destinations, and
--- the identifiers of all stops
+-- destinations, and the identifiers of all stops
 pub record LabelData : Type 0 where
   pub scenarios : List (List ℕ)
   pub origins : List StopNo
@@ -32,8 +31,7 @@ labels_of l = record {
 }
 
 -- one name per scenario, one of the stops per origin and per destination, and as many shares, limits and destinations
--- as the matrix has
--- shares, limits and columns
+-- as the matrix has shares, limits and columns
 pub record LabelsFit (l : LabelData) (m : MatrixData) : Type 0 where
   pub scenarios : length l.scenarios ≡ m.scenarios
   pub origins : length l.origins ≡ m.origins

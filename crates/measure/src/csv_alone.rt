@@ -4,8 +4,7 @@ use csv::{ByteRecord, Reader, ReaderBuilder};
 use gtfs_tables::FeedBytes;
 use std::alloc::{AllocError, Global};
 
-/// Goes over the records of all files and gives the number of `stop_times.txt`'s, its header not
-/// counted.
+/// Goes over the records of all files and gives the number of `stop_times.txt`'s, its header not counted.
 pub(crate) fn count_feed(alloc: Global, feed: &FeedBytes<'_>) -> Result<u64, AllocError> {
     let others = [
         feed.stops,

@@ -1,7 +1,6 @@
 -- The records of a scenario's file, one by one: an action, the identifier of a route or trip, and seconds for a shift.
 -- (The product's own format, a table like those of a feed: columns `action`, `id` and `seconds`. Actions and
--- identifiers are
--- compared byte by byte.)
+-- identifiers are compared byte by byte.)
 use Rattle.std.specs.Prelude.{◌==◌, ◌+◌, ◌++◌, ℕ, ℤ, List, [], ◌∷◌, Option, Some, None, codes, is_none, map, nat_le}
 use Rattle.std.specs.Prelude.{nat_lt, neg_ℤ, option_and_then, option_map, pos, position, if◌then◌else◌}
 use Rattle.std.specs.Str.{bytes_eq}

@@ -1,6 +1,5 @@
 -- The file of a scenario: a header, then one edit a record. First each record is checked, then the times of the trips
--- that
--- all records together shift.
+-- that all records together shift.
 use Rattle.std.specs.Prelude.{◌+◌, ◌++◌, ℕ, List, [], ◌∷◌, codes, map, if◌then◌else◌}
 use Rattle.std.specs.List.{filter_map}
 use Rattle.table_records.specs.Reading.{lacks_column, table_rows}

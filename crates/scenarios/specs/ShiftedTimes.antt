@@ -1,7 +1,6 @@
 -- Which trips are shifted too far. All times of a trip, those of every departure where it has frequency rows, are to
--- lie
--- between 0 and 1,999,999 seconds of its service day once all its shifts are added, whether or not it is kept or ever
--- runs.
+-- lie between 0 and 1,999,999 seconds of its service day once all its shifts are added, whether or not it is kept or
+-- ever runs.
 use Rattle.std.specs.Prelude.{◌≡◌, ◌==◌, ◌&&◌, ◌+◌, ◌++◌, ◌+ℤ◌, ◌<◌, ⊤, ℕ, ℤ, Bool, false, not, List, [], ◌∷◌}
 use Rattle.std.specs.Prelude.{MatchOption, Option, Some, None, int_lt, length, pos, slice_get, if◌then◌else◌}
 use Rattle.std.specs.List.{list_all, list_any}

@@ -87,8 +87,7 @@ IsListFault TooMany n = MOST_RUNS < n
 IsListFault Memory n = Unit {0}
 
 -- a run names a trip that has events, and moves its times by less than a week back and by no more than a week and all
--- days of the
--- calendar ahead, none of them to before the axis
+-- days of the calendar ahead, none of them to before the axis
 pub record IsRun (feed : FeedData) (run : Run) : Type 0 where
   pub trip : FeedTrip
   pub at : slice_get feed.trips run.trip ≡ Some trip

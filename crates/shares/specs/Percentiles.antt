@@ -1,6 +1,5 @@
 -- A cell: the least duration that a share of a window's minutes attains (the nearest-rank percentile of their
--- durations,
--- where a minute without a journey has none, and so lies beyond all).
+-- durations, where a minute without a journey has none, and so lies beyond all).
 use Rattle.std.specs.Prelude.{◌≡◌, ◌==◌, ◌<◌, ◌≤◌, ◌+◌, ◌*◌, ℕ, zero, suc, Bool, false, List, Option, Some, None, Vec}
 use Rattle.std.specs.Prelude.{length, slice_get, slice_index_or, nat_le, if◌then◌else◌}
 use Rattle.std.specs.Global.{Global}

@@ -25,8 +25,7 @@ abbrev pub to_all_stops : InputFiles → InputFiles
 to_all_stops i = record i { destinations = None }
 
 -- a law: the text of a study with destinations is that of the same study without them, with the other columns left out:
--- there is one
--- matrix of which the one has the columns of all stops, and the other those of the destinations
+-- there is one matrix of which the one has the columns of all stops, and the other those of the destinations
 abbrev pub TextsHaveTheirColumns : Type 0
 TextsHaveTheirColumns =
     (i : InputFiles) (s : SettingsData) (text whole : List ℕ) → IsStudyText i s text →

@@ -85,8 +85,7 @@ Refuses (fault.Text e) i s = ⊥
 Refuses fault.Memory i s = ⊥
 
 -- why a gate's run of workers gave no matrix of the study that the files mean: by as many workers as the settings say,
--- on a board
--- where each row may be begun as often as they say
+-- on a board where each row may be begun as often as they say
 pub record IsFaultOfRun (decides : Decides) (was_told : WasTold) (e : RunFault) (i : InputFiles)
     (s : SettingsData) : Type 0 where
   pub study : StudyData

@@ -22,8 +22,7 @@ pub fn column(header: &ByteRecord, name: &[u8]) -> Option<usize>
     None
 }
 
-/// The field of a record in a column. It is empty where the table has no such column, or the
-/// record ends before it.
+/// The field of a record in a column. It is empty where the table has no such column, or the record ends before it.
 pub fn field<'a>(row: &'a ByteRecord, column: Option<usize>) -> &'a [u8]
     ensures { result.now ≡ spec.field (fields_of row.now) column }
 {

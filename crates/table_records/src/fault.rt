@@ -7,8 +7,8 @@ use std::alloc::{AllocError, AllocFailed};
 
 /// The files that are read, in the order in which they are read.
 ///
-/// `Stops` to `Transfers` are the files of a GTFS feed. `Footpaths` is a table of walks, and
-/// `Origins` and `Opportunities` name stops of the feed.
+/// `Stops` to `Transfers` are the files of a GTFS feed. `Footpaths` is a table of walks, and `Origins` and
+/// `Opportunities` name stops of the feed.
 #[derive(Clone, Copy, Debug, PartialEq, Eq)]
 pub enum FileName {
     Stops,
@@ -68,8 +68,8 @@ pub enum HeaderFault {
 
 /// The first fault of the files that were read.
 ///
-/// Records are counted from 1 with the header, as a spreadsheet shows them; an absent file is
-/// refused at 0. Where `what` is `Memory`, `file` and `at` say nothing.
+/// Records are counted from 1 with the header, as a spreadsheet shows them; an absent file is refused at 0. Where
+/// `what` is `Memory`, `file` and `at` say nothing.
 #[derive(Clone, Copy, Debug, PartialEq, Eq)]
 pub struct FeedFault {
     pub file: FileName,

@@ -61,8 +61,7 @@ pub fn number(digits: &[u8]) -> Option<u32>
     Some(value)
 }
 
-/// The seconds of a time, as `8:05:00` or `25:10:30`, counted from the midnight at which the
-/// service day begins.
+/// The seconds of a time, as `8:05:00` or `25:10:30`, counted from the midnight at which the service day begins.
 ///
 /// One to three digits of hours, 0 to 167, and two each of minutes and seconds, 00 to 59.
 /// Spaces around the time don't count.

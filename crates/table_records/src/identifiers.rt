@@ -9,8 +9,8 @@ use indexmap::IndexSet;
 use std::alloc::{AllocError, Global};
 use std::marker::Model;
 
-/// Identifiers in the order in which they came, each once. An identifier is a string of bytes,
-/// compared exactly; its number is its position in the order.
+/// Identifiers in the order in which they came, each once. An identifier is a string of bytes, compared exactly; its
+/// number is its position in the order.
 #[derive(Drop)]
 pub struct Identifiers {
     set: IndexSet<Vec<u8>>,

@@ -1,5 +1,5 @@
-//! What every table of a feed is read with: records of bytes, columns by name, the values of
-//! fields, identifiers with their numbers, and the first fault with its file and record.
+//! What every table of a feed is read with: records of bytes, columns by name, the values of fields, identifiers with
+//! their numbers, and the first fault with its file and record.
 //! It knows no column and no file's rules; those are with the files' own readers.
 //!
 //! - `rows`: [`Rows`] gives the records of a file one at a time, the header first.
@@ -13,9 +13,9 @@
 //! - `fault`: [`FeedFault`] says what is wrong ([`What`]), in which file and record; [`HeaderFault`], that a header
 //!   can't be used.
 //!
-//! The rules are those of the GTFS Schedule reference ("File requirements" and "Field types"),
-//! with the grammars of times and numbers narrowed to what the engine counts with. Their
-//! definitions are in `specs/`, one file per module; `specs/Faults.antt` has the order of faults.
+//! The rules are those of the GTFS Schedule reference ("File requirements" and "Field types"), with the grammars of
+//! times and numbers narrowed to what the engine counts with. Their definitions are in `specs/`, one file per module;
+//! `specs/Faults.antt` has the order of faults.
 #![tactic(auto)]
 
 mod checks;

@@ -10,9 +10,8 @@ use std::marker::Model;
 
 /// The records of a table that are still to come, the header among them.
 ///
-/// Fields are divided by commas and may be quoted, a quote inside them doubled; lines end in CR,
-/// LF or CRLF. Empty lines are no records, and records may differ in length. One UTF-8
-/// byte-order mark at the start is left out.
+/// Fields are divided by commas and may be quoted, a quote inside them doubled; lines end in CR, LF or CRLF. Empty
+/// lines are no records, and records may differ in length. One UTF-8 byte-order mark at the start is left out.
 #[derive(Drop)]
 pub struct Rows<'a> {
     reader: Reader<&'a [u8]>,
@@ -48,8 +47,7 @@ impl<'a> Rows<'a> {
 
     /// Puts the next record into `row`, and says whether there was one.
     ///
-    /// No bytes are malformed to this reader, so an error is out of memory; no record comes
-    /// after it.
+    /// No bytes are malformed to this reader, so an error is out of memory; no record comes after it.
     pub fn next(&mut self, row: &mut ByteRecord) -> Result<bool, AllocError>
         ensures { MatchResult result (λ found. Gives self.old found (fields_of row.new) self.new)
             (λ _. self.new ≡ []) }

@@ -29,8 +29,7 @@ abbrev pub departures_in : List Times → List ℕ
 departures_in times = map (λ t. t.depart) times
 
 -- calls and times show these trips: the stop and the flags of each position, and the times of one trip after another,
--- each as it is
--- told
+-- each as it is told
 pub record IsToldView (told : ℕ → ℕ) (rows : List (List Event)) (calls : List Call) (times : List Times) : Type 0 where
   pub positions : (r : ℕ) (row : List Event) → slice_get rows r ≡ Some row → length row ≡ length calls
   pub size : length times ≡ length rows * length calls

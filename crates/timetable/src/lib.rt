@@ -11,8 +11,8 @@
 //! - `least`: [`NEVER`], the label of a stop that isn't reached, and the law that least durations are unique.
 //! - [`Network::serving`], [`Feet::seconds`] and [`are_stops`]: doors for other programs.
 //!
-//! `specs/` has the words of every layer above: what a ride, a journey and a least duration are
-//! (`Journeys`, `Least`), and what one trip, the footpaths and the change times offer in a round (`Steps`).
+//! `specs/` has the words of every layer above: what a ride, a journey and a least duration are (`Journeys`, `Least`),
+//! and what one trip, the footpaths and the change times offer in a round (`Steps`).
 #![tactic(auto)]
 
 mod faults;

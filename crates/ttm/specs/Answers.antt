@@ -1,7 +1,6 @@
 -- What the program leaves behind: what its two outputs hold, and the exit status.
 -- "The whole matrix and status 0; or one line that tells why there is none, with the status of what it tells. Help and
--- the
--- version go out whole, with status 0, or their loss is told." (The program's own rule.)
+-- the version go out whole, with status 0, or their loss is told." (The program's own rule.)
 use Rattle.std.specs.Prelude.{◌≡◌, ◌≢◌, ◌≤◌, ◌⊎◌, ◌++◌, ℕ, List, Option, codes, length, map}
 use Rattle.std.specs.Io.KnownBytes.{Appends}
 use Rattle.clap.specs.Words.{Text}
@@ -40,8 +39,7 @@ pub record IsCutShort (i : InputFiles) (s : Settings) (out printed : Option (Lis
   pub part : PutsPart out printed text
 
 -- why the matrix isn't out whole: the first fault of the inputs, or out of memory, or a run of workers that left a
--- place
--- without a row, and nothing is out; or the output took no more
+-- place without a row, and nothing is out; or the output took no more
 abbrev pub IsWhy : StudyFault → InputFiles → Settings → Option (List ℕ) → Option (List ℕ) → Type 0
 IsWhy e i s out printed = ((printed ≡ out) × Tells e i s) ⊎ ((e ≡ fault.Text text.Write) × IsCutShort i s out printed)
 

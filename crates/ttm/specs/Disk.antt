@@ -1,9 +1,7 @@
 -- What a read of a path finds, by what opening the path gave.
 -- "Only where there is nothing at a path no file is found. Out of memory is told as such. All else that hinders an
--- opening is a
--- read fault: a permission, a folder, a loop of links, too many open files, a broken device. Of a file that is open all
--- bytes
--- are found, or it is told why it isn't read." (The program's own rule.)
+-- opening is a read fault: a permission, a folder, a loop of links, too many open files, a broken device. Of a file
+-- that is open all bytes are found, or it is told why it isn't read." (The program's own rule.)
 use Rattle.std.specs.Prelude.{◌≡◌, ℕ, List, Option, Some, None, Result, Ok, Err, IfSome}
 use Rattle.std.specs.IoError.{error_kind}
 use Rattle.std.specs.declared.io.Error.{Error}

@@ -1,9 +1,7 @@
 -- Which file of a disk is which input of a study, and which file is told where one isn't read.
 -- "The files of the feed lie in its folder, each under its own name, and may be absent. A file that an option names has
--- to be
--- there, and is what that option says; so have the scenario files, each named by its own path, in their order. The
--- first
--- file that isn't read is told." (The program's own rule.)
+-- to be there, and is what that option says; so have the scenario files, each named by its own path, in their order.
+-- The first file that isn't read is told." (The program's own rule.)
 use Rattle.std.specs.Prelude.{◌≡◌, ◌⊎◌, ◌++◌, ℕ, List, [], ◌∷◌, Option, Some, None, Ok, Err, ⊤, map, codes, option_map}
 use Rattle.std.specs.Prelude.{string_bytes}
 use Rattle.command_line.specs.Lines.{line, no_memory, path_rest, read_status}

@@ -69,8 +69,7 @@ abbrev pub mark_in : Closed → ℕ → ℕ
 mark_in closed job = mark_of (slots_items closed.words.words) job
 
 -- what a board shows of the seat with which it is closed. A seat with every share is the only one that is left, and
--- then
--- its lists are those of the whole book: each number below the next one once, and each settled job once
+-- then its lists are those of the whole book: each number below the next one once, and each settled job once
 pub record Closes (v : View) (closed : Closed) : Type 0 where
   pub drawn : All (λ number. number < (book_of closed (v ∷ [])).next) v.drawn
   pub told : v.told ≡ true → (book_of closed (v ∷ [])).next ≡ closed.jobs * closed.tries

@@ -69,8 +69,7 @@ abbrev pub IsDone : Decides → Lease → View → Type 0
 IsDone decides lease v = (knows v lease.job ≡ true) ⊎ decides lease Lose
 
 -- why a worker ended: all numbers are drawn, and nothing is left to do with those that it drew; or the gate decided
--- that the
--- worker vanishes at a lease that it drew; or it ran out of memory, before it was told so
+-- that the worker vanishes at a lease that it drew; or it ran out of memory, before it was told so
 abbrev pub HasEnded : Decides → Board → View → Ending → Type 0
 HasEnded decides board v ending.Nothing =
     (v.told ≡ true) × All (λ number. IsDone decides (lease_among board.jobs number) v) v.drawn
@@ -78,8 +77,7 @@ HasEnded decides board v ending.Vanished = (lease : Lease) × HasDrawn v lease �
 HasEnded decides board v ending.Short = v.told ≡ false
 
 -- what a worker does after a lease: it draws another where nothing is left to do; else the gate decided that it
--- vanishes, or it
--- ran out of memory
+-- vanishes, or it ran out of memory
 abbrev pub LeavesAs : Decides → Lease → View → Next → Type 0
 LeavesAs decides lease v next.Draw = IsDone decides lease v
 LeavesAs decides lease v (next.End ending.Nothing) = ⊥
@@ -87,8 +85,7 @@ LeavesAs decides lease v (next.End ending.Vanished) = decides lease Vanish
 LeavesAs decides lease v (next.End ending.Short) = ⊤
 
 -- what a worker promises: its seat is of the board, its rows are the study's, of exactly the jobs that its seat kept,
--- the gate was
--- told of each of them, and the worker ended for this reason
+-- the gate was told of each of them, and the worker ended for this reason
 pub record WorkedFor (board : Board) (s : StudyData) (decides : Decides) (was_told : WasTold) (w : Worked) : Type 0
   where
     pub of_board : IsOf board w.seat

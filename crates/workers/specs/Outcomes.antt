@@ -54,8 +54,7 @@ IsWhy s v worked (Unfinished scenario origin) =
     (0 < length worked) × (is_some_short worked ≡ false) × IsFirstUnkept s v scenario origin
 
 -- so many seats were split off for workers; each of those that were started ended as it promised, the seat took in
--- theirs, and
--- that is why there is no matrix
+-- theirs, and that is why there is no matrix
 pub record IsLeft (s : StudyData) (decides : Decides) (was_told : WasTold) (board : Board) (workers : ℕ)
     (start v : View) (fault : RunFault) : Type 0 where
   pub worked : List Worked

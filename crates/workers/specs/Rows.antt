@@ -1,7 +1,6 @@
 -- A row: for one network and one origin, what each share of the minutes gives: the cell of each destination, and for
--- each limit the
--- opportunities at the stops within reach, of all stops. (Cumulative opportunities, over percentiles of the travel
--- times of a departure window.)
+-- each limit the opportunities at the stops within reach, of all stops. (Cumulative opportunities, over percentiles of
+-- the travel times of a departure window.)
 use Rattle.std.specs.Prelude.{◌≡◌, ℕ, List, Option, Some, None, map, slice_get, slice_index_or}
 use Rattle.std.specs.List.{AllZip}
 use Rattle.timetable.specs.declared.trips.StopNo.{StopNo}

@@ -12,8 +12,7 @@ use Rattle.rounds.specs.declared.window.TheConstants.{MOST_RIDES}
 use Rattle.workers.specs.declared.study.TheConstants.{MOST_SCENARIOS, MOST_SHARES, MOST_LIMITS}
 
 -- what is asked of a network: the departures, the most rides, the shares of minutes, the limits of reach, and the
--- destinations, whose
--- cells a row has
+-- destinations, whose cells a row has
 pub record Query : Type 0 where
   pub window : Window
   pub rides : ℕ
