@@ -1,10 +1,13 @@
 //! Lines: each has the program's name ahead of what it tells, and a line end.
 
+ghost use Rattle.std.specs.Prelude.{◌≡◌, ◌<◌, IfOk, string_bytes};
+ghost use Rattle.console.specs.Lines as spec;
+
 use crate::machine::Console;
 use std::alloc::{AllocError, Global};
 
 /// The most bytes of a name or a value that are shown.
-const MOST_SHOWN: usize = 60;
+pub(crate) const MOST_SHOWN: usize = 60;
 
 /// Tells a line, if there was memory for it.
 pub fn tell_line<C: Console>(console: &C, line: Result<String, AllocError>) {
@@ -28,10 +31,13 @@ pub fn warn<C: Console>(console: &C, alloc: Global, warning: &str) {
     tell_line(console, format!(in alloc; "ttm: warning: {warning}\n"));
 }
 
-/// A name or a value as it is shown: its first bytes, and `?` for those that are no printed sign of ASCII.
-pub fn shown(alloc: Global, bytes: &[u8]) -> Result<String, AllocError> {
+/// A name or a value as it is shown: its first bytes, `?` for those that are no printed sign of ASCII, and two dots
+/// where there are more.
+pub fn shown(alloc: Global, bytes: &[u8]) -> Result<String, AllocError>
+    ensures { IfOk result (λ text. string_bytes text ≡ spec.shown_of bytes.now) }
+{
     let mut text = String::new(alloc);
-    for byte in bytes.iter().take(MOST_SHOWN) {
+    for byte in &bytes[..bytes.len().min(MOST_SHOWN)] {
         text.push(shown_byte(*byte))?;
     }
     if bytes.len() > MOST_SHOWN {
@@ -41,7 +47,10 @@ pub fn shown(alloc: Global, bytes: &[u8]) -> Result<String, AllocError> {
 }
 
 /// A byte as it is shown.
-fn shown_byte(byte: u8) -> char {
+fn shown_byte(byte: u8) -> char
+    ensures shown { result ≡ spec.shown_byte byte }
+    ensures ascii { result < 128 }
+{
     if byte.is_ascii_graphic() || byte == b' ' {
         char::from(byte)
     } else {
