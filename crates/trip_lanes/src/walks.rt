@@ -5,8 +5,8 @@ ghost use Rattle.timetable.specs.Steps.{Lowers, WalkedOrStayed, ChangedOrWalked}
 ghost use Rattle.timetable.specs.declared.limits.TheConstants.{MOST_FOOT_SECONDS, MOST_CHANGE_SECONDS};
 ghost use Rattle.trip_lanes.specs.declared.lanes.TheConstants.{LANES};
 
-use crate::kernels::lower_of;
 use crate::lanes::Lanes;
+use crate::rows::Row;
 use std::simd::prelude::*;
 use std::simd::u32x16;
 use timetable::{Feet, NEVER, StopNo};
@@ -84,6 +84,6 @@ pub fn lower_all(labels: &mut [Lanes], stop: usize, times: Lanes)
     ensures { (l : ℕ) → l < LANES → Lowers (λ p x. (p ≡ stop)
         × (x ≡ slice_index times l)) (lane l labels.old) (lane l labels.new) }
 {
-    let lowered = lower_of(labels[stop], times);
+    let lowered = labels[stop].lower_of(times);
     labels[stop] = lowered;
 }

@@ -4,7 +4,6 @@ ghost use Rattle.std.proofs.Common.{rules};
 ghost use Rattle.trip_lanes.specs.declared.lanes.TheConstants.{LANES as SIXTEEN};
 
 use crate::falls::Fall;
-use crate::kernels::lower_of;
 use crate::lanes::{LANES, Lanes};
 use crate::ranks::Span;
 use crate::rows::Row;
@@ -43,7 +42,9 @@ impl Row for Lanes {
     }
 
     fn lower_of(self, other: Self) -> Self {
-        lower_of(self, other)
+        u32x16::from_array(self)
+            .simd_min(u32x16::from_array(other))
+            .to_array()
     }
 
     fn changed(self, old: Self) -> bool {
