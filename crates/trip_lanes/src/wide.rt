@@ -7,7 +7,6 @@ use crate::falls::Fall;
 use crate::lanes::{LANES, Lanes};
 use crate::ranks::Span;
 use crate::rows::Row;
-use crate::walks::later;
 use std::simd::prelude::*;
 use std::simd::u32x16;
 use timetable::NEVER;
@@ -54,7 +53,8 @@ impl Row for Lanes {
     }
 
     fn later(self, seconds: u32) -> Self {
-        later(self, seconds)
+        let early = u32x16::from_array(self).simd_min(u32x16::splat(NEVER - seconds));
+        (early + u32x16::splat(seconds)).to_array()
     }
 
     fn catch(self, depart: u32, rank: u32) -> Self {
