@@ -28,12 +28,12 @@ pub struct Catalog {
     pub trips: FeedTrips,
 }
 
-/// What `stops.txt`, `routes.txt`, `calendar.txt`, `calendar_dates.txt` and `trips.txt` name, or the first fault
-/// among them, in this order.
-pub fn read_catalog(alloc: Global, files: &FeedBytes<'_>) -> Result<Catalog, FeedFault>
+/// What `stops.txt`, `routes.txt`, `calendar.txt`, `calendar_dates.txt` and `trips.txt` name, in a box, or the first
+/// fault among them, in this order.
+pub fn read_catalog(alloc: Global, files: &FeedBytes<'_>) -> Result<Box<Catalog>, FeedFault>
     requires { spec.AreWithinLimit (spec.files_of files.now) }
     ensures good { IfOk result (λ c. (spec.catalog_faults (spec.files_of files.now) ≡ [])
-        × IsCatalog c (spec.files_of files.now)) }
+        × IsCatalog c.value (spec.files_of files.now)) }
     ensures fault { IfErr result (λ e. Tells e (spec.catalog_faults (spec.files_of files.now))) }
 {
     let locations = locations_of(alloc, files)?;
@@ -47,13 +47,16 @@ pub fn read_catalog(alloc: Global, files: &FeedBytes<'_>) -> Result<Catalog, Fee
         rows: exceptions,
     } = dates_of(alloc, files, weekly)?;
     let trips = trips_of(alloc, files, &routes, dated)?;
-    Ok(Catalog {
-        locations: Box::into_inner(locations),
-        routes,
-        calendar,
-        exceptions,
-        trips,
-    })
+    Ok(Box::new(
+        alloc,
+        Catalog {
+            locations: Box::into_inner(locations),
+            routes,
+            calendar,
+            exceptions,
+            trips,
+        },
+    )?)
 }
 
 // The locations of `stops.txt`, in a box.

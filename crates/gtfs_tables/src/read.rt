@@ -6,10 +6,9 @@ ghost use Rattle.timetable.specs.declared.limits.TheConstants.{MOST_STOPS, MOST_
 ghost use Rattle.table_records.specs.Faults.{Tells};
 ghost use Rattle.table_files.specs.Transfers.{IsLink};
 ghost use Rattle.trip_events.specs.WholeTrips.{AreEvents};
-ghost use Rattle.gtfs_tables.specs.Catalog.{IsCatalog};
 ghost use Rattle.gtfs_tables.specs.Files as spec;
 
-use crate::catalog::{Catalog, read_catalog};
+use crate::catalog::read_catalog;
 use crate::feed::Feed;
 use crate::feed_bytes::{FeedBytes, missing};
 use crate::trip::{DepartureList, FeedTrip, TripId};
@@ -35,7 +34,7 @@ pub fn read_feed(alloc: Global, files: &FeedBytes<'_>) -> Result<Feed, FeedFault
         × (feed ≡ spec.feed_of (spec.files_of files.now))) }
     ensures fault { IfErr result (λ e. Tells e (spec.feed_faults (spec.files_of files.now))) }
 {
-    let catalog = catalog_of(alloc, files)?;
+    let catalog = read_catalog(alloc, files)?;
     let listed = catalog.as_ref();
     let ids = &listed.trips.ids;
     let StopTimes {
@@ -46,16 +45,6 @@ pub fn read_feed(alloc: Global, files: &FeedBytes<'_>) -> Result<Feed, FeedFault
     let trips = trips_of(alloc, &listed.trips, events, departures)?;
     let transfers = transfers_of(alloc, files, &listed.locations)?;
     Ok(Feed::new(Box::into_inner(catalog), trips, aside, transfers))
-}
-
-// The catalog, in a box.
-fn catalog_of(alloc: Global, files: &FeedBytes<'_>) -> Result<Box<Catalog>, FeedFault>
-    requires { spec.AreWithinLimit (spec.files_of files.now) }
-    ensures good { IfOk result (λ c. (spec.catalog_faults (spec.files_of files.now) ≡ [])
-        × IsCatalog c.value (spec.files_of files.now)) }
-    ensures fault { IfErr result (λ e. Tells e (spec.catalog_faults (spec.files_of files.now))) }
-{
-    Ok(Box::new(alloc, read_catalog(alloc, files)?)?)
 }
 
 // The events of each trip.

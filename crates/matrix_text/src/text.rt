@@ -1,5 +1,5 @@
 //! The text of a matrix, line after line.
-ghost use Rattle.std.specs.Prelude.{◌≡◌, ◌<◌, ◌++◌, ◌∷◌, [], All, length, map, decimal, OnOk, OnErr};
+ghost use Rattle.std.specs.Prelude.{◌≡◌, ◌<◌, ◌++◌, All, length, map, decimal, OnOk, OnErr};
 ghost use Rattle.std.specs.Io.KnownBytes.{Appends};
 ghost use Rattle.matrix_text.specs.Text.{labels_of, text_at, LabelsFit, limit_field, header_fields, share_fields};
 ghost use Rattle.matrix_text.specs.Text.{cell_field, line_text, row_lines, lines_at, scenario_text, rows_text};
@@ -103,17 +103,9 @@ fn push_stops(line: &mut Line, destinations: &[StopNo], feed: &Feed) -> Result<(
     ensures { OnOk result (line.new ≡ line.old ++ map (λ stop. text_at feed.now.stops stop.0) destinations.now) }
 {
     for stop in destinations {
-        push_stop(line, *stop, feed)?;
+        line.push(feed.stop_id(*stop))?;
     }
     Ok(())
-}
-
-/// Puts a stop's identifier last.
-fn push_stop(line: &mut Line, stop: StopNo, feed: &Feed) -> Result<(), TextFault>
-    requires { stop.0 < length feed.now.stops }
-    ensures { OnOk result (line.new ≡ line.old ++ text_at feed.now.stops stop.0 ∷ []) }
-{
-    line.push(feed.stop_id(stop))
 }
 
 /// Writes all rows.

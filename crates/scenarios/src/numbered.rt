@@ -12,13 +12,6 @@ pub(crate) fn flag_at(flags: &[bool], number: u32) -> bool
     flags.get(number as usize).copied().unwrap_or(false)
 }
 
-/// The shift at a number, which is none past the end.
-pub(crate) fn shift_at(shifts: &[i64], number: u32) -> i64
-    ensures { result ≡ slice_index_or shifts.now number (pos 0) }
-{
-    shifts.get(number as usize).copied().unwrap_or(0)
-}
-
 /// Sets the flag at a number.
 pub(crate) fn raise_flag(flags: &mut Vec<bool>, number: u32) -> Result<(), AllocError>
     ensures { OnOk result ((k : ℕ) → slice_index_or flags.new.items k false

@@ -5,7 +5,7 @@ ghost use Rattle.std.specs.Option.{option_map};
 
 use crate::edits::Edit;
 use crate::name::Name;
-use crate::numbered::{add_shift, flag_at, make_room, shift_at};
+use crate::numbered::{add_shift, flag_at, make_room};
 use gtfs_tables::Feed;
 use std::alloc::{AllocError, Global};
 use std::marker::Model;
@@ -164,6 +164,6 @@ impl Scenario {
         ensures low { neg_ℤ (pos 60479900000) ≤ℤ result }
         ensures high { result ≤ℤ pos 60479900000 }
     {
-        shift_at(&self.shifts, trip)
+        self.shifts.get(trip as usize).copied().unwrap_or(0)
     }
 }

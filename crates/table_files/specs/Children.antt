@@ -38,9 +38,3 @@ Ascend stops = AllPairs (λ a b. a.0 < b.0) stops
 pub record AreChildren (stops : ℕ) (children : List (List StopNo)) : Type 0 where
   pub in_range : All (All (λ stop. stop.0 < stops)) children
   pub ascending : All Ascend children
-
--- a station's number is one that has a list of stops
-abbrev pub HasChildren : List (List StopNo) → Location → Type 0
-HasChildren children (Stop stop) = Unit {0}
-HasChildren children (Station number) = number < length children
-HasChildren children Other = Unit {0}

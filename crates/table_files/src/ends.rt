@@ -2,11 +2,8 @@
 
 ghost use Rattle.std.specs.Prelude.{◌≡◌};
 ghost use Rattle.std.specs.List.{list_any};
-ghost use Rattle.table_files.specs.Children as children_spec;
 ghost use Rattle.table_files.specs.Ends as spec;
 
-use crate::children::Children;
-use crate::location::Location;
 use timetable::StopNo;
 
 /// The stops that a location stands for: a stop stands for itself, a station for its stops, another for none.
@@ -27,18 +24,6 @@ impl<'a> Ends<'a> {
             Ends::Alone(stop) => stop,
             Ends::Children(stops) => stops,
         }
-    }
-}
-
-/// The stops that a location stands for, by the stops of each station.
-pub fn stops_at(location: Location, children: &Children) -> Ends<'_>
-    requires { children_spec.HasChildren children.now location }
-    ensures { spec.stops_of result ≡ children_spec.stops_at location children.now }
-{
-    match location {
-        Location::Stop(stop) => Ends::Alone([stop]),
-        Location::Station(station) => Ends::Children(children.at(station)),
-        Location::Other => Ends::Children(&[]),
     }
 }
 

@@ -13,7 +13,7 @@ ghost use Rattle.table_files.specs.Ends as ends_spec;
 ghost use Rattle.table_files.specs.Locations as spec;
 
 use crate::children::{Children, children_of};
-use crate::ends::{Ends, stops_at};
+use crate::ends::Ends;
 use crate::location::Location;
 use csv::ByteRecord;
 use std::alloc::{AllocError, Global};
@@ -102,7 +102,11 @@ impl Locations {
         requires { children_spec.IsLocation (length self.now.stops) (length self.now.stations) location }
         ensures { ends_spec.stops_of result ≡ children_spec.stops_at location self.now.children }
     {
-        stops_at(location, &self.children)
+        match location {
+            Location::Stop(stop) => Ends::Alone([stop]),
+            Location::Station(station) => Ends::Children(self.children.at(station)),
+            Location::Other => Ends::Children(&[]),
+        }
     }
 }
 

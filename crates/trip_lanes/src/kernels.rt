@@ -38,15 +38,6 @@ fn fell(new: Lanes, old: Lanes) -> bool
     lower.any()
 }
 
-/// The lower of both, in each lane.
-pub fn lower_of(old: Lanes, new: Lanes) -> Lanes
-    ensures { (l : ℕ) → l < LANES → slice_index result l ≡ min (slice_index old l) (slice_index new l) }
-{
-    u32x16::from_array(old)
-        .simd_min(u32x16::from_array(new))
-        .to_array()
-}
-
 /// Lowers the lanes of a stop to these times, and marks the stop where one fell.
 pub fn lower_row<R: Row>(labels: &mut [R], marked: &mut [bool], stop: usize, times: R)
     requires stop { stop < length labels.old }

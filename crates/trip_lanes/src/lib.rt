@@ -29,7 +29,7 @@ mod walks;
 mod wide;
 
 pub use falls::{Fall, UNFALLEN, falls_of};
-pub use kernels::{carry_trip, lower_of, lower_row};
+pub use kernels::{carry_trip, lower_row};
 pub use lanes::{LANES, Lanes, lanes_are_sixteen};
 pub use line_scan::{Labels, LineView, scan_line};
 pub use marked_walks::{transfer_marked, walk_marked};

@@ -1,14 +1,12 @@
 //! Walks, and changes between two vehicles, in each lane.
-ghost use Rattle.std.specs.Prelude.{◌≡◌, ◌≢◌, ℕ, ◌+◌, ◌^◌, ◌<◌, ◌≤◌, length, min, slice_index, slice_get, Some};
+ghost use Rattle.std.specs.Prelude.{◌≡◌, ◌≢◌, ℕ, ◌+◌, ◌^◌, ◌<◌, ◌≤◌, length, slice_index, slice_get, Some};
 ghost use Rattle.trip_lanes.specs.Lane.{lane, LeavesLater};
 ghost use Rattle.timetable.specs.Steps.{Lowers, WalkedOrStayed, ChangedOrWalked};
 ghost use Rattle.timetable.specs.declared.limits.TheConstants.{MOST_FOOT_SECONDS, MOST_CHANGE_SECONDS};
 ghost use Rattle.trip_lanes.specs.declared.lanes.TheConstants.{LANES};
 
-use crate::kernels::lower_of;
 use crate::lanes::Lanes;
-use std::simd::prelude::*;
-use std::simd::u32x16;
+use crate::rows::Row;
 use timetable::{Feet, NEVER, StopNo};
 
 /// The plain form of [`walk_marked`](crate::walk_marked): walks from every stop that a ride reached,
@@ -52,7 +50,7 @@ pub fn transfer(feet: &Feet, ride: &[Lanes], ready: &mut [Lanes])
         lower_all(
             ready,
             stop as usize,
-            later(arrived, feet.change(StopNo(stop))),
+            arrived.later(feet.change(StopNo(stop))),
         );
         walk_from(feet.leaving(StopNo(stop)), arrived, ready);
     }
@@ -66,16 +64,8 @@ fn walk_from(leaving: &[(StopNo, u32)], times: Lanes, ready: &mut [Lanes])
         (lane l ready.new) }
 {
     for (to, seconds) in leaving {
-        lower_all(ready, to.0 as usize, later(times, *seconds));
+        lower_all(ready, to.0 as usize, times.later(*seconds));
     }
-}
-
-/// Later by some seconds; NEVER stays.
-pub(crate) fn later(times: Lanes, seconds: u32) -> Lanes
-    ensures { (l : ℕ) → l < LANES → slice_index result l ≡ min (slice_index times l + seconds) NEVER }
-{
-    let early = u32x16::from_array(times).simd_min(u32x16::splat(NEVER - seconds));
-    (early + u32x16::splat(seconds)).to_array()
 }
 
 /// Lowers the lanes of a stop to these times.
@@ -84,6 +74,6 @@ pub fn lower_all(labels: &mut [Lanes], stop: usize, times: Lanes)
     ensures { (l : ℕ) → l < LANES → Lowers (λ p x. (p ≡ stop)
         × (x ≡ slice_index times l)) (lane l labels.old) (lane l labels.new) }
 {
-    let lowered = lower_of(labels[stop], times);
+    let lowered = labels[stop].lower_of(times);
     labels[stop] = lowered;
 }

@@ -4,11 +4,9 @@ ghost use Rattle.std.proofs.Common.{rules};
 ghost use Rattle.trip_lanes.specs.declared.lanes.TheConstants.{LANES as SIXTEEN};
 
 use crate::falls::Fall;
-use crate::kernels::lower_of;
 use crate::lanes::{LANES, Lanes};
 use crate::ranks::Span;
 use crate::rows::Row;
-use crate::walks::later;
 use std::simd::prelude::*;
 use std::simd::u32x16;
 use timetable::NEVER;
@@ -43,7 +41,9 @@ impl Row for Lanes {
     }
 
     fn lower_of(self, other: Self) -> Self {
-        lower_of(self, other)
+        u32x16::from_array(self)
+            .simd_min(u32x16::from_array(other))
+            .to_array()
     }
 
     fn changed(self, old: Self) -> bool {
@@ -53,7 +53,8 @@ impl Row for Lanes {
     }
 
     fn later(self, seconds: u32) -> Self {
-        later(self, seconds)
+        let early = u32x16::from_array(self).simd_min(u32x16::splat(NEVER - seconds));
+        (early + u32x16::splat(seconds)).to_array()
     }
 
     fn catch(self, depart: u32, rank: u32) -> Self {

@@ -124,8 +124,10 @@ fn asked<H: Host, O: Write, E: Write>(
 {
     match task_of(host.alloc(), words) {
         Ok(task) => {
-            let code = study(host, &task, out, err);
-            // Dropped here and not on the way out, where the prover would follow each of its strings.
+            let mut files = StudyFiles::none(host.alloc());
+            let code = read_and_answer(host, &task, &mut files, out, err);
+            // Dropped here and not on the way out, where the prover would follow each file and each string.
+            drop(files);
             drop(task);
             code
         }
@@ -190,22 +192,6 @@ fn put_help<O: Write, E: Write>(text: &[u8], out: &mut O, err: &mut E) -> ExitCo
         Ok(()) => ExitCode::from(DONE),
         Err(_) => tell(b"ttm: write fault\n", NOT_MOVED, err),
     }
-}
-
-/// The study of a task. It holds the files, and drops them at the end: the prover would follow them on each way
-/// out of a function that had more to do.
-fn study<H: Host, O: Write, E: Write>(host: &H, task: &Task, out: &mut O, err: &mut E) -> ExitCode
-    requires { SettingsFit task.now.settings }
-    ensures success { exit_status result ≡ DONE →
-        spec.IsMade (H.finds host.now) task.now (O.contents out.old) (O.contents out.new) }
-    ensures ended { spec.EndsTask (H.finds host.now) task.now (O.contents out.old) (O.contents out.new)
-        (E.contents err.old) (E.contents err.new) (exit_status result) }
-    ensures quiet { exit_status result ≡ DONE → err.new ≡ err.old }
-{
-    let mut files = StudyFiles::none(host.alloc());
-    let code = read_and_answer(host, task, &mut files, out, err);
-    drop(files);
-    code
 }
 
 /// Reads the files of a task, and answers its study.

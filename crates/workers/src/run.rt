@@ -18,7 +18,8 @@ use crate::faults::RunFault;
 use crate::gates::Gate;
 use crate::jobs::empty_places;
 use crate::study::Study;
-use crate::threads::run_all;
+use crate::task::StudyTask;
+use crate::threads::do_all;
 use crate::worker::{Ending, Worked};
 use collector::{Collector, Matrix, Row};
 use std::alloc::{AllocError, Global};
@@ -60,7 +61,13 @@ pub fn run_workers<G: Gate + Sync, R: Threads + Wait + Sync>(
 {
     let mut collector = empty_places(alloc, study)?;
     let seats = split_all(alloc, board, seat, workers as usize)?;
-    let worked = run_all(rt, alloc, study, board, seats, gate)?;
+    let task = StudyTask {
+        alloc,
+        study,
+        board,
+        gate,
+    };
+    let worked = do_all(rt, alloc, &task, seats)?;
     let started = !worked.is_empty();
     let short = gather(board, seat, &mut collector, worked);
     matrix_of(collector, short, started)

@@ -1,43 +1,16 @@
 //! Workers in threads: started together, and joined.
 ghost use Rattle.std.specs.Prelude.{◌≡◌, ◌+◌, ◌≤◌, [], All, IfOk, IfSome, vec_len, vec_capacity};
-ghost use Rattle.workers.specs.Study.{study_of};
-ghost use Rattle.workers.specs.Threads.{AreOfOneStudy, AreReady, AreWorked};
 
-use crate::gates::Gate;
-use crate::study::Study;
-use crate::task::{Promised, StudyTask, Task};
+use crate::task::{Promised, Task};
 use crate::worker::Worked;
 use std::alloc::{AllocError, Global};
 use std::sync::Wait;
 use std::thread;
 use std::thread::{PromisedHandle, Scope, Threads};
-use work_book::{Board, WorkSeat};
+use work_book::WorkSeat;
 
-/// Runs a worker with each seat, all of them at once. One whose start is refused is left out, and its seat dropped.
-pub(crate) fn run_all<G: Gate + Sync, R: Threads + Wait + Sync>(
-    rt: &R,
-    alloc: Global,
-    study: &Study,
-    board: &Board,
-    seats: Vec<WorkSeat>,
-    gate: &G,
-) -> Result<Vec<Worked>, AllocError>
-    requires study { AreOfOneStudy board.now (study_of study.now) }
-    requires seats { AreReady board.now seats.items }
-    ensures { IfOk result (λ all. AreWorked board.now (study_of study.now) (G.decides gate.now) (G.was_told gate.now)
-        all.items) }
-{
-    let task = StudyTask {
-        alloc,
-        study,
-        board,
-        gate,
-    };
-    do_all(rt, alloc, &task, seats)
-}
-
-/// Does a task with each seat, in a thread of its own.
-fn do_all<T: Task + Sync, R: Threads + Wait + Sync>(
+/// Does a task with each seat, in a thread of its own, all at once. A seat whose thread isn't started is dropped.
+pub(crate) fn do_all<T: Task + Sync, R: Threads + Wait + Sync>(
     rt: &R,
     alloc: Global,
     task: &T,

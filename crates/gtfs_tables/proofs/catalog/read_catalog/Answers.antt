@@ -3,6 +3,8 @@ use Rattle.std.proofs.lemmas.Result.{err_from_is_err_and}
 use Rattle.table_files.specs.Locations.{AreLocations}
 use Rattle.gtfs_tables.specs.Files.{faults_of_calendar, faults_of_calendar_dates, faults_of_routes, faults_of_stops}
 use Rattle.gtfs_tables.specs.Files.{faults_of_trips, files_of}
+use Rattle.gtfs_tables.specs.Catalog.{IsCatalog}
+use Rattle.gtfs_tables.specs.declared.catalog.Catalog.{Catalog}
 use Rattle.gtfs_tables.proofs.Sound.{is_catalog}
 use Rattle.gtfs_tables.proofs.Told.{fifth_of_five, first_of_five, fourth_of_five, none_of_five, second_of_five}
 use Rattle.gtfs_tables.proofs.Told.{third_of_five}
@@ -64,11 +66,12 @@ returns-clause-good c =
     let (no_trips, trips) = c.in_ok-trips.ensures.good in (
       none_of_five (faults_of_stops f) (faults_of_routes f) (faults_of_calendar f) (faults_of_calendar_dates f)
           (faults_of_trips f) no_stops no_routes no_calendar no_dates no_trips,
-      is_catalog f c.into_inner.result c.in_ok-routes.routes c.in_ok-weekly.field-0 c.in_ok-dated.field-0
+      subst (λ (k : Catalog). IsCatalog k f) (sym c.in_ok-new.ensures.ok)
+          (is_catalog f c.into_inner.result c.in_ok-routes.routes c.in_ok-weekly.field-0 c.in_ok-dated.field-0
           c.in_ok-trips.trips (
             c.into_inner.ensures ∙ locations,
             subst AreLocations (sym c.into_inner.ensures)
                 c.in_ok-locations.ensures.sound,
           )
-          (routes, c.in_ok-routes.ensures.few) weekly (dated, c.in_ok-dated.ensures.few) (trips, no_trips),
+          (routes, c.in_ok-routes.ensures.few) weekly (dated, c.in_ok-dated.ensures.few) (trips, no_trips)),
     )

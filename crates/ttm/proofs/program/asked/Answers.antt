@@ -12,7 +12,7 @@ returns-in-Ok-clause-success g c = λ z.
       task = c.in-Ok.task;
       asked = c.in-Ok.ensures.asked;
       paths = c.in-Ok.ensures.paths;
-      made = c.study-code.ensures.success z;
+      made = c.read_and_answer-code.ensures.success z;
     }
 
 pub returns-in-Ok-clause-ended : goal.returns-in-Ok-clause-ended
@@ -20,7 +20,7 @@ returns-in-Ok-clause-ended g c = inl (
   c.in-Ok.task,
   c.in-Ok.ensures.asked,
   c.in-Ok.ensures.paths,
-  c.study-code.ensures.ended,
+  c.read_and_answer-code.ensures.ended,
 )
 
 pub returns-in-Words-clause-ended : goal.returns-in-Words-clause-ended
