@@ -26,11 +26,9 @@ pub fn column(header: &ByteRecord, name: &[u8]) -> Option<usize>
 pub fn field<'a>(row: &'a ByteRecord, column: Option<usize>) -> &'a [u8]
     ensures { result.now ≡ spec.field (fields_of row.now) column }
 {
-    match column {
+    // No record has a field in the last position of all: so the record alone is asked.
+    match row.get(column.unwrap_or(usize::MAX)) {
         None => &[],
-        Some(i) => match row.get(i) {
-            None => &[],
-            Some(text) => text,
-        },
+        Some(text) => text,
     }
 }

@@ -91,6 +91,7 @@ fn plain_time(text: &[u8]) -> Option<u32>
 }
 
 // The seconds of a time in any form.
+#[inline(never)]
 fn any_time(text: &[u8]) -> Option<u32>
     ensures { result ≡ time_of (trimmed text.now) }
 {
@@ -119,7 +120,8 @@ fn two_digits(tens: u8, ones: u8) -> Option<u32>
     if tens < b'0' || tens > b'5' || !ones.is_ascii_digit() {
         return None;
     }
-    Some((tens - b'0') as u32 * 10 + (ones - b'0') as u32)
+    // The zeros of both are taken away at once.
+    Some(tens as u32 * 10 + ones as u32 - b'0' as u32 * 11)
 }
 
 /// The day that eight digits name, `YYYYMMDD`, years 0000 to 9999 of the Gregorian calendar.

@@ -117,8 +117,16 @@ fn are_equal(a: &[u8], b: &[u8]) -> bool
     match a.len() {
         4..=8 => ends_are_equal::<4>(a, b),
         9..=16 => ends_are_equal::<8>(a, b),
-        _ => a == b,
+        _ => all_are_equal(a, b),
     }
+}
+
+// Whether all bytes of two texts are equal. It stands apart, so that no first byte is fetched alone for it above.
+#[inline(never)]
+fn all_are_equal(a: &[u8], b: &[u8]) -> bool
+    ensures { IsTrue result → a.now ≡ b.now }
+{
+    a == b
 }
 
 // Whether the first and the last bytes of two texts of one length are equal, so many that they are all.
@@ -130,7 +138,7 @@ fn ends_are_equal<const N: usize>(a: &[u8], b: &[u8]) -> bool
 {
     match (a.split_first_chunk::<N>(), b.split_first_chunk::<N>()) {
         (Some((a_first, _)), Some((b_first, _))) => a_first == b_first && last_are_equal::<N>(a, b),
-        _ => a == b,
+        _ => all_are_equal(a, b),
     }
 }
 
@@ -142,6 +150,6 @@ fn last_are_equal<const N: usize>(a: &[u8], b: &[u8]) -> bool
 {
     match (a.split_last_chunk::<N>(), b.split_last_chunk::<N>()) {
         (Some((_, a_last)), Some((_, b_last))) => a_last == b_last,
-        _ => a == b,
+        _ => all_are_equal(a, b),
     }
 }

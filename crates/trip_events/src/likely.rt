@@ -7,8 +7,8 @@ use std::alloc::{AllocError, Global};
 pub struct Likely {
     /// The trip of the record before.
     trip: usize,
-    /// How many records in a row named it so far.
-    run: usize,
+    /// The number of the first record in a row that named it.
+    since: u64,
     /// How many records in a row named the trip before it.
     run_before: usize,
     /// The last stop that a record named.
@@ -24,7 +24,7 @@ impl Likely {
     pub fn new(alloc: Global, stops: usize) -> Result<Likely, AllocError> {
         Ok(Likely {
             trip: 0,
-            run: 0,
+            since: 2,
             run_before: 0,
             stop: 0,
             next: 0,
@@ -48,20 +48,18 @@ impl Likely {
         self.next as usize
     }
 
-    /// A record named this trip, and this stop if it named one.
-    pub fn note(&mut self, trip: usize, stop: Option<u32>) {
-        self.note_trip(trip);
+    /// The record of this number named this trip, and this stop if it named one.
+    pub fn note(&mut self, at: u64, trip: usize, stop: Option<u32>) {
+        self.note_trip(at, trip);
         if let Some(stop) = stop {
             self.note_stop(stop);
         }
     }
 
-    fn note_trip(&mut self, trip: usize) {
-        if self.trip == trip {
-            self.run = self.run.saturating_add(1);
-        } else {
-            self.run_before = self.run;
-            self.run = 1;
+    fn note_trip(&mut self, at: u64, trip: usize) {
+        if self.trip != trip {
+            self.run_before = at.saturating_sub(self.since) as usize;
+            self.since = at;
             self.trip = trip;
         }
     }

@@ -1,6 +1,6 @@
 //! The events of each trip: `stop_times.txt`.
 
-ghost use Rattle.std.specs.Prelude.{◌≡◌, ◌≤◌, ◌<◌, ℕ, List, [], true, false, length, map, position, replicate};
+ghost use Rattle.std.specs.Prelude.{◌≡◌, ◌≤◌, ◌<◌, ◌⊎◌, ℕ, List, [], true, false, length, map, position, replicate};
 ghost use Rattle.std.specs.Prelude.{slice_get, IfOk, IfErr, IfSome, IsTrue, if◌then◌else◌};
 ghost use Rattle.timetable.specs.declared.limits.TheConstants.{MOST_STOPS, MOST_TRIPS};
 ghost use Rattle.std.specs.Str.{bytes_eq};
@@ -16,13 +16,14 @@ ghost use Rattle.trip_events.specs.StopTimes as spec;
 ghost use Rattle.trip_events.specs.WholeTrips.{AreEvents};
 
 use crate::likely::Likely;
+use crate::numbers::read_number;
 use crate::trip_times::{StopTime, Times, TripTimes};
 use crate::whole_trips::{StopTimes, events_of_trips};
 use csv::ByteRecord;
 use std::alloc::{AllocError, Global};
 use table_records::{
     Check, Checks, FeedFault, FileName, Identifiers, RecordReader, Rule, What, column, field,
-    number, open_table, read_records, read_time, trim,
+    open_table, read_records, read_time, trim,
 };
 use timetable::MOST_EVENTS;
 
@@ -129,7 +130,7 @@ impl<'a> RecordReader for TimeReader<'a> {
             Ok(trip_stop) => trip_stop,
             Err(what) => return Err(FeedFault::at(FileName::StopTimes, at, what)),
         };
-        table.likely.note(trip_stop.trip, trip_stop.stop);
+        table.likely.note(at, trip_stop.trip, trip_stop.stop);
         let count = table.likely.count();
         let trip_times = &mut table.trips[trip_stop.trip];
         let Some(position) = trip_times.position_of(trip_stop.sequence) else {
@@ -173,7 +174,7 @@ impl<'a> TimeReader<'a> {
             return Err(What::UnknownTrip);
         };
         let stop = read_stop(field(row, self.columns.stop), self.stops, likely.stop())?;
-        let Some(sequence) = number(trim(field(row, self.columns.sequence))) else {
+        let Some(sequence) = read_number(field(row, self.columns.sequence)) else {
             return Err(What::BadNumber);
         };
         Ok(TripStop {
@@ -194,16 +195,11 @@ impl<'a> TimeReader<'a> {
     {
         let arrive_text = field(row, self.columns.arrive);
         let depart_text = field(row, self.columns.depart);
-        let arrive = read_open_time(arrive_text)?;
-        let depart = if are_equal_times(arrive_text, depart_text) {
-            arrive
-        } else {
-            read_open_time(depart_text)?
-        };
+        let times = read_times(arrive_text, depart_text)?;
         let board = read_allowed(field(row, self.columns.pickup))?;
         let alight = read_allowed(field(row, self.columns.drop_off))?;
         Ok(Visit {
-            times: times_of(arrive, depart),
+            times,
             board,
             alight,
         })
@@ -226,6 +222,39 @@ fn read_stop(text: &[u8], stops: &Identifiers, likely: usize) -> Result<Option<u
         Some(stop) => Ok(Some(stop as u32)),
         None => Err(What::UnknownStop),
     }
+}
+
+// The times of an event. Nearly all arrivals and departures are written alike.
+fn read_times(arrive: &[u8], depart: &[u8]) -> Result<Option<Times>, What>
+    ensures good { IfOk result (λ times. (is_wrong time_of (trimmed arrive.now) ≡ false)
+        × (is_wrong time_of (trimmed depart.now) ≡ false)
+        × (times ≡ spec.times_of (time_of (trimmed arrive.now)) (time_of (trimmed depart.now)))) }
+    ensures fault { IfErr result (λ e. ((is_wrong time_of (trimmed arrive.now) ≡ true)
+        ⊎ (is_wrong time_of (trimmed depart.now) ≡ true)) × (e ≡ BadTime)) }
+{
+    if are_equal_times(arrive, depart) {
+        if let Some(time) = read_time(arrive) {
+            return Ok(Some(Times {
+                arrive: time,
+                depart: time,
+            }));
+        }
+    }
+    read_both_times(arrive, depart)
+}
+
+// The same of times that are read one by one.
+#[inline(never)]
+fn read_both_times(arrive: &[u8], depart: &[u8]) -> Result<Option<Times>, What>
+    ensures good { IfOk result (λ times. (is_wrong time_of (trimmed arrive.now) ≡ false)
+        × (is_wrong time_of (trimmed depart.now) ≡ false)
+        × (times ≡ spec.times_of (time_of (trimmed arrive.now)) (time_of (trimmed depart.now)))) }
+    ensures fault { IfErr result (λ e. ((is_wrong time_of (trimmed arrive.now) ≡ true)
+        ⊎ (is_wrong time_of (trimmed depart.now) ≡ true)) × (e ≡ BadTime)) }
+{
+    let arrive = read_open_time(arrive)?;
+    let depart = read_open_time(depart)?;
+    Ok(times_of(arrive, depart))
 }
 
 // A time that may be left open: none where the text is empty.
@@ -266,10 +295,19 @@ fn read_allowed(text: &[u8]) -> Result<bool, What>
             return Ok(*digit != b'1');
         }
     }
-    let text = trim(text);
-    match number(text) {
+    read_any_allowed(text)
+}
+
+// The same of a type in any form.
+#[inline(never)]
+fn read_any_allowed(text: &[u8]) -> Result<bool, What>
+    ensures good { IfOk result (λ allowed. (is_wrong number_of (trimmed text.now) ≡ false)
+        × (allowed ≡ spec.allows (trimmed text.now))) }
+    ensures fault { IfErr result (λ e. (is_wrong number_of (trimmed text.now) ≡ true) × (e ≡ BadNumber)) }
+{
+    match read_number(text) {
         Some(kind) => Ok(kind != 1),
-        None if text.is_empty() => Ok(true),
+        None if trim(text).is_empty() => Ok(true),
         None => Err(What::BadNumber),
     }
 }
