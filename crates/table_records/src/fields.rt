@@ -65,6 +65,7 @@ pub fn number(digits: &[u8]) -> Option<u32>
 ///
 /// One to three digits of hours, 0 to 167, and two each of minutes and seconds, 00 to 59.
 /// Spaces around the time don't count.
+#[inline(never)]
 pub fn read_time(text: &[u8]) -> Option<u32>
     ensures { result ≡ time_of (trimmed text.now) }
 {
@@ -120,8 +121,7 @@ fn two_digits(tens: u8, ones: u8) -> Option<u32>
     if tens < b'0' || tens > b'5' || !ones.is_ascii_digit() {
         return None;
     }
-    // The zeros of both are taken away at once.
-    Some(tens as u32 * 10 + ones as u32 - b'0' as u32 * 11)
+    Some((tens - b'0') as u32 * 10 + (ones - b'0') as u32)
 }
 
 /// The day that eight digits name, `YYYYMMDD`, years 0000 to 9999 of the Gregorian calendar.
