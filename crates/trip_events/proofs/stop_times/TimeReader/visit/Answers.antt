@@ -20,7 +20,8 @@ pub returns-in_err-times-clause-fault : goal.returns-in_err-times-clause-fault
 returns-in_err-times-clause-fault c =
     let r : TimeRow = row_at c.args.self.now.columns (fields_of c.args.row.now) in
     let (one, is) = c.in_err-times.ensures.fault in
-    let first : slice_get (visit_checks r) 0 ≡ Some what.BadTime = wrong_time (is_wrong time_of r.arrive)
-    (is_wrong time_of r.depart) (when (is_wrong number_of r.pickup) what.BadNumber)
-    (when (is_wrong number_of r.drop_off) what.BadNumber) (rw (c.field-arrive_text.ensures, c.field-depart_text.ensures) at one) in
+    let wrong = rw (c.field-arrive_text.ensures, c.field-depart_text.ensures) at one in
+    let first : slice_get (visit_checks r) 0 ≡ Some what.BadTime =
+    wrong_time (is_wrong time_of r.arrive) (is_wrong time_of r.depart)
+    (when (is_wrong number_of r.pickup) what.BadNumber) (when (is_wrong number_of r.drop_off) what.BadNumber) wrong in
     grind (arith, common_steps, first, is)
