@@ -164,7 +164,6 @@ fn each_lane_takes_the_first_trip_of_a_line(rt: HostRuntime) -> Result<(), Fail>
     falls_of(&before, &ready, &[true, false, true], &mut falls);
     let labels = Labels {
         falls: &falls,
-        before: &before,
         ready: &ready,
     };
     let mut ride = [UNREACHED; 3];
@@ -211,7 +210,6 @@ fn narrow_lanes_take_the_first_trip_from_their_base_on(rt: HostRuntime) -> Resul
     falls_of(&before, &ready, &[true, false, true], &mut falls);
     let labels = Labels {
         falls: &falls,
-        before: &before,
         ready: &ready,
     };
     let mut ride = [FAR; 3];
@@ -245,7 +243,6 @@ fn narrow_labels_end_at_their_horizon(rt: HostRuntime) -> Result<(), Fail> {
     falls_of(&before, &ready, &[true, false, false, false], &mut falls);
     let labels = Labels {
         falls: &falls,
-        before: &before,
         ready: &ready,
     };
     let mut ride = [FAR; 4];
@@ -281,7 +278,6 @@ fn nobody_catches_what_left_before_the_base(rt: HostRuntime) -> Result<(), Fail>
     falls_of(&before, &ready, &[true, false], &mut falls);
     let labels = Labels {
         falls: &falls,
-        before: &before,
         ready: &ready,
     };
     let mut ride = [FAR; 2];

@@ -1,7 +1,6 @@
 -- The rounds of one lane, step by step: where a round need not look, and which labels stay.
-use Rattle.std.proofs.Common.{◌≡◌, ◌≢◌, ℕ, ◌+◌, ◌<◌, inl, inr, List, Bool, true, Some, length, replicate, slice_index}
+use Rattle.std.proofs.Common.{◌≡◌, ◌≢◌, ℕ, ◌+◌, ◌<◌, inl, inr, List, Some, length, replicate, slice_index}
 use Rattle.std.proofs.Common.{slice_get, refl, sym, ◌∙◌, ap, arith}
-use Rattle.std.proofs.lemmas.Bool.{cases_lt}
 use Rattle.std.proofs.lemmas.List.{length-replicate}
 use Rattle.timetable.specs.declared.trips.Trip.{Trip}
 use Rattle.timetable.specs.Networks.{Net, IsNet}
@@ -10,7 +9,6 @@ use Rattle.timetable.specs.Steps.{Lowers, Carries, CarriesAny, ChangedOrWalked}
 use Rattle.timetable.specs.Journeys.{Whereabouts}
 use Rattle.trip_lanes.specs.Scan.{NothingLower}
 use Rattle.trip_lanes.specs.Walks.{OfferedFrom, TransferredFrom}
-use Rattle.trip_lanes.proofs.Carry.{lane_falls}
 use Rattle.rounds.specs.Labels.{LaneStateTo}
 use Rattle.rounds.specs.State.{Bounds}
 use Rattle.rounds.proofs.Fresh.{carried_settles}
@@ -55,17 +53,6 @@ unmarked_settles feet ride bound lowered ridden ready bound_ready start x len h 
       | inl e ↦ let low = by_own p y m (transfer_as feet ridden ride x p y (same ∙ e) o) in omega arith
       | inr e ↦ let low = by_bound p y (omega (arith, len)) (transfer_as feet ridden bound x p y (same ∙ e) o) in
           omega arith
-    ]
-
--- labels that fall only where the stop is noted stay where it isn't
-pub unnoted_same : {C : ℕ → ℕ → Type 0} (old new : List ℕ) (noted : List Bool) (p : ℕ) → Lowers C old new →
-    (slice_index new p < slice_index old p → slice_get noted p ≡ Some true) → (slice_get noted p ≡ Some true → ⊥) →
-    slice_index old p ≡ slice_index new p
-unnoted_same old new noted p low notes none =
-    let falls = lane_falls old new low p in
-    elim (cases_lt (slice_index new p) (slice_index old p)) [
-      | inl lt ↦ absurd (none (notes lt))
-      | inr ge ↦ omega arith
     ]
 
 module _ (never : ℕ) (n : Net) (ok : IsNet n) (later : Whereabouts) where

@@ -1,7 +1,12 @@
 -- What the trips of a line, and of lines, offer in a round.
 use Rattle.std.specs.Prelude.{◌≡◌, ℕ, List, length}
+use Rattle.timetable.specs.LineViews.{rows_of_line}
 use Rattle.timetable.specs.declared.trips.Trip.{Trip}
-use Rattle.timetable.specs.Steps.{Carries}
+use Rattle.timetable.specs.Steps.{Carries, CarriesAny}
+use Rattle.trip_lanes.specs.declared.falls.Fall.{Fall}
+use Rattle.trip_lanes.specs.Falls.{AreFalls}
+use Rattle.trip_lanes.specs.Rows.{NoneCaughtBefore}
+use Rattle.trip_lanes.specs.Scan.{NothingLower}
 use Rattle.trip_lanes.specs.declared.line_scan.Labels.{Labels}
 use Rattle.rounds.specs.Rank.{IsOfRank}
 
@@ -15,5 +20,18 @@ pub record CarriesLine (ready : List ℕ) (trips : List Trip) (line : List ℕ) 
 -- there are labels for each stop
 pub record AreSized {R : Type 0} (stops : ℕ) (labels : Labels R) : Type 0 where
   pub falls : length labels.falls.now ≡ stops
-  pub before : length labels.before.now ≡ stops
   pub ready : length labels.ready.now ≡ stops
+
+-- who was ready before, by labels that fell so far since then, rides to no lower label
+pub record AreCarried (trips : List Trip) (ready : List ℕ) (falls : List Fall) (ride : List ℕ) : Type 0 where
+  pub before : List ℕ
+  pub fell : AreFalls before ready falls
+  pub settled : NothingLower (CarriesAny before trips) ride
+
+-- so along a line, of which nobody newly catches a trip before this position
+pub record AreCarriedOn (trips : List Trip) (line ready : List ℕ) (falls : List Fall) (from : ℕ) (ride : List ℕ) :
+    Type 0 where
+  pub before : List ℕ
+  pub fell : AreFalls before ready falls
+  pub first : NoneCaughtBefore before ready (rows_of_line trips line) from
+  pub settled : NothingLower (CarriesLine before trips line) ride

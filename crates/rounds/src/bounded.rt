@@ -63,21 +63,16 @@ fn lower_to<R: Row>(labels: &mut [R], bound: &[u32], base: u32)
     }
 }
 
-/// Lowers each label to the bound of its stop, and notes it as the label before; no fall is noted any more.
-fn begin<R: Row>(labels: &mut [R], before: &mut [R], fallen: &mut [bool], bound: &[u32], base: u32)
+/// Lowers each label to the bound of its stop; no fall is noted any more.
+fn begin<R: Row>(labels: &mut [R], fallen: &mut [bool], bound: &[u32], base: u32)
     requires bound { length bound.now ≡ length labels.old }
-    requires before { length before.old ≡ length labels.old }
     ensures lanes { (l : ℕ) → l < R.LANES → Lowers (Bounds (bounds_in base R.NEVER bound.now))
         (lane l (labels_in R.labels labels.old)) (lane l (labels_in R.labels labels.new)) }
-    ensures before { before.new ≡ labels.new }
     ensures fallen { length fallen.new ≡ length fallen.old }
+    ensures none { (p : ℕ) → slice_get fallen.new p ≢ Some true }
 {
     fallen.fill(false);
-    for stop in 0..labels.len() {
-        let low = labels[stop].lower_of(bound_of(bound[stop], base));
-        labels[stop] = low;
-        before[stop] = low;
-    }
+    lower_to(labels, bound, base);
 }
 
 /// Lowers the labels of a stop to these times, and marks that stop alone.
@@ -174,19 +169,15 @@ pub(crate) fn run_bounded<R: Row>(
     clear(ready);
     set_out(ride, marked, query.origin.0 as usize, batch.departs);
     let none = &mut kept[0];
-    begin(ready, before, fallen, none.ready.as_slice(), base);
-    walk_marked(query.network.feet(), ride, marked, ready, fallen);
+    begin(ready, fallen, none.ready.as_slice(), base);
+    walk_marked(query.network.feet(), ride, marked, ready, fallen, before);
     keep_both(none, ride, ready, base);
     for k in 0..query.rides as usize {
         let bound = &mut kept[k + 1];
         lower_to(ride, bound.ride.as_slice(), base);
         marked.fill(false);
         falls_of(before, ready, fallen, falls);
-        let labels = Labels {
-            falls,
-            before,
-            ready,
-        };
+        let labels = Labels { falls, ready };
         let round = Round {
             trips: query.network.trips(),
             lines: query.lines,
@@ -194,8 +185,8 @@ pub(crate) fn run_bounded<R: Row>(
             base,
         };
         scan_lines(round, due, ride, marked);
-        begin(ready, before, fallen, bound.ready.as_slice(), base);
-        transfer_marked(query.network.feet(), ride, marked, ready, fallen);
+        begin(ready, fallen, bound.ready.as_slice(), base);
+        transfer_marked(query.network.feet(), ride, marked, ready, fallen, before);
         keep_both(bound, ride, ready, base);
     }
 }

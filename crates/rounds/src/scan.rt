@@ -4,12 +4,8 @@ ghost use Rattle.timetable.specs.Steps.{Lowers, CarriesAny};
 ghost use Rattle.timetable.specs.Lines.{AreLinesOf};
 ghost use Rattle.timetable.specs.declared.limits.TheConstants.{MOST_STOPS, MOST_TRIPS};
 ghost use Rattle.trip_lanes.specs.Lane.{lane, labels_in, MarksFallenOf};
-ghost use Rattle.trip_lanes.specs.Scan.{NothingLower};
-ghost use Rattle.trip_lanes.specs.Falls.{AreFalls};
-ghost use Rattle.trip_lanes.specs.Rows.{NoneCaughtBefore};
-ghost use Rattle.timetable.specs.LineViews.{rows_of_line};
 ghost use Rattle.rounds.specs.Cut.{cut_trips};
-ghost use Rattle.rounds.specs.Scan.{CarriesLine, AreSized};
+ghost use Rattle.rounds.specs.Scan.{CarriesLine, AreSized, AreCarried, AreCarriedOn};
 
 use crate::due::note_lines;
 use timetable::{Lines, NEVER, Trip};
@@ -48,18 +44,12 @@ fn scan_trips<R: Row>(
     requires stops { All (λ t. All (λ e. e.stop.0 < length ride.old) t.events) round.trips.now }
     requires short { All (λ row. length row ≤ R.NEVER) round.lines.now.lines }
     requires labels { AreSized (length ride.old) round.labels }
-    requires fallen { (l : ℕ) → l < R.LANES →
-        AreFalls (lane l (labels_in R.labels round.labels.before.now))
-        (lane l (labels_in R.labels round.labels.ready.now)) round.labels.falls.now }
     requires marked { length marked.old ≡ length ride.old }
     requires fits { (l p : ℕ) → l < R.LANES → slice_index (lane l (labels_in R.labels ride.old)) p ≤ R.NEVER }
-    requires first { (row : List ℕ) → slice_get round.lines.now.lines line ≡ Some row → (l : ℕ) → l < R.LANES →
-        NoneCaughtBefore (lane l (labels_in R.labels round.labels.before.now))
-        (lane l (labels_in R.labels round.labels.ready.now))
-        (rows_of_line (cut_trips round.base R.NEVER round.trips.now) row) first }
-    requires settled { (row : List ℕ) → slice_get round.lines.now.lines line ≡ Some row → (l : ℕ) → l < R.LANES →
-        NothingLower (CarriesLine (lane l (labels_in R.labels round.labels.before.now))
-        (cut_trips round.base R.NEVER round.trips.now) row) (lane l (labels_in R.labels ride.old)) }
+    requires before { (row : List ℕ) → slice_get round.lines.now.lines line ≡ Some row → (l : ℕ) → l < R.LANES →
+        AreCarriedOn (cut_trips round.base R.NEVER round.trips.now) row
+        (lane l (labels_in R.labels round.labels.ready.now)) round.labels.falls.now first
+        (lane l (labels_in R.labels ride.old)) }
     ensures lanes { (row : List ℕ) → slice_get round.entry.lines.now.lines line ≡ Some row → (l : ℕ) → l < R.LANES →
         Lowers (CarriesLine (lane l (labels_in R.labels round.entry.labels.ready.now))
         (cut_trips round.entry.base R.NEVER round.entry.trips.now) row) (lane l (labels_in R.labels ride.old))
@@ -93,15 +83,12 @@ pub(crate) fn scan_lines<R: Row>(
     requires stops { All (λ t. All (λ e. e.stop.0 < length ride.old) t.events) round.trips.now }
     requires short { All (λ row. length row ≤ R.NEVER) round.lines.now.lines }
     requires labels { AreSized (length ride.old) round.labels }
-    requires fallen { (l : ℕ) → l < R.LANES →
-        AreFalls (lane l (labels_in R.labels round.labels.before.now))
-        (lane l (labels_in R.labels round.labels.ready.now)) round.labels.falls.now }
     requires due { length due.old ≡ length round.lines.now.lines }
     requires marked { length marked.old ≡ length ride.old }
     requires fits { (l p : ℕ) → l < R.LANES → slice_index (lane l (labels_in R.labels ride.old)) p ≤ R.NEVER }
-    requires settled { (l : ℕ) → l < R.LANES →
-        NothingLower (CarriesAny (lane l (labels_in R.labels round.labels.before.now))
-        (cut_trips round.base R.NEVER round.trips.now)) (lane l (labels_in R.labels ride.old)) }
+    requires before { (l : ℕ) → l < R.LANES → AreCarried (cut_trips round.base R.NEVER round.trips.now)
+        (lane l (labels_in R.labels round.labels.ready.now)) round.labels.falls.now
+        (lane l (labels_in R.labels ride.old)) }
     ensures due { length due.new ≡ length due.old }
     ensures lanes { (l : ℕ) → l < R.LANES → Lowers
         (CarriesAny (lane l (labels_in R.labels round.entry.labels.ready.now))

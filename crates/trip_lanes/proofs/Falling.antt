@@ -2,6 +2,8 @@
 use Rattle.std.proofs.Common.{ℕ, ◌<◌, inl, inr, List, length, slice_index, refl, sym, ◌∙◌, arith, subst}
 use Rattle.timetable.specs.Steps.{Lowers}
 use Rattle.trip_lanes.specs.Scan.{NothingLower, FallsTo}
+use Rattle.trip_lanes.specs.Falls.{AreFalls}
+use Rattle.trip_lanes.specs.declared.falls.Fall.{Fall}
 use Rattle.trip_lanes.proofs.Carry.{lane_falls}
 
 pub falls_none : {C : ℕ → ℕ → Type 0} (a : List ℕ) → FallsTo C a a
@@ -54,5 +56,16 @@ lowers_of h none =
           | inl s ↦ let f = h.falls p in omega (arith, s)
           | inr c ↦ none p m (omega (arith, h.same_length)) c
         ];
+      };
+    }
+
+-- any falls are those of labels that stay
+pub falls_of_none : (ready : List ℕ) (falls : List Fall) → AreFalls ready ready falls
+falls_of_none ready falls =
+    record {
+      fall = λ p f at. record {
+        low = λ k. absurd (omega (arith, k));
+        high = λ k. absurd (omega (arith, k));
+        top = λ k. absurd (omega (arith, k));
       };
     }

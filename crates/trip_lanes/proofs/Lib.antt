@@ -11,3 +11,4 @@ pub mod Choosing
 pub mod Lining
 pub mod RowLanes
 pub mod Parts
+pub mod Noting

@@ -1,7 +1,7 @@
 //! How far the labels of stops fell.
-ghost use Rattle.std.specs.Prelude.{◌≡◌, ℕ, ◌<◌, ◌≤◌, length, slice_index, slice_get, Some, true};
+ghost use Rattle.std.specs.Prelude.{◌≡◌, ℕ, ◌<◌, List, length};
 ghost use Rattle.trip_lanes.specs.Lane.{lane, labels_in};
-ghost use Rattle.trip_lanes.specs.Falls.{AreFalls};
+ghost use Rattle.trip_lanes.specs.Falls.{AreFalls, AreNoted};
 
 use crate::rows::Row;
 use timetable::NEVER;
@@ -24,16 +24,16 @@ pub const UNFALLEN: Fall = Fall {
     top: 0,
 };
 
-/// How far the labels of each stop fell that is noted in `fallen`; at the others none did.
+/// How far the labels of each stop fell that is noted in `fallen`, from those that were kept of it; at the others none
+/// did.
 pub fn falls_of<R: Row>(before: &[R], ready: &[R], fallen: &[bool], falls: &mut [Fall])
     requires before { length before.now ≡ length ready.now }
     requires fallen { length fallen.now ≡ length ready.now }
     requires falls { length falls.old ≡ length ready.now }
-    requires same { (l p : ℕ) → l < R.LANES → (slice_get fallen.now p ≡ Some true → ⊥) →
-        slice_index (lane l (labels_in R.labels before.now)) p ≡ slice_index (lane l (labels_in R.labels ready.now)) p }
     ensures same { length falls.new ≡ length falls.old }
-    ensures falls { (l : ℕ) → l < R.LANES → AreFalls (lane l (labels_in R.labels before.now))
-        (lane l (labels_in R.labels ready.now)) falls.new }
+    ensures falls { (l : ℕ) (was : List ℕ) → l < R.LANES → AreNoted was (lane l (labels_in R.labels ready.now))
+        (lane l (labels_in R.labels before.now)) fallen.now →
+        AreFalls was (lane l (labels_in R.labels ready.now)) falls.new }
 {
     for stop in 0..ready.len() {
         if fallen[stop] {

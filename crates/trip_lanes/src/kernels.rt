@@ -1,5 +1,6 @@
 ghost use Rattle.std.specs.Prelude.{◌≡◌, ℕ, ◌<◌, ◌≤◌, length, min, max, cond, nat_le, slice_index, slice_get, Some};
-ghost use Rattle.std.specs.Prelude.{IsTrue, ◌↔◌, ◌⊎◌};
+ghost use Rattle.std.specs.Prelude.{IsTrue, ◌↔◌, ◌⊎◌, List, set, true, false};
+ghost use Rattle.trip_lanes.specs.Falls.{AreNoted};
 ghost use Rattle.trip_lanes.specs.Lane.{SomeFell, lane, labels_in, MarksFallen, MarksFallenOf};
 ghost use Rattle.timetable.specs.Steps.{Lowers, Carries};
 ghost use Rattle.timetable.specs.declared.trips.Event.{Event};
@@ -39,6 +40,7 @@ fn fell(new: Lanes, old: Lanes) -> bool
 }
 
 /// Lowers the lanes of a stop to these times, and marks the stop where one fell.
+#[inline(always)]
 pub fn lower_row<R: Row>(labels: &mut [R], marked: &mut [bool], stop: usize, times: R)
     requires stop { stop < length labels.old }
     requires same { length marked.old ≡ length labels.old }
@@ -53,6 +55,49 @@ pub fn lower_row<R: Row>(labels: &mut [R], marked: &mut [bool], stop: usize, tim
     if new.changed(old) {
         labels[stop] = new;
         marked[stop] = true;
+    }
+}
+
+/// Lowers the lanes of a stop to these times. Where one fell the stop is noted, and at its first fall its labels before
+/// are kept.
+#[inline(always)]
+pub(crate) fn lower_noting<R: Row>(
+    ready: &mut [R],
+    fallen: &mut [bool],
+    before: &mut [R],
+    stop: usize,
+    times: R,
+)
+    requires stop { stop < length ready.old }
+    requires fallen { length fallen.old ≡ length ready.old }
+    requires before { length before.old ≡ length ready.old }
+    ensures lanes { (l : ℕ) → l < R.LANES → Lowers (λ p x. (p ≡ stop)
+        × (x ≡ slice_index (R.labels times) l)) (lane l (labels_in R.labels ready.old))
+        (lane l (labels_in R.labels ready.new)) }
+    ensures fallen { MarksFallenOf R.LANES (labels_in R.labels ready.old) (labels_in R.labels ready.new) fallen.old
+        fallen.new }
+    ensures before { (l : ℕ) (was : List ℕ) → l < R.LANES →
+        AreNoted was (lane l (labels_in R.labels ready.old)) (lane l (labels_in R.labels before.old)) fallen.old →
+        AreNoted was (lane l (labels_in R.labels ready.new)) (lane l (labels_in R.labels before.new)) fallen.new }
+{
+    let old = ready[stop];
+    let low = old.lower_of(times);
+    if low.changed(old) {
+        keep_first(before, stop, old, fallen[stop]);
+        ready[stop] = low;
+        fallen[stop] = true;
+    }
+}
+
+/// Keeps the labels of a stop, unless its first fall is noted already.
+#[inline(always)]
+fn keep_first<R: Row>(before: &mut [R], stop: usize, old: R, noted: bool)
+    requires stop { stop < length before.old }
+    ensures first { noted ≡ false → before.new ≡ set before.old stop old }
+    ensures later { noted ≡ true → before.new ≡ before.old }
+{
+    if !noted {
+        before[stop] = old;
     }
 }
 

@@ -29,11 +29,10 @@ pub struct LineView<'a> {
     pub base: u32,
 }
 
-/// For each stop, from which second one may board there now and could before, and how far this fell.
+/// For each stop, from which second one may board there, and how far this fell from what it was before.
 #[derive(Clone, Copy)]
 pub struct Labels<'a, R> {
     pub falls: &'a [Fall],
-    pub before: &'a [R],
     pub ready: &'a [R],
 }
 
@@ -49,13 +48,9 @@ pub fn scan_line<R: Row>(
     requires times { length line.times.now ≡ line.trips * length line.calls.now }
     requires stops { All (λ c. c.stop.0 < length ride.old) line.calls.now }
     requires few { line.trips ≤ R.NEVER }
-    requires before { length labels.before.now ≡ length ride.old }
     requires ready { length labels.ready.now ≡ length ride.old }
     requires falls { length labels.falls.now ≡ length ride.old }
     requires marked { length marked.old ≡ length ride.old }
-    requires fallen { (l : ℕ) → l < R.LANES →
-        AreFalls (lane l (labels_in R.labels labels.before.now)) (lane l (labels_in R.labels labels.ready.now))
-        labels.falls.now }
     requires fits { (l p : ℕ) → l < R.LANES → slice_index (lane l (labels_in R.labels ride.old)) p ≤ R.NEVER }
     ensures marks { MarksFallenOf R.LANES (labels_in R.labels ride.old) (labels_in R.labels ride.new) marked.old
         marked.new }
@@ -67,8 +62,9 @@ pub fn scan_line<R: Row>(
     ensures caught { (rows : List (List Event)) →
         IsCutViewOf line.entry.base R.NEVER rows line.entry.calls.now line.entry.times.now →
         length rows ≡ line.entry.trips → NoneOvertakes rows →
-        (l r j : ℕ) → l < R.LANES → from ≤ j → IsCaught (lane l (labels_in R.labels labels.entry.before.now))
-        (lane l (labels_in R.labels labels.entry.ready.now)) rows r j →
+        (l r j : ℕ) (before : List ℕ) → l < R.LANES →
+        AreFalls before (lane l (labels_in R.labels labels.entry.ready.now)) labels.entry.falls.now → from ≤ j →
+        IsCaught before (lane l (labels_in R.labels labels.entry.ready.now)) rows r j →
         IsPast rows (lane l (labels_in R.labels ride.new)) r j }
 {
     let positions = line.calls.len();

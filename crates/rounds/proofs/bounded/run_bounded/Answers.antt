@@ -2,7 +2,7 @@ use Rattle.std.proofs.Common.{rules, ◌≡◌, ◌≢◌, ◌<◌, ◌≤◌, �
 use Rattle.std.proofs.Common.{slice_get, get_or, Some, true, ap, refl, sym, ◌∙◌, arith}
 use Rattle.std.specs.Vec.{with_items}
 use Rattle.std.proofs.lemmas.Bool.{cases_lt}
-use Rattle.std.proofs.lemmas.List.{length-map, get_or_past, with_items_is}
+use Rattle.std.proofs.lemmas.List.{length-map, with_items_is}
 use Rattle.std.proofs.lemmas.Option.{same_Some, slice_get-get_or}
 use Rattle.timetable.specs.Footpaths.{FeetData}
 use Rattle.timetable.specs.Steps.{Lowers}
@@ -11,7 +11,8 @@ use Rattle.timetable.specs.Journeys.{Whereabouts}
 use Rattle.timetable.specs.declared.least.TheConstants.{NEVER}
 use Rattle.timetable.proofs.Adding.{set_same, set_other}
 use Rattle.trip_lanes.specs.Cut.{cut}
-use Rattle.trip_lanes.specs.Lane.{lane, labels_in, MarksFallenOf}
+use Rattle.trip_lanes.specs.Falls.{AreNoted}
+use Rattle.trip_lanes.specs.Lane.{lane, labels_in}
 use Rattle.trip_lanes.proofs.Carry.{lane_falls}
 use Rattle.trip_lanes.proofs.Marked.{unmarked_still}
 use Rattle.rounds.specs.declared.bounded.Kept.{Kept}
@@ -21,7 +22,7 @@ use Rattle.rounds.specs.Labels.{LaneStateTo}
 use Rattle.rounds.proofs.CutNetworks.{cut_net_is_net}
 use Rattle.rounds.proofs.LabelTables.{fits_after, fits_of}
 use Rattle.rounds.proofs.LabelStates.{bounded_start, bounded_next}
-use Rattle.rounds.proofs.LaneRounds.{unnoted_same, start_walks, start_settled, round_settled, round_walks}
+use Rattle.rounds.proofs.LaneRounds.{start_walks, start_settled, round_settled, round_walks}
 use Rattle.rounds.proofs.bounded.run_bounded.Goals as goal
 
 -- a lane of rows that were cleared, of which it is known how many there are
@@ -29,16 +30,10 @@ cleared : (never m n l : ℕ) (rows : List (List ℕ)) → lane l rows ≡ repli
     lane l rows ≡ replicate n never
 cleared never m n l rows e f = e ∙ ap (λ (i : ℕ). replicate i never) f
 
--- where no fall was noted, the labels are as they were
-unfallen_same : {C : ℕ → ℕ → Type 0} (lanes : ℕ) (old new : List (List ℕ)) (was is : List Bool) (l p : ℕ) →
-    MarksFallenOf lanes old new was is → length old ≡ length was → Lowers C (lane l old) (lane l new) → l < lanes →
-    (slice_get is p ≡ Some true → ⊥) → slice_index (lane l old) p ≡ slice_index (lane l new) p
-unfallen_same lanes old new was is l p marks long low h none = elim (cases_lt p (length was)) [
-  | inl within ↦ unnoted_same (lane l old) (lane l new) is p low (λ lt. (marks.marks p within).1 (inr (l, h, lt))) none
-  | inr past ↦
-      let old_long = length-map old (λ w. slice_index w l) in
-      get_or_past (lane l old) p 0 (omega arith) ∙ sym (get_or_past (lane l new) p 0 (omega (arith, low.same_length)))
-]
+-- where no stop is noted, labels are as they were before
+none_noted : (ready kept : List ℕ) (fallen : List Bool) → ((p : ℕ) → slice_get fallen p ≢ Some true) →
+    AreNoted ready ready kept fallen
+none_noted ready kept fallen none = record { noted = λ p on. absurd (none p on); still = λ p out. refl }
 
 -- what is kept of labels has a position for each stop
 kept_long : (base never k : ℕ) (n : Net) (o : Whereabouts) (x : Kept) →
@@ -49,8 +44,8 @@ kept_long base never k n o x s = (
   sym (length-map x.ready.items (cut base never)) ∙ s.ready_len,
 )
 
-pub begin-requires-clause-bound : goal.begin-requires-clause-bound
-begin-requires-clause-bound g c =
+pub begin-requires : goal.begin-requires
+begin-requires g c =
     let never = g.R.Row.NEVER in
     let base = c.args.batch.base in
     let n = c.args.query.network.now in
@@ -212,7 +207,7 @@ loop-k-init g c =
     record {
       rides = search rules;
       readies = c.walk_marked.auto.ready ∙ begun;
-      befores = ap length c.begin.ensures.before ∙ begun;
+      befores = search rules;
       marked = search rules;
       fallen = search rules;
       due = search rules;
@@ -227,23 +222,21 @@ loop-k-init g c =
           rw (e, ← is, c.keep_both.ensures.ride, c.keep_both.ensures.ready) (lanes 0 some);
       bounds = λ j x more few here. c.requires.bounds j x few
           (sym (set_other was 0 j c.keep_both.new.kept (λ e. omega arith)) ∙ here);
-      unfallen = λ l p h out.
-          let long : length (rows c.begin.new.labels) ≡ length c.begin.new.fallen =
-          length-map c.begin.new.labels g.R.Row.labels ∙ begun
-          ∙ sym (c.begin.ensures.fallen ∙ ap length c.as_mut_slice-fallen.ensures.value
-          ∙ c.requires.tables.fallen) in
-          rw c.begin.ensures.before (unfallen_same g.R.Row.LANES (rows c.begin.new.labels)
-          (rows c.walk_marked.new.ready) c.begin.new.fallen c.walk_marked.new.fallen l p
-          c.walk_marked.ensures.fallen long (c.walk_marked.ensures.lanes l h) h out);
-      settled = λ trip l t x lowered runs h room here lower.
-          let next = c.requires.bounds 1 x (omega arith)
-          (sym (set_other was 0 1 c.keep_both.new.kept (λ e. omega arith)) ∙ here) in
-          rw c.begin.ensures.before (start_settled never cn ok later (slice_index departs l) c.args.query.origin.0
-          (lane l (rows c.set_out.new.ride)) (lane l (rows c.begin.new.labels)) lowered
-          (bounds_in base never (get_or c.args.kept.now 0 c.index-kept-0.result).ride.items)
-          (bounds_in base never (get_or c.args.kept.now 0 c.index-kept-0.result).ready.items)
-          (bounds_in base never x.ride.items) (bounds_in base never x.ready.items)
-          first next (low l h) (start l h) lower trip t runs);
+      settled = λ l h. (
+        lane l (rows c.begin.new.labels),
+        c.walk_marked.ensures.before l (lane l (rows c.begin.new.labels)) h (none_noted
+            (lane l (rows c.begin.new.labels)) (lane l (rows c.as_mut_slice-before.result.now)) c.begin.new.fallen
+            c.begin.ensures.none),
+        λ trip t x lowered runs room here lower.
+            let next = c.requires.bounds 1 x (omega arith)
+            (sym (set_other was 0 1 c.keep_both.new.kept (λ e. omega arith)) ∙ here) in
+            (start_settled never cn ok later (slice_index departs l) c.args.query.origin.0
+            (lane l (rows c.set_out.new.ride)) (lane l (rows c.begin.new.labels)) lowered
+            (bounds_in base never (get_or c.args.kept.now 0 c.index-kept-0.result).ride.items)
+            (bounds_in base never (get_or c.args.kept.now 0 c.index-kept-0.result).ready.items)
+            (bounds_in base never x.ride.items) (bounds_in base never x.ready.items)
+            first next (low l h) (start l h) lower trip t runs),
+      );
     }
 
 pub lower_to-requires : goal.lower_to-requires
@@ -260,27 +253,29 @@ lower_to-requires g c =
     (slice_get-get_or was (k + 1) c.index-kept-k.result (omega (arith, c.loop-k.invariant.many)))) in
     omega (arith, long.0, ap length c.as_slice-in-loop-k.ensures.value, c.loop-k.invariant.rides)
 
-pub falls_of-requires-clause-same : goal.falls_of-requires-clause-same
-falls_of-requires-clause-same g c = c.loop-k.invariant.unfallen
-
 pub scan_lines-requires-clause-fits : goal.scan_lines-requires-clause-fits
 scan_lines-requires-clause-fits g c l p h =
     let rows = labels_in g.R.Row.labels in
     fits_after g.R.Row.NEVER (lane l (rows c.loop-k.ride)) (lane l (rows c.lower_to.new.labels))
     (c.loop-k.invariant.lanes l h).ride_fits (c.lower_to.ensures l h) p
 
-pub scan_lines-requires-clause-settled : goal.scan_lines-requires-clause-settled
-scan_lines-requires-clause-settled g c l h p x within o =
-    c.loop-k.invariant.settled o.trip l o.t (get_or c.loop-k.kept (c.loop-k.k + 1) c.index-kept-k.result)
-    (lane l (labels_in g.R.Row.labels c.lower_to.new.labels)) (rw c.trips.ensures at o.runs) h (omega arith)
-    (slice_get-get_or c.loop-k.kept (c.loop-k.k + 1) c.index-kept-k.result (omega (
-      arith,
-      c.loop-k.invariant.many,
-    ))) (rw c.as_slice-in-loop-k.ensures.value at (c.lower_to.ensures l h)) p x within
-    o.carries
+pub scan_lines-requires-clause-before : goal.scan_lines-requires-clause-before
+scan_lines-requires-clause-before g c l h =
+    let was = c.loop-k.invariant.settled l h in
+    record {
+      before = was.0;
+      fell = c.falls_of.ensures.falls l was.0 h was.1;
+      settled = λ p x within o. was.2 o.trip o.t (get_or c.loop-k.kept (c.loop-k.k + 1) c.index-kept-k.result)
+          (lane l (labels_in g.R.Row.labels c.lower_to.new.labels)) (rw c.trips.ensures at o.runs) (omega arith)
+          (slice_get-get_or c.loop-k.kept (c.loop-k.k + 1) c.index-kept-k.result (omega (
+            arith,
+            c.loop-k.invariant.many,
+          ))) (rw c.as_slice-in-loop-k.ensures.value at (c.lower_to.ensures l h)) p x within
+          o.carries;
+    }
 
-pub begin-requires-in-loop-k-clause-bound : goal.begin-requires-in-loop-k-clause-bound
-begin-requires-in-loop-k-clause-bound g c =
+pub begin-requires-in-loop-k : goal.begin-requires-in-loop-k
+begin-requires-in-loop-k g c =
     let never = g.R.Row.NEVER in
     let base = c.args.batch.base in
     let n = c.args.query.network.now in
@@ -427,7 +422,7 @@ loop-k-preserved g c =
     record {
       rides = search rules;
       readies = c.transfer_marked.auto.ready ∙ begun;
-      befores = ap length c.begin-in-loop-k.ensures.before ∙ begun;
+      befores = search rules;
       marked = search rules;
       fallen = search rules;
       due = search rules;
@@ -448,27 +443,26 @@ loop-k-preserved g c =
           ];
       bounds = λ j x more few here. c.loop-k.invariant.bounds j x (omega arith) few
           (sym (set_other c.loop-k.kept (k + 1) j c.keep_both-in-loop-k.new.kept (λ e. omega arith)) ∙ here);
-      unfallen = λ l p h out.
-          let long : length (rows c.begin-in-loop-k.new.labels) ≡ length c.begin-in-loop-k.new.fallen =
-          length-map c.begin-in-loop-k.new.labels g.R.Row.labels ∙ begun
-          ∙ sym (c.begin-in-loop-k.ensures.fallen ∙ c.loop-k.invariant.fallen) in
-          rw c.begin-in-loop-k.ensures.before (unfallen_same g.R.Row.LANES (rows c.begin-in-loop-k.new.labels)
-          (rows c.transfer_marked.new.ready) c.begin-in-loop-k.new.fallen c.transfer_marked.new.fallen l p
-          c.transfer_marked.ensures.fallen long (c.transfer_marked.ensures.lanes l h) h out);
-      settled = λ trip l t x lowered runs h room here lower.
-          let next = c.loop-k.invariant.bounds (k + 1 + 1) x (omega arith) (omega arith)
-          (sym (set_other c.loop-k.kept (k + 1) (k + 1 + 1) c.keep_both-in-loop-k.new.kept (λ e. omega arith))
-          ∙ here) in
-          rw c.begin-in-loop-k.ensures.before (round_settled never cn ok later
-          (start_at c.args.query (slice_index departs l)) k (lane l (rows c.loop-k.ride))
-          (lane l (rows c.loop-k.ready)) (lane l (rows c.lower_to.new.labels))
-          (lane l (rows c.scan_lines.new.ride)) (lane l (rows c.begin-in-loop-k.new.labels)) lowered
-          (bounds_in base never (get_or c.loop-k.kept (c.loop-k.k + 1) c.index-kept-k.result).ride.items)
-          (bounds_in base never (get_or c.loop-k.kept (c.loop-k.k + 1) c.index-kept-k.result).ready.items)
-          (bounds_in base never x.ride.items) (bounds_in base never x.ready.items)
-          (c.loop-k.invariant.lanes l h) (lanes l h).ride_len bound next
-          (rw c.trips.ensures at (c.scan_lines.ensures.lanes l h))
-          (rw c.as_slice-in-loop-k-2.ensures.value at (c.begin-in-loop-k.ensures.lanes l h)) lower trip t runs);
+      settled = λ l h. (
+        lane l (rows c.begin-in-loop-k.new.labels),
+        c.transfer_marked.ensures.before l (lane l (rows c.begin-in-loop-k.new.labels)) h (none_noted
+            (lane l (rows c.begin-in-loop-k.new.labels)) (lane l (rows c.loop-k.before)) c.begin-in-loop-k.new.fallen
+            c.begin-in-loop-k.ensures.none),
+        λ trip t x lowered runs room here lower.
+            let next = c.loop-k.invariant.bounds (k + 1 + 1) x (omega arith) (omega arith)
+            (sym (set_other c.loop-k.kept (k + 1) (k + 1 + 1) c.keep_both-in-loop-k.new.kept (λ e. omega arith))
+            ∙ here) in
+            (round_settled never cn ok later
+            (start_at c.args.query (slice_index departs l)) k (lane l (rows c.loop-k.ride))
+            (lane l (rows c.loop-k.ready)) (lane l (rows c.lower_to.new.labels))
+            (lane l (rows c.scan_lines.new.ride)) (lane l (rows c.begin-in-loop-k.new.labels)) lowered
+            (bounds_in base never (get_or c.loop-k.kept (c.loop-k.k + 1) c.index-kept-k.result).ride.items)
+            (bounds_in base never (get_or c.loop-k.kept (c.loop-k.k + 1) c.index-kept-k.result).ready.items)
+            (bounds_in base never x.ride.items) (bounds_in base never x.ready.items)
+            (c.loop-k.invariant.lanes l h) (lanes l h).ride_len bound next
+            (rw c.trips.ensures at (c.scan_lines.ensures.lanes l h))
+            (rw c.as_slice-in-loop-k-2.ensures.value at (c.begin-in-loop-k.ensures.lanes l h)) lower trip t runs),
+      );
     }
 
 pub returns-clause-tables : goal.returns-clause-tables
@@ -481,7 +475,9 @@ returns-clause-tables g c =
       ready = ap length (with_items_is t.ready c.loop-k.ready (c.loop-k.invariant.readies
           ∙ (sym c.requires.tables.ready ∙ (sym (ap length c.as_mut_slice-ready.ensures.value)
           ∙ c.as_mut_slice-ready.ensures.len)))) ∙ c.loop-k.invariant.readies;
-      before = search rules;
+      before = ap length (with_items_is t.before c.loop-k.before (c.loop-k.invariant.befores
+          ∙ (sym c.requires.tables.before ∙ (sym (ap length c.as_mut_slice-before.ensures.value)
+          ∙ c.as_mut_slice-before.ensures.len)))) ∙ c.loop-k.invariant.befores;
       falls = search rules;
       marked = ap length (with_items_is t.marked c.loop-k.marked (c.loop-k.invariant.marked
           ∙ (sym c.requires.tables.marked ∙ (sym (ap length c.as_mut_slice-marked.ensures.value)

@@ -1,8 +1,9 @@
-use Rattle.std.proofs.Common.{◌≡◌, ℕ, ◌<◌, ◌≤◌, ◌+◌, List, length, slice_index, slice_get, Some, true}
+use Rattle.std.proofs.Common.{◌≡◌, ℕ, ◌<◌, ◌≤◌, ◌+◌, List, length, slice_index, slice_get, Some}
 use Rattle.timetable.specs.declared.trips.Trip.{Trip}
 use Rattle.timetable.specs.Steps.{Lowers, Carries}
 use Rattle.trip_lanes.specs.Cut.{cut}
 use Rattle.trip_lanes.specs.Lane.{lane, labels_in}
+use Rattle.trip_lanes.specs.Falls.{AreNoted}
 use Rattle.trip_lanes.specs.Scan.{NothingLower}
 use Rattle.rounds.specs.declared.bounded.Kept.{Kept}
 use Rattle.rounds.specs.Batches.{AreKept, start_at, bounds_in}
@@ -37,10 +38,10 @@ invariant-loop-k g v =
       bounds : (j : ℕ) (x : Kept) → v.k < j → j ≤ v.query.rides → slice_get v.kept j ≡ Some x →
           LaneStateTo never n (start_at v.query (cut base never batch.later)) j (bounds_in base never x.ride.items)
           (bounds_in base never x.ready.items);
-      unfallen : (l p : ℕ) → l < g.R.Row.LANES → (slice_get v.fallen p ≡ Some true → ⊥) →
-          slice_index (lane l (rows v.before)) p ≡ slice_index (lane l (rows v.ready)) p;
-      settled : (trip l : ℕ) (t : Trip) (x : Kept) (lowered : List ℕ) → slice_get n.trips trip ≡ Some t →
-          l < g.R.Row.LANES → v.k < v.query.rides → slice_get v.kept (v.k + 1) ≡ Some x →
+      settled : (l : ℕ) → l < g.R.Row.LANES → (before : List ℕ)
+          × AreNoted before (lane l (rows v.ready)) (lane l (rows v.before)) v.fallen
+          × ((trip : ℕ) (t : Trip) (x : Kept) (lowered : List ℕ) → slice_get n.trips trip ≡ Some t →
+          v.k < v.query.rides → slice_get v.kept (v.k + 1) ≡ Some x →
           Lowers (Bounds (bounds_in base never x.ride.items)) (lane l (rows v.ride)) lowered →
-          NothingLower (Carries (lane l (rows v.before)) t) lowered;
+          NothingLower (Carries before t) lowered);
     }

@@ -26,29 +26,29 @@ scan_trips-requires-clause-fits g c l p h =
     let low = lane_falls old now (c.loop-i.invariant.lanes l h) p in
     omega arith
 
-pub scan_trips-requires-clause-settled : goal.scan_trips-requires-clause-settled
-scan_trips-requires-clause-settled g c row at l h =
-    let old = lane l (labels_in g.R.Row.labels c.args.ride.now) in
-    let now = lane l (labels_in g.R.Row.labels c.loop-i.ride) in
-    let falls = c.loop-i.invariant.lanes l h in
-    line_settled (lane l (labels_in g.R.Row.labels c.args.round.labels.before.now))
-    (cut_trips c.args.round.base g.R.Row.NEVER c.args.round.trips.now) row old now falls.same_length
-    (lane_falls old now falls) (c.requires.settled l h)
-
-pub scan_trips-requires-clause-first : goal.scan_trips-requires-clause-first
-scan_trips-requires-clause-first g c row at l h r j caught =
+pub scan_trips-requires-clause-before : goal.scan_trips-requires-clause-before
+scan_trips-requires-clause-before g c row at l h =
     let base = c.args.round.base in
     let cap = g.R.Row.NEVER in
     let trips = c.args.round.trips.now in
     let lists = c.args.round.lines.now in
     let are = c.requires.lines in
     let stops = length c.args.ride.now in
-    catches_from (cut_trips base cap trips) lists.lines (cut_lines base cap trips lists.lines are.lines) c.loop-i.i
-    row at (lane l (labels_in g.R.Row.labels c.args.round.labels.before.now))
-    (lane l (labels_in g.R.Row.labels c.args.round.labels.ready.now))
-    stops lists.boarded (cut_boarded base cap stops trips lists.lines lists.boarded are.boarded)
-    c.args.round.labels.falls.now c.note_lines.new.due (omega arith) (c.requires.fallen l h)
-    c.note_lines.ensures r j caught
+    let was = c.requires.before l h in
+    let old = lane l (labels_in g.R.Row.labels c.args.ride.now) in
+    let now = lane l (labels_in g.R.Row.labels c.loop-i.ride) in
+    let lower = c.loop-i.invariant.lanes l h in
+    record {
+      before = was.before;
+      fell = was.fell;
+      first = λ r j caught. catches_from (cut_trips base cap trips) lists.lines
+          (cut_lines base cap trips lists.lines are.lines) c.loop-i.i row at was.before
+          (lane l (labels_in g.R.Row.labels c.args.round.labels.ready.now))
+          stops lists.boarded (cut_boarded base cap stops trips lists.lines lists.boarded are.boarded)
+          c.args.round.labels.falls.now c.note_lines.new.due (omega arith) was.fell c.note_lines.ensures r j caught;
+      settled = line_settled was.before (cut_trips base cap trips) row old now lower.same_length
+          (lane_falls old now lower) was.settled;
+    }
 
 pub loop-i-preserved : goal.loop-i-preserved
 loop-i-preserved g c =
@@ -78,18 +78,19 @@ loop-i-preserved g c =
             rw w.ride-is (one_line (lane k (labels_in g.R.Row.labels c.args.round.labels.ready.now)) trips lists.lines x
             line at_x (old.lanes k l) (w.scan_trips.ensures.lanes line at_x k l))
         | else-first-calls_of w ↦
-            let before = lane k (labels_in g.R.Row.labels c.args.round.labels.before.now) in
+            let was = c.requires.before k l in
+            let before = was.before in
             let ready = lane k (labels_in g.R.Row.labels c.args.round.labels.ready.now) in
             let now = lane k mid in
             let settled = line_settled before trips line (lane k start) now (old.lanes k l).same_length
-            (lane_falls (lane k start) now (old.lanes k l)) (c.requires.settled k l) in
+            (lane_falls (lane k start) now (old.lanes k l)) was.settled in
             let view = are.viewed.view x line c.calls_of.result.now (get_or lists.times x []) at_x c.calls_of.ensures
             (slice_get-get_or lists.times x [] (omega (arith, are.viewed.times_size))) in
             let stops = length c.args.ride.now in
             let outside : (r j : ℕ) → IsCaught before ready (rows_of_line trips line) r j → ⊥ = λ r j caught.
             let low = catches_from trips lists.lines cut_are x line at_x before ready stops lists.boarded
             (cut_boarded base cap stops c.args.round.trips.now lists.lines lists.boarded are.boarded)
-            c.args.round.labels.falls.now c.note_lines.new.due (omega arith) (c.requires.fallen k l)
+            c.args.round.labels.falls.now c.note_lines.new.due (omega arith) was.fell
             c.note_lines.ensures r j caught in
             let own = cut_at_got base cap c.args.round.trips.now line r j caught.on caught.from in
             let inside = slice_get_within own.1.row j own.0 own.1.event in

@@ -58,13 +58,12 @@ returns-clause-lanes g c row at l h =
     let rows = rows_of_line trips line in
     let long = rows_long trips line is in
     let order = cut_none_overtakes base cap c.args.round.trips.now line whole in
-    let before = lane l (labels_in g.R.Row.labels c.args.round.labels.before.now) in
+    let was = c.requires.before line c.trips_of-row.ensures l h in
     let ready = lane l (labels_in g.R.Row.labels c.args.round.labels.ready.now) in
     let old = lane l (labels_in g.R.Row.labels c.args.ride.now) in
     let new = lane l (labels_in g.R.Row.labels c.scan_line.new.ride) in
     let same : line ≡ row = same_Some line row (sym c.trips_of-row.ensures ∙ at) in
     subst (λ (x : List ℕ). Lowers (CarriesLine ready trips x) old new) same
-    (line_scanned trips line is c.args.first before ready old new (c.requires.first line c.trips_of-row.ensures l h)
-    (c.requires.settled line c.trips_of-row.ensures l h)
+    (line_scanned trips line is c.args.first was.before ready old new was.first was.settled
     (c.scan_line.ensures.lanes rows view long order l h)
-    (λ r j low k. c.scan_line.ensures.caught rows view long order l r j h low k))
+    (λ r j low k. c.scan_line.ensures.caught rows view long order l r j was.before h was.fell low k))

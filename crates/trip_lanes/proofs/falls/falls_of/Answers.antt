@@ -1,6 +1,6 @@
 use Rattle.std.proofs.Common.{rules, true, false, ◌≡◌, ◌<◌, ℕ, inl, inr, List, length, get_or, set, slice_get}
 use Rattle.std.proofs.Common.{slice_index, Some, arith, sym, ◌∙◌, ap, subst}
-use Rattle.std.proofs.lemmas.Bool.{cases_lt, false≢true}
+use Rattle.std.proofs.lemmas.Bool.{cases_lt, cases_Bool, false≢true}
 use Rattle.std.proofs.lemmas.List.{get_or-set_same, get_or-set_other, length-set}
 use Rattle.std.proofs.lemmas.Option.{slice_get_within, get_or_from_slice_get, slice_get-get_or}
 use Rattle.trip_lanes.proofs.Lower.{row_lane}
@@ -28,14 +28,14 @@ loop-stop-preserved g c =
     let within : s < length falls = omega arith in
     record {
       same = elim c.if-fallen-stop.branch [ then-fallen-stop w ↦ search rules | else-fallen-stop w ↦ search rules ];
-      falls = λ l p f h below at. elim c.if-fallen-stop.branch [
+      falls = λ l p f h below at on. elim c.if-fallen-stop.branch [
         | then-fallen-stop w ↦
             let at' = rw w.falls-is at at in
             let was = w.index-before-stop.result in
             let now = w.index-ready-stop.result in
             let fall = w.fall.result in
             elim (cases_lt p s) [
-              | inl lt ↦ c.loop-stop.invariant.falls l p f h lt (stays falls s p fall f lt at')
+              | inl lt ↦ c.loop-stop.invariant.falls l p f h lt (stays falls s p fall f lt at') on
               | inr ge ↦
                   let e : p ≡ s = omega arith in
                   let read : get_or (set falls s fall) p f ≡ f = get_or_from_slice_get (set falls s fall) p f f at' in
@@ -50,23 +50,33 @@ loop-stop-preserved g c =
                   (w.fall.ensures l h))
             ]
         | else-fallen-stop w ↦ elim (cases_lt p s) [
-          | inl lt ↦ c.loop-stop.invariant.falls l p f h lt (stays falls s p _ f lt (rw w.falls-is at at))
+          | inl lt ↦ c.loop-stop.invariant.falls l p f h lt (stays falls s p _ f lt (rw w.falls-is at at)) on
           | inr ge ↦
               let e : p ≡ s = omega arith in
-              let same = c.requires.same l s h (λ on. false≢true (sym w.if-fallen-stop.false
-              ∙ get_or_from_slice_get c.args.fallen.now s true false on)) in
-              rw e (record {
-                low = λ k. absurd (omega (arith, k, same));
-                high = λ k. absurd (omega (arith, k, same));
-                top = λ k. absurd (omega (arith, k, same));
-              })
+              absurd (false≢true (sym w.if-fallen-stop.false
+              ∙ get_or_from_slice_get c.args.fallen.now s true false (rw e at on)))
         ]
       ];
     }
 
 pub returns-clause-falls : goal.returns-clause-falls
-returns-clause-falls g c l h =
+returns-clause-falls g c l was h are =
+    let fallen = c.args.fallen.now in
     record {
-      fall = λ p f at. let w = slice_get_within c.loop-stop.falls p f at in
-          c.loop-stop.invariant.falls l p f h (omega arith) at;
+      fall = λ p f at.
+          let within = slice_get_within c.loop-stop.falls p f at in
+          elim (cases_Bool (get_or fallen p false)) [
+            | inl on ↦
+                let noted : slice_get fallen p ≡ Some true =
+                slice_get-get_or fallen p false (omega (arith, within)) ∙ ap Some on in
+                rw (← are.noted p noted) (c.loop-stop.invariant.falls l p f h (omega arith) at noted)
+            | inr off ↦
+                let same =
+                are.still p (λ on. false≢true (sym off ∙ get_or_from_slice_get fallen p true false on)) in
+                record {
+                  low = λ k. absurd (omega (arith, k, same));
+                  high = λ k. absurd (omega (arith, k, same));
+                  top = λ k. absurd (omega (arith, k, same));
+                }
+          ];
     }

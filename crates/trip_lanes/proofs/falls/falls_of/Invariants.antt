@@ -1,4 +1,4 @@
-use Rattle.std.proofs.Common.{◌≡◌, ◌<◌, ℕ, length, slice_get, slice_index, Some}
+use Rattle.std.proofs.Common.{◌≡◌, ◌<◌, ℕ, length, slice_get, slice_index, Some, true}
 use Rattle.trip_lanes.specs.Lane.{lane, labels_in}
 use Rattle.trip_lanes.specs.Falls.{HasFallen}
 use Rattle.trip_lanes.specs.declared.falls.Fall.{Fall}
@@ -9,6 +9,7 @@ invariant-loop-stop g v =
     record {
       same : length v.falls ≡ length v.initial.falls;
       falls : (l p : ℕ) (f : Fall) → l < g.R.Row.LANES → p < v.stop → slice_get v.falls p ≡ Some f →
+          slice_get v.fallen p ≡ Some true →
           HasFallen (slice_index (lane l (labels_in g.R.Row.labels v.before)) p)
           (slice_index (lane l (labels_in g.R.Row.labels v.ready)) p) f;
     }

@@ -8,7 +8,7 @@ use Rattle.trip_lanes.specs.declared.falls.Fall.{Fall}
 use Rattle.timetable.specs.declared.views.Call.{Call}
 use Rattle.timetable.specs.LineViews.{departures_in, IsAt}
 use Rattle.trip_lanes.specs.Cut.{cut}
-use Rattle.trip_lanes.specs.Falls.{HasFallen}
+use Rattle.trip_lanes.specs.Falls.{HasFallen, AreFalls}
 use Rattle.trip_lanes.specs.Lane.{lane, labels_in}
 use Rattle.trip_lanes.specs.Ranks.{Rides, Ascend}
 use Rattle.trip_lanes.specs.Rows.{IsCutViewOf, NoneOvertakes, IsCaught}
@@ -16,6 +16,7 @@ use Rattle.trip_lanes.proofs.Lower.{row_lane}
 use Rattle.trip_lanes.proofs.Carry.{lane_falls, marks_then}
 use Rattle.trip_lanes.proofs.Lining.{LineAt, at_position, slice_get_row, line_alight, line_pass, line_board, line_stay}
 use Rattle.trip_lanes.proofs.Lining.{line_past}
+use Rattle.trip_lanes.proofs.Falling.{falls_of_none}
 use Rattle.trip_lanes.proofs.line_scan.scan_line.Goals as goal
 use Rattle.trip_lanes.proofs.line_scan.scan_line.Goals.{then-call+then-span, else-call}
 use Rattle.trip_lanes.proofs.line_scan.scan_line.Goals.{else-call-via-then-call+else-span, else-call-via-else-call}
@@ -36,7 +37,6 @@ loop-position-preserved g c =
     let never = g.R.Row.NEVER in
     let base = c.args.line.base in
     let labels = g.R.Row.labels in
-    let given = labels_in labels c.args.labels.before.now in
     let now = labels_in labels c.args.labels.ready.now in
     let calls = c.args.line.calls.now in
     let times = c.args.line.times.now in
@@ -51,11 +51,11 @@ loop-position-preserved g c =
     IsCutViewOf base c.NEVER-in-loop-position.result rows calls times =
     λ rows view. rw c.NEVER-in-loop-position.ensures view in
     let got_off : (rows : List (List Event)) → IsCutViewOf base never rows calls times →
-    length rows ≡ c.args.line.trips → NoneOvertakes rows → (k : ℕ) → k < lanes →
-    LineAt (lane k given) (lane k now) rows c.args.from x (x + 1) (lane k (labels_in labels c.args.ride.now))
+    length rows ≡ c.args.line.trips → NoneOvertakes rows →
+    (k : ℕ) (before : List ℕ) → k < lanes → AreFalls before (lane k now) c.args.labels.falls.now →
+    LineAt before (lane k now) rows c.args.from x (x + 1) (lane k (labels_in labels c.args.ride.now))
     (lane k (labels_in labels c.if-call.ride)) (Rides never (labels c.loop-position.run) k) =
-    λ rows view size order k h.
-    let before = lane k given in
+    λ rows view size order k before h are.
     let ready = lane k now in
     elim c.if-call.branch [
       | then-call+then-span w ↦ rw w.ride-is (line_alight before ready rows c.args.from never x here.stop.0
@@ -83,25 +83,26 @@ loop-position-preserved g c =
             | inr who ↦ inr (who.0, who.1, λ e at. who.2 ∙ (told rows view).arrival who.0 x e at)
           ])
           (λ p. let f = old.fell k p h in let l = c.requires.fits k p h in omega arith)
-          (old.lanes rows view size order k h) (w.lower_row.ensures.lanes k h))
+          (old.lanes rows view size order k before h are) (w.lower_row.ensures.lanes k h))
       | else-call w ↦ rw w.ride-is (elim w.else-call.branch [
         | else-call-via-then-call+else-span w' ↦
             line_pass before ready rows c.args.from x (λ q r e on at may. let n = w'.if-span.false in
             let f = old.spans.from k q h on in let b = old.spans.below k q h on in
-            omega arith) (old.lanes rows view size order k h)
+            omega arith) (old.lanes rows view size order k before h are)
         | else-call-via-else-call w' ↦ line_pass before ready rows c.args.from x
             (λ q r e on at may. false≢true (sym w'.if-call.false ∙ (view.alight r x e here at at_x ∙ may)))
-            (old.lanes rows view size order k h)
+            (old.lanes rows view size order k before h are)
       ])
     ] in
     -- nobody gets on where nobody may, or where the labels of the stop did not fall
-    let nobody : (rows : List (List Event)) → IsCutViewOf base never rows calls times → (k : ℕ) → k < lanes →
-    (IsTrue here.board → fall.low < fall.top → ⊥) → (r : ℕ) → IsCaught (lane k given) (lane k now) rows r x → ⊥ =
-    λ rows view k h out r on.
+    let nobody : (rows : List (List Event)) → IsCutViewOf base never rows calls times →
+    (k : ℕ) (before : List ℕ) → AreFalls before (lane k now) c.args.labels.falls.now →
+    (IsTrue here.board → fall.low < fall.top → ⊥) → (r : ℕ) → IsCaught before (lane k now) rows r x → ⊥ =
+    λ rows view k before are out r on.
     let at_stop = view.stop r x on.on here on.from at_x in
     let soon = rw (← at_stop) at on.in_time in
     let fresh = rw (← at_stop) at on.fresh in
-    let f = (c.requires.fallen k h).fall here.stop.0 fall at_fall in
+    let f = are.fall here.stop.0 fall at_fall in
     let low = f.low (omega arith) in
     let top = f.top (omega arith) in
     out (subst IsTrue (sym (view.board r x on.on here on.from at_x)) on.may_board) (omega arith) in
@@ -144,8 +145,7 @@ loop-position-preserved g c =
             old.marks w.lower_row.ensures.marks)
         | else-call w ↦ rw (w.ride-is, w.marked-is) old.marks
       ];
-      lanes = λ rows view size order k h.
-          let before = lane k given in
+      lanes = λ rows view size order k before h are.
           let ready = lane k now in
           elim c.if-call-2.branch [
             | then-call-2+then-fall w ↦
@@ -164,7 +164,7 @@ loop-position-preserved g c =
                 row_lane labels c.args.labels.ready.now here.stop.0 k is w.index-labels-stop.result refl
                 (omega (arith, c.requires.ready)) in
                 let fallen : HasFallen (slice_index before here.stop.0) (slice_index (labels is) k) fall =
-                rw read at ((c.requires.fallen k h).fall here.stop.0 fall at_fall) in
+                rw read at (are.fall here.stop.0 fall at_fall) in
                 rw w.run-is (line_board before ready rows c.args.from x
                 (λ r on. elim (w.board_position-run.ensures.sound k r h on) [
                   | inl o ↦ inl o
@@ -194,18 +194,23 @@ loop-position-preserved g c =
                   size,
                   w',
                 )) (record { in_time = omega (arith, soon, d, read); fresh = omega (arith, fresh, d) }))
-                (got_off rows view size order k h))
+                (got_off rows view size order k before h are))
             | else-call-2 w ↦ rw w.run-is (line_stay before ready rows c.args.from x
-                (nobody rows view k h (elim w.else-call-2.branch [
+                (nobody rows view k before are (elim w.else-call-2.branch [
                   | else-call-2-via-then-call-2+else-fall w' ↦ (λ may low. let n = w'.if-fall.false in omega arith)
                   | else-call-2-via-else-call-2 w' ↦ (λ may low. false≢true (sym w'.if-call-2.false ∙ may))
-                ])) (got_off rows view size order k h))
+                ])) (got_off rows view size order k before h are))
           ];
     }
 
+pub returns-clause-lanes : goal.returns-clause-lanes
+returns-clause-lanes g c rows view size order l h =
+    let ready = lane l (labels_in g.R.Row.labels c.args.labels.ready.now) in
+    (c.loop-position.invariant.lanes rows view size order l ready h
+    (falls_of_none ready c.args.labels.falls.now)).falls
+
 pub returns-clause-caught : goal.returns-clause-caught
-returns-clause-caught g c rows view size order l r j h low caught =
-    line_past (lane l (labels_in g.R.Row.labels c.args.labels.before.now))
-    (lane l (labels_in g.R.Row.labels c.args.labels.ready.now)) rows c.args.from c.loop-position.position
-    (length c.args.line.calls.now) view.positions c.loop-position-test.false
-    (c.loop-position.invariant.lanes rows view size order l h) r j low caught
+returns-clause-caught g c rows view size order l r j before h are low caught =
+    line_past before (lane l (labels_in g.R.Row.labels c.args.labels.ready.now)) rows c.args.from
+    c.loop-position.position (length c.args.line.calls.now) view.positions c.loop-position-test.false
+    (c.loop-position.invariant.lanes rows view size order l before h are) r j low caught

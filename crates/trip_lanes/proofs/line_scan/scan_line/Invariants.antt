@@ -1,6 +1,7 @@
 use Rattle.std.proofs.Common.{◌≡◌, ℕ, ◌<◌, ◌≤◌, List, length, slice_index}
 use Rattle.timetable.specs.declared.trips.Event.{Event}
 use Rattle.trip_lanes.specs.Lane.{lane, labels_in, MarksFallenOf}
+use Rattle.trip_lanes.specs.Falls.{AreFalls}
 use Rattle.trip_lanes.specs.Ranks.{Rides, IsSpanOf}
 use Rattle.trip_lanes.specs.Rows.{IsCutViewOf, NoneOvertakes}
 use Rattle.trip_lanes.proofs.Lining.{LineAt}
@@ -20,8 +21,9 @@ invariant-loop-position g l =
           l.initial.marked l.marked;
       lanes : (rows : List (List Event)) → IsCutViewOf l.line.base g.R.Row.NEVER rows l.line.calls.now
           l.line.times.now → length rows ≡ l.line.trips → NoneOvertakes rows →
-          (k : ℕ) → k < g.R.Row.LANES → LineAt (lane k (labels_in g.R.Row.labels l.labels.before.now))
-          (lane k (labels_in g.R.Row.labels l.labels.ready.now)) rows l.fn.from l.position l.position
+          (k : ℕ) (before : List ℕ) → k < g.R.Row.LANES →
+          AreFalls before (lane k (labels_in g.R.Row.labels l.labels.ready.now)) l.labels.falls.now →
+          LineAt before (lane k (labels_in g.R.Row.labels l.labels.ready.now)) rows l.fn.from l.position l.position
           (lane k (labels_in g.R.Row.labels l.initial.ride)) (lane k (labels_in g.R.Row.labels l.ride))
           (Rides g.R.Row.NEVER (g.R.Row.labels l.run) k);
     }

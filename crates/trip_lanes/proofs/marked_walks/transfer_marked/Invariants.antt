@@ -1,7 +1,8 @@
-use Rattle.std.proofs.Common.{◌≡◌, ℕ, ◌<◌, length}
+use Rattle.std.proofs.Common.{◌≡◌, ℕ, ◌<◌, List, length}
 use Rattle.timetable.specs.Steps.{Lowers}
 use Rattle.trip_lanes.proofs.Walking.{TransferredBelow}
 use Rattle.trip_lanes.specs.Lane.{lane, labels_in, MarksFallenOf}
+use Rattle.trip_lanes.specs.Falls.{AreNoted}
 use Rattle.trip_lanes.proofs.marked_walks.transfer_marked.Given as goal
 
 abbrev pub invariant-loop-stop : goal.invariant-loop-stop
@@ -14,4 +15,10 @@ invariant-loop-stop g l =
       falls : length l.fallen ≡ length l.ride;
       marks : MarksFallenOf g.R.Row.LANES (labels_in g.R.Row.labels l.initial.ready) (labels_in g.R.Row.labels l.ready)
           l.initial.fallen l.fallen;
+      befores : length l.before ≡ length l.ride;
+      noted : (k : ℕ) (was : List ℕ) → k < g.R.Row.LANES →
+          AreNoted was (lane k (labels_in g.R.Row.labels l.initial.ready))
+          (lane k (labels_in g.R.Row.labels l.initial.before)) l.initial.fallen →
+          AreNoted was (lane k (labels_in g.R.Row.labels l.ready)) (lane k (labels_in g.R.Row.labels l.before))
+          l.fallen;
     }

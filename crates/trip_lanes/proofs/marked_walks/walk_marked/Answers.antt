@@ -18,7 +18,7 @@ walk_noting-requires-clause-targets g c k stop seconds h =
     let feet = c.args.feet.now.walks in
     let foot : IsFoot feet c.loop-stop.stop stop seconds = (c.leaving.result.now, k, c.leaving.ensures, h) in
     let in_range = foot_in_range c.args.feet.now c.known.ensures c.loop-stop.stop stop seconds foot in
-    omega (arith, in_range.0, c.lower_row.auto.labels)
+    omega (arith, in_range.0, c.lower_noting.auto.ready)
 
 pub loop-stop-preserved : goal.loop-stop-preserved
 loop-stop-preserved g c =
@@ -33,16 +33,16 @@ loop-stop-preserved g c =
             let read = row_lane g.R.Row.labels c.args.ride.now x k w.index-ride-stop.result w.index-ride-stop.result
             w.index-ride-stop.is within in
             let ride = lane k (rows c.args.ride.now) in
-            let fits : (p : ℕ) → slice_index (lane k (rows w.lower_row.new.labels)) p ≤ g.R.Row.NEVER = λ p.
+            let fits : (p : ℕ) → slice_index (lane k (rows w.lower_noting.new.ready)) p ≤ g.R.Row.NEVER = λ p.
             let f = c.requires.fits k p l in
             let a = lane_falls (lane k (rows c.args.ready.now)) (lane k (rows c.loop-stop.ready))
             (c.loop-stop.invariant.lanes k l) p in
-            let b = lane_falls (lane k (rows c.loop-stop.ready)) (lane k (rows w.lower_row.new.labels))
-            (w.lower_row.ensures.lanes k l) p in
+            let b = lane_falls (lane k (rows c.loop-stop.ready)) (lane k (rows w.lower_noting.new.ready))
+            (w.lower_noting.ensures.lanes k l) p in
             omega arith in
             rw w.ready-is (offer_one feet ride x w.leaving.result.now w.leaving.ensures
-            (c.loop-stop.invariant.lanes k l) (rw read (w.lower_row.ensures.lanes k l))
-            (later_is g.R.Row.NEVER w.leaving.result.now (slice_index ride x) (lane k (rows w.lower_row.new.labels))
+            (c.loop-stop.invariant.lanes k l) (rw read (w.lower_noting.ensures.lanes k l))
+            (later_is g.R.Row.NEVER w.leaving.result.now (slice_index ride x) (lane k (rows w.lower_noting.new.ready))
             (lane k (rows w.walk_noting.new.ready)) g.met.R.Row.never_fits fits
             (rw read (w.walk_noting.ensures.lanes k l))))
         | else-marked-stop w ↦
@@ -54,23 +54,29 @@ loop-stop-preserved g c =
       falls = elim c.if-marked-stop.branch [ then-marked-stop w ↦ search rules | else-marked-stop w ↦ search rules ];
       marks = elim c.if-marked-stop.branch [
         | then-marked-stop w ↦ rw (w.ready-is, w.fallen-is)
-            (marks_then (rows c.args.ready.now) (rows w.lower_row.new.labels) (rows w.walk_noting.new.ready)
-            c.args.fallen.now w.lower_row.new.marked w.walk_noting.new.fallen
+            (marks_then (rows c.args.ready.now) (rows w.lower_noting.new.ready) (rows w.walk_noting.new.ready)
+            c.args.fallen.now w.lower_noting.new.fallen w.walk_noting.new.fallen
             (λ l p h. let a = lane_falls (lane l (rows c.args.ready.now)) (lane l (rows c.loop-stop.ready))
             (c.loop-stop.invariant.lanes l h) p in let b =
-            lane_falls (lane l (rows c.loop-stop.ready)) (lane l (rows w.lower_row.new.labels))
-            (w.lower_row.ensures.lanes l h) p in omega arith)
-            (λ l p h. lane_falls (lane l (rows w.lower_row.new.labels)) (lane l (rows w.walk_noting.new.ready))
+            lane_falls (lane l (rows c.loop-stop.ready)) (lane l (rows w.lower_noting.new.ready))
+            (w.lower_noting.ensures.lanes l h) p in omega arith)
+            (λ l p h. lane_falls (lane l (rows w.lower_noting.new.ready)) (lane l (rows w.walk_noting.new.ready))
             (w.walk_noting.ensures.lanes l h) p)
-            (marks_then (rows c.args.ready.now) (rows c.loop-stop.ready) (rows w.lower_row.new.labels) c.args.fallen.now
-            c.loop-stop.fallen w.lower_row.new.marked
+            (marks_then (rows c.args.ready.now) (rows c.loop-stop.ready) (rows w.lower_noting.new.ready)
+            c.args.fallen.now c.loop-stop.fallen w.lower_noting.new.fallen
             (λ l p h. lane_falls (lane l (rows c.args.ready.now)) (lane l (rows c.loop-stop.ready))
             (c.loop-stop.invariant.lanes l h) p)
-            (λ l p h. lane_falls (lane l (rows c.loop-stop.ready)) (lane l (rows w.lower_row.new.labels))
-            (w.lower_row.ensures.lanes l h) p)
-            c.loop-stop.invariant.marks w.lower_row.ensures.marks)
+            (λ l p h. lane_falls (lane l (rows c.loop-stop.ready)) (lane l (rows w.lower_noting.new.ready))
+            (w.lower_noting.ensures.lanes l h) p)
+            c.loop-stop.invariant.marks w.lower_noting.ensures.fallen)
             w.walk_noting.ensures.fallen)
         | else-marked-stop w ↦ rw (w.ready-is, w.fallen-is) c.loop-stop.invariant.marks
+      ];
+      befores = elim c.if-marked-stop.branch [ then-marked-stop w ↦ search rules | else-marked-stop w ↦ search rules ];
+      noted = λ k was l are. elim c.if-marked-stop.branch [
+        | then-marked-stop w ↦ rw (w.ready-is, w.before-is, w.fallen-is) (w.walk_noting.ensures.before k was l
+            (w.lower_noting.ensures.before k was l (c.loop-stop.invariant.noted k was l are)))
+        | else-marked-stop w ↦ rw (w.ready-is, w.before-is, w.fallen-is) (c.loop-stop.invariant.noted k was l are)
       ];
     }
 

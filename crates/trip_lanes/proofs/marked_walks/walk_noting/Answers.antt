@@ -18,13 +18,15 @@ loop-to-preserved g c =
       same = search rules;
       lanes = λ k l. later_one g.R.Row.NEVER row (slice_index (g.R.Row.labels c.args.times) k) x here.0.0 here.1
           (slice_index (g.R.Row.labels c.later.result) k) (slice_get-get_or row x none c.loop-to-test.true)
-          (c.later.ensures k l) (old.lanes k l) (c.lower_row.ensures.lanes k l);
-      marks = marks_then (rows c.args.ready.now) (rows c.loop-to.ready) (rows c.lower_row.new.labels) c.args.fallen.now
-          c.loop-to.fallen c.lower_row.new.marked
+          (c.later.ensures k l) (old.lanes k l) (c.lower_noting.ensures.lanes k l);
+      marks = marks_then (rows c.args.ready.now) (rows c.loop-to.ready) (rows c.lower_noting.new.ready)
+          c.args.fallen.now c.loop-to.fallen c.lower_noting.new.fallen
           (λ l p h. lane_falls (lane l (rows c.args.ready.now)) (lane l (rows c.loop-to.ready)) (old.lanes l h) p)
-          (λ l p h. lane_falls (lane l (rows c.loop-to.ready)) (lane l (rows c.lower_row.new.labels))
-          (c.lower_row.ensures.lanes l h) p)
-          old.marks c.lower_row.ensures.marks;
+          (λ l p h. lane_falls (lane l (rows c.loop-to.ready)) (lane l (rows c.lower_noting.new.ready))
+          (c.lower_noting.ensures.lanes l h) p)
+          old.marks c.lower_noting.ensures.fallen;
+      befores = search rules;
+      noted = λ k was l are. c.lower_noting.ensures.before k was l (old.noted k was l are);
     }
 
 pub returns-clause-lanes : goal.returns-clause-lanes

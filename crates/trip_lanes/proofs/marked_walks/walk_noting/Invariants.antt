@@ -1,7 +1,8 @@
-use Rattle.std.proofs.Common.{◌≡◌, ℕ, ◌<◌, length, slice_index}
+use Rattle.std.proofs.Common.{◌≡◌, ℕ, ◌<◌, List, length, slice_index}
 use Rattle.timetable.specs.Steps.{Lowers}
 use Rattle.trip_lanes.specs.Lane.{lane, labels_in, MarksFallenOf}
 use Rattle.trip_lanes.proofs.LaneWalk.{LaterBelow}
+use Rattle.trip_lanes.specs.Falls.{AreNoted}
 use Rattle.trip_lanes.proofs.marked_walks.walk_noting.Given as goal
 
 abbrev pub invariant-loop-to : goal.invariant-loop-to
@@ -13,4 +14,10 @@ invariant-loop-to g l =
           (lane k (labels_in g.R.Row.labels l.initial.ready)) (lane k (labels_in g.R.Row.labels l.ready));
       marks : MarksFallenOf g.R.Row.LANES (labels_in g.R.Row.labels l.initial.ready) (labels_in g.R.Row.labels l.ready)
           l.initial.fallen l.fallen;
+      befores : length l.before ≡ length l.ready;
+      noted : (k : ℕ) (was : List ℕ) → k < g.R.Row.LANES →
+          AreNoted was (lane k (labels_in g.R.Row.labels l.initial.ready))
+          (lane k (labels_in g.R.Row.labels l.initial.before)) l.initial.fallen →
+          AreNoted was (lane k (labels_in g.R.Row.labels l.ready)) (lane k (labels_in g.R.Row.labels l.before))
+          l.fallen;
     }
