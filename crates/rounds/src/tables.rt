@@ -13,7 +13,7 @@ pub(crate) struct Tables<R> {
     pub ride: Vec<R>,
     /// From when one may board at each stop.
     pub ready: Vec<R>,
-    /// The same, when lines were scanned last.
+    /// The same before a label there first fell, since lines were scanned last; of the stops in `fallen` alone.
     pub before: Vec<R>,
     /// How far the labels of each stop fell since then.
     pub falls: Vec<Fall>,
