@@ -21,8 +21,9 @@ use std::alloc::{AllocError, Global};
 use timetable::{END_OF_AXIS, NEVER};
 use trip_lanes::{LANES, Lanes, Row};
 
-/// From when on the labels of a batch count: a second before its first departure, so that no label is 0, and who is
-/// reached at all boards nothing that departed before. Labels that reach as far as times go count from 0.
+/// From when on the labels of a batch count: a second before its first departure, if that isn't at 0, so that no label
+/// is 0, and who is reached at all boards nothing that departed before. Labels that reach as far as times go count
+/// from 0.
 fn base_of<R: Row>(first: u32) -> u32
     requires { first < END_OF_AXIS }
     ensures within { result ≤ first }
@@ -66,8 +67,8 @@ fn are_told<R: Row>(ride: &[R], ready: &[R], departs: R, base: u32, last: &[u32]
     true
 }
 
-/// Writes by when stops are reached in a part of a batch, by a ride or by a walk, among the lanes of all departures,
-/// where those of a stop stand side by side.
+/// Writes for a part of a batch how long after its departure each stop is reached, by a ride or by a walk, among the
+/// durations of all departures, where those of a stop stand side by side.
 fn write_part<R: Row>(
     labels: &mut [Lanes],
     tables: &Tables<R>,
@@ -98,13 +99,15 @@ fn write_part<R: Row>(
 {
     let ride = tables.ride.as_slice();
     let ready = tables.ready.as_slice();
+    let from = departs.sixteen(part);
     for stop in 0..ready.len() {
         let arrived = ride[stop].lower_of(ready[stop]);
-        labels[stop * batches + at] = arrived.since(departs, part);
+        labels[stop * batches + at] = arrived.since(from, part);
     }
 }
 
-/// Writes by when stops are reached in a batch, by a ride or by a walk, among the lanes of all departures.
+/// Writes for a batch how long after its departure each stop is reached, by a ride or by a walk, among the durations of
+/// all departures.
 fn write_batch<R: Row>(
     labels: &mut [Lanes],
     tables: &Tables<R>,
@@ -182,7 +185,7 @@ fn are_told_of_reached<R: Row>(
 /// it. Where labels can't tell all of them it gives up, and says so: what is written is then of no use.
 ///
 /// `last` bounds how late somebody may be at each stop. Stops that no journey reaches are left out of it, by the tables
-/// `beside`, only where labels need it. Out of memory there is the only error.
+/// `beside`, only where labels need it. Out of memory is the only error.
 pub(crate) fn run_window<R: Row>(
     alloc: Global,
     query: Query<'_>,

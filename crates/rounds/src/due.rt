@@ -26,9 +26,7 @@ fn note(due: &mut [u32], line: usize, position: u32)
     ensures earlier { (other : ℕ) → slice_index due.new other ≤ slice_index due.old other }
     ensures new { slice_index due.new line ≤ position }
 {
-    if position < due[line] {
-        due[line] = position;
-    }
+    due[line] = due[line].min(position);
 }
 
 /// Notes the lines that one may board at a stop where labels fell, each from the first of such positions on.

@@ -30,8 +30,8 @@ pub(crate) struct Round<'a, 'b, R> {
     pub base: u32,
 }
 
-/// Carries travellers along the trips of a line: who is ready by a departure and was not before. Nobody newly catches a
-/// trip of it before the first position.
+/// Carries travellers along the trips of a line: at least who is ready by a departure and was not before. Nobody newly
+/// catches a trip of it before the first position.
 fn scan_trips<R: Row>(
     round: Round<'_, '_, R>,
     line: u32,
@@ -70,7 +70,7 @@ fn scan_trips<R: Row>(
     scan_line(view, first, round.labels, ride, marked);
 }
 
-/// Carries travellers along the trips that they newly catch, line by line.
+/// Carries travellers line by line, along at least the trips that they newly catch.
 pub(crate) fn scan_lines<R: Row>(
     round: Round<'_, '_, R>,
     due: &mut [u32],

@@ -74,7 +74,8 @@ impl Search {
         Ok(Durations::new(network.stops(), window.minutes, labels))
     }
 
-    /// The labels of a window, batch by batch: by narrow labels where these tell all, and else by wide ones.
+    /// The least durations of a window, sixteen minutes side by side for each stop: by narrow labels where these are
+    /// tried and tell all, and else by wide ones.
     fn labels_of(&mut self, alloc: Global, query: Query<'_>) -> Result<Vec<Lanes>, AllocError>
         requires { IsAsked query }
         ensures { IfOk result (λ labels. AreLabels query.entry.network.now query.entry.origin.0 query.entry.window
@@ -90,7 +91,8 @@ impl Search {
         Ok(labels)
     }
 
-    /// Writes the least durations of a window: by narrow labels where these tell all, and else by wide ones.
+    /// Writes the least durations of a window: by narrow labels where these are tried and tell all, and else by wide
+    /// ones.
     fn write(
         &mut self,
         alloc: Global,
@@ -125,7 +127,7 @@ fn are_ranked<R: Row>(trips: usize) -> bool
     trips <= R::NEVER as usize
 }
 
-/// Whether narrow labels are tried, of which so many searches more do without.
+/// Whether narrow labels are tried: not while searches are left that go by wide ones at once, of which this is one.
 fn is_narrow_turn(wide_left: &mut u32) -> bool {
     if *wide_left > 0 {
         *wide_left -= 1;

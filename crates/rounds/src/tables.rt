@@ -17,7 +17,7 @@ pub(crate) struct Tables<R> {
     pub before: Vec<R>,
     /// How far the labels of each stop fell since then.
     pub falls: Vec<Fall>,
-    /// Whether a ride reached the stop earlier in this round.
+    /// Whether a ride reached the stop earlier in this round; before the first, whether journeys begin there.
     pub marked: Vec<bool>,
     /// Whether a label of who is ready there fell.
     pub fallen: Vec<bool>,

@@ -129,24 +129,29 @@ module _ (w : Width) (n : ℕ) where
       smaller_at old best l h old_len best_len ∙ ap (λ m. min (get_or old l 0) m) (larger_at bar arrive l h bar_len)
 
   -- a lane that is later by some seconds, where sums stop at the greatest number
-  pub later_at : (times : List ℕ) (seconds most l : ℕ) → l < n → length times ≡ n → seconds ≤ most
-      → get_or (zip2 (λ a b. (a + b) % suc most)
-      (chosen w ltb times (replicate n (most - seconds)) times (replicate n (most - seconds)))
-      (replicate n seconds)) l 0 ≡ min (get_or times l 0 + seconds) most
-  later_at times seconds most l h times_len fits =
-      let ends = replicate n (most - seconds) in
-      let ends_len : length ends ≡ n = length-replicate n (most - seconds) in
-      let early_len = length-chosen ltb times ends times ends times_len ends_len times_len ends_len in
+  pub later_at : (times room : List ℕ) (seconds most l : ℕ) → l < n → length times ≡ n → length room ≡ n →
+      get_or room l 0 ≡ most - seconds → seconds ≤ most
+      → get_or (zip2 (λ a b. (a + b) % suc most) (chosen w ltb times room times room) (replicate n seconds)) l 0
+      ≡ min (get_or times l 0 + seconds) most
+  later_at times room seconds most l h times_len room_len left fits =
+      let early = chosen w ltb times room times room in
+      let early_len = length-chosen ltb times room times room times_len room_len times_len room_len in
       let more_len : length (replicate n seconds) ≡ n = length-replicate n seconds in
-      get_or-zip2 _ (chosen w ltb times ends times ends) (replicate n seconds) l 0 0 0 (omega (
-        arith,
-        early_len,
-      )) (omega (arith, more_len))
-      ∙ rw (
-        smaller_at times ends l h times_len ends_len,
-        get_or-replicate {A = ℕ} n l (most - seconds) 0 h,
-        get_or-replicate {A = ℕ} n l seconds 0 h,
-      ) (capped (get_or times l 0) seconds most fits)
+      get_or-zip2 _ early (replicate n seconds) l 0 0 0 (omega (arith, early_len)) (omega (arith, more_len))
+      ∙ rw (smaller_at times room l h times_len room_len, left, get_or-replicate {A = ℕ} n l seconds 0 h)
+      (capped (get_or times l 0) seconds most fits)
+
+  -- where room for seconds is a difference of vectors
+  pub room_at : (seconds most l : ℕ) → l < n → seconds ≤ most →
+      get_or (zip2 (λ a b. (a + (suc most - b)) % suc most) (replicate n most) (replicate n seconds)) l 0
+      ≡ most - seconds
+  room_at seconds most l h fits =
+      let most_len : length (replicate n most) ≡ n = length-replicate n most in
+      let more_len : length (replicate n seconds) ≡ n = length-replicate n seconds in
+      let again : most + (suc most - seconds) ≡ suc most + (most - seconds) = omega arith in
+      get_or-zip2 _ (replicate n most) (replicate n seconds) l 0 0 0 (omega (arith, most_len)) (omega (arith, more_len))
+      ∙ rw (get_or-replicate {A = ℕ} n l most 0 h, get_or-replicate {A = ℕ} n l seconds 0 h, again)
+      (add-mod_left (suc most) (most - seconds) ∙ mod-eq_of_lt (omega arith))
 
   pub any_lower : n ≤ 64 → (xs ys : List ℕ) → length xs ≡ n → length ys ≡ n →
       IsTrue (not (nat_eq (mask_l (tops_of w ltb xs ys) % 2 ^ 64) 0))

@@ -6,7 +6,7 @@ ghost use Rattle.trip_lanes.specs.Falls.{AreFalls, AreNoted};
 use crate::rows::Row;
 use timetable::NEVER;
 
-/// How far the labels of a stop fell, over the lanes of which they fell.
+/// How far the labels of a stop fell, over the lanes in which they fell.
 #[derive(Clone, Copy, Debug, PartialEq, Eq)]
 pub struct Fall {
     /// The least label that they fell to.

@@ -1,5 +1,6 @@
 //! All trips of a line, in one pass over its positions and in each lane: a stop's label is read and written once for
-//! all of them, and only trips that some lane newly catches are carried.
+//! all of them. Travellers get aboard only where labels fell, and only on trips that leave no earlier than the least
+//! label that fell and before the greatest that one fell from.
 //! (Lines are the routes of the RAPTOR paper: Delling, Pajor, Werneck, ALENEX 2012.)
 ghost use Rattle.std.specs.Prelude.{◌≡◌, ◌+◌, ◌*◌, ℕ, ◌<◌, ◌≤◌, ◌⊎◌, List, length, slice_index, All};
 ghost use Rattle.trip_lanes.specs.Lane.{lane, labels_in, MarksFallenOf};
@@ -36,8 +37,8 @@ pub struct Labels<'a, R> {
     pub ready: &'a [R],
 }
 
-/// Carries travellers along the trips of a line, from a position on: in each lane whoever is ready by a departure, and
-/// was not before it. Stops where a label fell are marked.
+/// Carries travellers along the trips of a line, from a position on: in each lane at least whoever is ready by a
+/// departure and was not before, and nobody who isn't ready by it. Stops where a label fell are marked.
 pub fn scan_line<R: Row>(
     line: LineView<'_>,
     from: usize,
@@ -89,7 +90,7 @@ pub fn scan_line<R: Row>(
         if call.board && fall.low < fall.top {
             let first = first_from(column, fall.low, near);
             near = first;
-            run = board_position(column, first, fall, labels.ready[stop], run);
+            run = board_position(column, first, fall, &labels.ready[stop], run);
             span = run.span();
         }
     }
@@ -128,7 +129,7 @@ fn guess(column: Column<'_>, time: u32) -> usize
     low
 }
 
-/// The first rank from which on down to a rank all depart no earlier than a time.
+/// The least rank such that all trips from it up to before another rank depart no earlier than a time.
 fn back(column: Column<'_>, time: u32, start: usize) -> usize
     requires column { IsColumn column }
     requires start { start ≤ column.trips }
@@ -159,9 +160,9 @@ fn forth(column: Column<'_>, time: u32, start: usize) -> usize
     first
 }
 
-/// Takes the lanes aboard at a position that newly catch a trip there: of all trips from the first on that somebody
-/// catches.
-fn board_position<R: Row>(column: Column<'_>, first: usize, fall: Fall, ready: R, run: R) -> R
+/// Takes lanes aboard at a position, on trips that they are ready for: from the first of these ranks on, as long as
+/// somebody may newly catch one.
+fn board_position<R: Row>(column: Column<'_>, first: usize, fall: Fall, ready: &R, run: R) -> R
     requires column { IsColumn column }
     requires cap { column.cap ≡ R.NEVER }
     requires few { column.trips ≤ R.NEVER }
@@ -172,11 +173,11 @@ fn board_position<R: Row>(column: Column<'_>, first: usize, fall: Fall, ready: R
     ensures fits { (l : ℕ) → l < R.LANES → slice_index (R.labels result) l ≤ R.NEVER }
     ensures ranks { (l r : ℕ) → l < R.LANES → Rides R.NEVER (R.labels result) l r → r < column.entry.trips }
     ensures sound { (l r : ℕ) → l < R.LANES → Rides R.NEVER (R.labels result) l r →
-        Rides R.NEVER (R.labels run) l r ⊎ (slice_index (R.labels ready) l ≤ departs column.entry r) }
+        Rides R.NEVER (R.labels run) l r ⊎ (slice_index (R.labels ready.now) l ≤ departs column.entry r) }
     ensures kept { (l r : ℕ) → l < R.LANES → Rides R.NEVER (R.labels run) l r → RidesBy R.NEVER (R.labels result) l r }
     ensures caught { (l r before : ℕ) → l < R.LANES → Ascend (departs column.entry) column.entry.trips →
-        HasFallen before (slice_index (R.labels ready) l) fall → r < column.entry.trips →
-        Catches before (slice_index (R.labels ready) l) (departs column.entry r) →
+        HasFallen before (slice_index (R.labels ready.now) l) fall → r < column.entry.trips →
+        Catches before (slice_index (R.labels ready.now) l) (departs column.entry r) →
         RidesBy R.NEVER (R.labels result) l r }
 {
     let mut riding = run;
@@ -185,7 +186,7 @@ fn board_position<R: Row>(column: Column<'_>, first: usize, fall: Fall, ready: R
         if depart >= fall.top {
             return riding;
         }
-        riding = board(depart, rank, ready, riding);
+        riding = board(depart, rank, *ready, riding);
         if depart >= fall.high {
             return riding;
         }

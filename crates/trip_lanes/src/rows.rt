@@ -87,13 +87,18 @@ pub trait Row: Copy + Drop {
         ensures { (l : ℕ) → l < LANES → HasFallen (slice_index (labels before) l) (slice_index (labels self) l)
             result };
 
-    /// A sixteenfold part of the labels, each counted from its departure.
-    fn since(self, departs: Self, part: usize) -> Lanes
+    /// Sixteen of the labels, from sixteen times a part on.
+    fn sixteen(self, part: usize) -> Lanes
+        requires { SIXTEEN * part + SIXTEEN ≤ LANES }
+        ensures { (l : ℕ) → l < SIXTEEN → slice_index result l ≡ slice_index (labels self) (SIXTEEN * part + l) };
+
+    /// The same sixteen, each counted from a departure.
+    fn since(self, departs: Lanes, part: usize) -> Lanes
         requires part { SIXTEEN * part + SIXTEEN ≤ LANES }
         requires fits { (l : ℕ) → l < LANES → slice_index (labels self) l ≤ NEVER }
-        requires later { (l : ℕ) → l < LANES → slice_index (labels self) l ≢ NEVER →
-            slice_index (labels departs) l ≤ slice_index (labels self) l }
-        ensures { (l : ℕ) → l < SIXTEEN → IsSinceTo NEVER (slice_index (labels departs) (SIXTEEN * part + l))
+        requires later { (l : ℕ) → l < SIXTEEN → slice_index (labels self) (SIXTEEN * part + l) ≢ NEVER →
+            slice_index departs l ≤ slice_index (labels self) (SIXTEEN * part + l) }
+        ensures { (l : ℕ) → l < SIXTEEN → IsSinceTo NEVER (slice_index departs l)
             (slice_index (labels self) (SIXTEEN * part + l)) (slice_index result l) };
 
     /// The lanes are some, in parts of sixteen, and few enough for one word of a bit each.
@@ -103,7 +108,7 @@ pub trait Row: Copy + Drop {
 
     ghost few: { LANES ≤ 64 };
 
-    /// Labels have room for a departure in each lane, a minute apart.
+    /// Labels have room for a departure in each lane, a minute apart, and for the longest walk after the last.
     ghost room: { 60 * LANES + 7202 < NEVER };
 
     /// Labels are of 32 bits at most.

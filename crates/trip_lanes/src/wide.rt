@@ -98,7 +98,11 @@ impl Row for Lanes {
         }
     }
 
-    fn since(self, departs: Self, _part: usize) -> Lanes {
+    fn sixteen(self, _part: usize) -> Lanes {
+        self
+    }
+
+    fn since(self, departs: Lanes, _part: usize) -> Lanes {
         let times = u32x16::from_array(self);
         times
             .simd_eq(u32x16::splat(NEVER))

@@ -31,23 +31,25 @@ since-requires-clause-fits g c l h =
 pub since-requires-clause-later : goal.since-requires-clause-later
 since-requires-clause-later g c l h reached =
     let s = c.loop-stop.stop in
+    let m = 16 * c.args.part + l in
+    let at : m < g.R.Row.LANES = omega (arith, h, c.requires.part) in
     let ride = c.as_slice-ride.result.now in
     let ready = c.as_slice-ready.result.now in
     let labels = g.R.Row.labels in
     let in_ready : s < length c.args.tables.now.ready.items =
     omega (arith, c.loop-stop-test.true, ap length c.as_slice-ready.ensures.value) in
     let in_ride : s < length ride = omega (arith, in_ready, c.requires.same, ap length c.as_slice-ride.ensures.value) in
-    let low = lower_arrival labels ride ready s l c.index-ride-stop.result c.index-ready-stop.result
+    let low = lower_arrival labels ride ready s m c.index-ride-stop.result c.index-ready-stop.result
     c.index-ride-stop.result c.index-ready-stop.result c.lower_of-arrived.result c.index-ride-stop.is
-    c.index-ready-stop.is in_ride c.loop-stop-test.true (c.lower_of-arrived.ensures l h) in
-    let late : arrival (lane l (labels_in labels ride)) (lane l (labels_in labels ready)) s ≢ g.R.Row.NEVER →
-    slice_index (labels c.args.departs) l ≤ arrival (lane l (labels_in labels ride))
-    (lane l (labels_in labels ready)) s = rw (
+    c.index-ready-stop.is in_ride c.loop-stop-test.true (c.lower_of-arrived.ensures m at) in
+    let late : arrival (lane m (labels_in labels ride)) (lane m (labels_in labels ready)) s ≢ g.R.Row.NEVER →
+    slice_index (labels c.args.departs) m ≤ arrival (lane m (labels_in labels ride))
+    (lane m (labels_in labels ready)) s = rw (
       c.as_slice-ride.ensures.value,
       c.as_slice-ready.ensures.value,
-    ) (c.requires.since l s h in_ready) in
+    ) (c.requires.since m s at in_ready) in
     let then = late (λ e. reached (low ∙ e)) in
-    omega (arith, low, then)
+    omega (arith, low, then, c.sixteen-from.ensures l h)
 
 pub loop-stop-preserved : goal.loop-stop-preserved
 loop-stop-preserved g c =
@@ -88,7 +90,9 @@ loop-stop-preserved g c =
             (arrival (lane (16 * c.args.part + l) (labels_in labels ride))
             (lane (16 * c.args.part + l) (labels_in labels ready)) s) (slice_index row l)) (sym here)
             (subst (λ (x : ℕ). IsSinceTo g.R.Row.NEVER (slice_index (labels c.args.departs) (16 * c.args.part + l)) x
-            (slice_index times l)) low (c.since.ensures l h)))
+            (slice_index times l)) low (subst (λ (x : ℕ). IsSinceTo g.R.Row.NEVER x
+            (slice_index (labels c.lower_of-arrived.result) (16 * c.args.part + l)) (slice_index times l))
+            (c.sixteen-from.ensures l h) (c.since.ensures l h))))
       ];
       kept = λ p k l ne. apart rows times w s b p k c.requires.at l (λ e. ne e.1) ∙ old.kept p k l ne;
     }

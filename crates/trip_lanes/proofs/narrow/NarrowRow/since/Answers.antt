@@ -12,22 +12,21 @@ pub returns : goal.returns
 returns c l h =
     let lt : l < 16 = h in
     let inside : 16 * c.args.part + l < 32 = omega (arith, c.requires.part) in
-    let times = c.widened-times.result in
-    let departs = c.widened.result in
-    let time : get_or times l 0 ≡ get_or c.args.self (16 * c.args.part + l) 0 = c.widened-times.ensures l lt in
-    let depart : get_or departs l 0 ≡ get_or c.args.departs (16 * c.args.part + l) 0 = c.widened.ensures l lt in
+    let times = c.sixteen-times.result in
+    let departs = c.args.departs in
+    let time : get_or times l 0 ≡ get_or c.args.self (16 * c.args.part + l) 0 = c.sixteen-times.ensures l lt in
     let times_len : length times ≡ 16 = omega arith in
     let departs_len : length departs ≡ 16 = omega arith in
     let less : ℕ → ℕ → ℕ = λ a b. (a + (2 ^ 32 - b)) % 2 ^ 32 in
     let counted_len : length (zip2 less times departs) ≡ 16 =
     length-zip2 less times departs (times_len ∙ sym departs_len) ∙ times_len in
     let fits = c.requires.fits (16 * c.args.part + l) inside in
-    rw (sym time, sym depart) (since_of 65535 (2 ^ 32) (get_or departs l 0) (get_or times l 0) NEVER _ (omega (
+    rw (sym time) (since_of 65535 (2 ^ 32) (get_or departs l 0) (get_or times l 0) NEVER _ (omega (
       arith,
       fits,
       time,
     )) (λ _. refl)
-    (λ live. rw (time, depart) (c.requires.later (16 * c.args.part + l) inside (λ e. live (time ∙ e))))
+    (λ live. rw time (c.requires.later l lt (λ e. live (time ∙ e))))
     (sel_at w32 16 eqb times (replicate 16 65535) (replicate 16 NEVER) (zip2 less times departs) l lt times_len refl
     refl counted_len
     ∙ rw (
