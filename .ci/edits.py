@@ -266,7 +266,7 @@ class Rooms:
         shutil.copy(self.root / "HANDLES", room / "HANDLES")
         (room / "crates.txt").write_text("".join(self.crates[it].line + "\n" for it in names))
         for it in names:
-            ignored = shutil.ignore_patterns("out", "must-fail")
+            ignored = shutil.ignore_patterns("out", "must-fail", "planted")
             shutil.copytree(self.root / "crates" / it, room / "crates" / it, ignore=ignored)
             built = self.folder(it) / "out/rlib"
             if it != name and built.is_dir():

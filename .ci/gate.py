@@ -131,16 +131,38 @@ def scripts_beside(room: Path) -> list[list[str]]:
     return [it for it in every if (room / it[0]).is_file()]
 
 
+def quick(root: Path) -> Count:
+    """What can be said in a few minutes, and proves nothing: the tests of Rattle and the program's main job by `rt
+    try`, the tests of the tools that run no program, and the pages.
+    """
+    environment = {**os.environ, "PYTHONDONTWRITEBYTECODE": "1"}
+
+    def run_quick(name: str) -> Count:
+        if name.startswith(".ci/"):
+            return counted(*run_told(root, [sys.executable, *name.split()], name, environment))
+        tests = ["--test"] if has_tests(root, name) else []
+        words = ["rt", "try", *tests, "--seconds", str(SECONDS_OF_TESTS)]
+        status, lines = run_told(root / "crates" / name, words, f"{name}, by rt try", environment)
+        return counted(status, lines, CLOSING_OF_TESTS) if tests else Count(status == 0, status != 0)
+
+    crates = [it for it in reversed(repository.crates_of(root)) if has_tests(root, it)]
+    scripts = [".ci/tools_checks.py --no-browser", ".ci/names.py", ".ci/same.py"]
+    with ThreadPoolExecutor(jobs()) as pool:
+        return sum(pool.map(run_quick, ["ttm", *crates, *scripts]), Count())
+
+
+def has_tests(root: Path, name: str) -> bool:
+    """Whether a crate has tests."""
+    files = repository.files_of(root / "crates" / name / "src")
+    return any("#[test]" in it.read_text() for it in files if it.suffix == ".rt")
+
+
 def scripts(room: Path, trials: Path) -> list[list[str]]:
     """What is run on the built programs; the longest first, and last what waits for the one that is proved apart."""
     program = str(room / "crates/ttm/out/ttm")
     every = [
         [".ci/tools_checks.py", program],
         [".ci/packaging_checks.py", program],
-        [".ci/size_runs.py", program],
-        [".ci/random_feeds.py", program],
-        [".ci/program_runs.py", program],
-        [".ci/study_runs.py", program],
         ["bench/hostile.py", program, str(trials)],
     ]
     return [it for it in every if (room / it[0]).is_file()]
@@ -193,6 +215,16 @@ def run_scripts(root: Path, room: Path, trials: Path, apart: Optional[Future[Cou
 
     with ThreadPoolExecutor(jobs()) as pool:
         return sum(pool.map(run_script, scripts(room, trials)), Count())
+
+
+def try_planted(root: Path, names: list[str], clock: Clock) -> Count:
+    """Tries what is planted beside the must-fail edits of these crates, or of all."""
+    paths = {name: repository.edits_of(root, name, "planted") for name in names or repository.crates_of(root)}
+    count = Count()
+    with tempfile.TemporaryDirectory(prefix="ttm-edits-") as made:
+        for outcome in edits.try_all(root, Path(made), {it: paths[it] for it in paths if paths[it]}, clock, jobs()):
+            count += Count(len(outcome.refused), len(outcome.others), len(outcome.skipped))
+    return count
 
 
 def try_edits(room: Path, names: list[str], refusals: Refusals, clock: Clock) -> Count:
@@ -294,6 +326,17 @@ def options_of(words: list[str]) -> argparse.Namespace:
         help="try the edits of these crates, and nothing else, however long it takes",
     )
     asked.add_argument(
+        "--quick",
+        action="store_true",
+        help="a first answer in some five minutes: tests and the program by `rt try`, the tools, the pages; no proof",
+    )
+    asked.add_argument(
+        "--planted",
+        nargs="*",
+        metavar="CRATE",
+        help="try the bugs in crates/CRATE/planted, of these crates or of all, and nothing else, however long it takes",
+    )
+    asked.add_argument(
         "--list", action="store_true", help="say which crates' edits would be tried and why, and do nothing"
     )
     return asked.parse_args(words)
@@ -302,6 +345,10 @@ def options_of(words: list[str]) -> argparse.Namespace:
 def run(root: Path, words: list[str], now: Callable[[], float] = time.monotonic) -> int:
     """Runs the gate of the repository at `root`, by a clock that `now` reads in seconds; gives the exit status."""
     options = options_of(words)
+    if options.quick or options.planted is not None:
+        count = quick(root) if options.quick else try_planted(root, options.planted, Clock(None, now))
+        print(count)
+        return 1 if count.failed else 0
     clock = Clock(None if options.all or options.edits else options.budget * USED, now)
     refusals = Refusals(root, repository.crates_of(root), output_of(root, "rt", "version"))
     if options.edits:

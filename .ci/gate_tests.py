@@ -297,7 +297,7 @@ class CratesOfTests(WithStandIn):
 
     def test_scripts_find_it_again(self) -> None:
         script = "import os\nprint(f'{len(os.listdir(\"crates\"))} passed, 0 failed')\n"
-        for name in (".ci/study_runs.py", ".ci/names.py"):
+        for name in (".ci/packaging_checks.py", ".ci/names.py"):
             self.repository.write(name, script)
         self.assertEqual(self.repository.gate()[1][-1], "18 passed, 0 failed")
 
@@ -547,6 +547,8 @@ pub fn bare() {
             "ARCHITECTURE: lower has no spec Hopes",
             "DEFINITIONS: lower has no spec Adds",
             "DEFINITIONS: ttm has no spec Seen",
+            "lower: no test and no planted bug names bare",
+            "lower: no test and no planted bug names make",
         ]
         self.assertEqual(sorted(wrong), sorted(told))
 

@@ -3,9 +3,10 @@
 
 Each function and law that README's list of promises and ARCHITECTURE's table name exists in its crate; each promise of
 README names a function that has a contract; the program's `main` comes to each function that the table has 'on the
-program's way', by a walk over the sources that goes by names (`calls.py` says what it misses); each spec that the
-table and DEFINITIONS name is a file; and so is each must-fail edit that ASSURANCE names, whose functions, types and
-constants are there, too. The last line is 'N passed, M failed'. Standard library only.
+program's way', by a walk over the sources that goes by names (`calls.py` says what it misses); each spec that the table
+and DEFINITIONS name is a file; and so is each must-fail edit that ASSURANCE names, whose functions, types and constants
+are there, too. Each planted bug can be planted, and each public function is named by a test or a planted bug
+(`public.py`). The last line is 'N passed, M failed'. Standard library only.
 """
 
 from __future__ import annotations
@@ -17,6 +18,7 @@ from dataclasses import dataclass
 from pathlib import Path
 
 import calls
+import public
 import repository
 
 ROOT = Path(__file__).resolve().parent.parent
@@ -171,6 +173,7 @@ def judged(root: Path) -> Iterator[tuple[str, bool]]:
     for claim in specs_of_table(architecture, sources.names) + specs:
         yield f"{claim.page}: {claim.crate} has no spec {claim.name}", sources.has_spec(claim)
     yield from judged_assurance(root, sources)
+    yield from public.judged(root)
 
 
 def main() -> int:

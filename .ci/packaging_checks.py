@@ -1,6 +1,6 @@
 #!/usr/bin/env python3
-"""Makes the tar file and the Debian package of a built program, twice, looks at what is in them, installs them, and
-runs the worked example of README.
+"""Makes the tar file, the Debian package and the wheel of a built program, twice, looks at what is in them, installs
+them, and runs the worked example of README.
 
     packaging_checks.py PROGRAM
 
@@ -25,7 +25,8 @@ PACKAGING = ROOT / "packaging"
 NO_ROOM = 75
 SECONDS = 1800
 COMMANDS = ("ttm", "ttm-tools")
-NEEDED = {"mmdebstrap": "mmdebstrap", "man": "man-db"}  # packages by the command that they have
+NEEDED = {"mmdebstrap": "mmdebstrap", "man": "man-db", "twine": "twine"}  # packages by the command that they have
+PYTHON = "/usr/bin/python3"  # that of Debian's packages
 PATH = os.environ["PATH"] + ":/usr/sbin"
 BASH = """source "$1"; COMP_WORDS=("${@:3}"); COMP_CWORD=$(($# - 3)); "$2"; echo "${COMPREPLY[*]}" """
 
@@ -39,7 +40,7 @@ class Packages:
 
     def __init__(self, program: Path, room: Path) -> None:
         self.program, self.room = program, room
-        self.deb, self.tar = self.made("once")
+        self.deb, self.tar, self.wheel = self.made("once")
         self.tree, self.folder = room / "tree", room / "folder"
         self.output("dpkg-deb", "--extract", self.deb, self.tree)
         self.folder.mkdir()
@@ -55,11 +56,11 @@ class Packages:
             raise AssertionError(f"{words[0]}: status {ran.returncode}: {ran.stderr}")
         return ran.stdout
 
-    def made(self, name: str) -> tuple[Path, Path]:
-        """The Debian package and the tar file, made into a folder."""
+    def made(self, name: str) -> tuple[Path, Path, Path]:
+        """The Debian package, the tar file and the wheel, made into a folder."""
         said = self.output(PACKAGING / "build.sh", "--out", self.room / name, self.program)
-        deb, tar = map(Path, said.split())
-        return deb, tar
+        deb, tar, wheel = map(Path, said.split())
+        return deb, tar, wheel
 
     def share(self, name: str) -> str:
         """A file of the package below share; unpacked where it is."""
@@ -85,14 +86,18 @@ def example() -> str:
 
 def same_bytes_again(of: Packages) -> None:
     """the same commit and program give the same bytes"""
-    for first, second in zip((of.deb, of.tar), of.made("again")):
+    for first, second in zip((of.deb, of.tar, of.wheel), of.made("again")):
         assert (first.name, first.read_bytes()) == (second.name, second.read_bytes()), f"{first.name} differs"
 
 
 def program_is_the_built_one(of: Packages) -> None:
-    """both have the program byte for byte"""
+    """both have the program byte for byte, but for its symbols"""
+    bare = of.room / "stripped"
+    shutil.copy(of.program, bare)
+    if shutil.which("strip"):
+        of.output("strip", "--strip-unneeded", bare)
     for it in (of.tree / "usr/bin/ttm", of.folder / "bin/ttm"):
-        assert it.read_bytes() == of.program.read_bytes(), f"{it} differs"
+        assert it.read_bytes() == bare.read_bytes(), f"{it} differs"
 
 
 def every_file_in_both(of: Packages) -> None:
@@ -113,6 +118,40 @@ def documents_are_there(of: Packages) -> None:
     wanted = [ROOT / "README.md", ROOT / "CHANGELOG.md", *(ROOT / "docs").glob("*.md")]
     for it in wanted:
         assert of.share(f"doc/ttm/{it.name}") == it.read_text(), f"{it.name} differs"
+
+
+def licence_and_changes_are_said(of: Packages) -> None:
+    """the package says which licence it has, who keeps it, and of which commit it is"""
+    assert "No licence was chosen yet" in of.share("doc/ttm/copyright")
+    version = of.output("dpkg-deb", "--field", of.deb, "Version").strip()
+    assert of.share("doc/ttm/changelog.gz").startswith(f"ttm ({version}) unstable; ")
+    keeper = of.output("dpkg-deb", "--field", of.deb, "Maintainer")
+    assert re.fullmatch(r"[^<>]+ <[^<>@ ]+@[^<>@ ]+\.[^<>@ ]+>\n", keeper), keeper
+
+
+def lintian_finds_no_error(of: Packages) -> None:
+    """lintian finds no error in the package"""
+    if shutil.which("lintian", path=PATH) is None:
+        raise Skipped("no lintian on this machine")
+    ran = subprocess.run(["lintian", "--fail-on", "error", str(of.deb)], capture_output=True, text=True)
+    assert ran.returncode == 0, ran.stdout + ran.stderr
+
+
+def sample_feed_is_taken(of: Packages) -> None:
+    """the sample feed has less than a megabyte, and no fault"""
+    feed = of.tree / "usr/share/doc/ttm/examples/town.zip"
+    assert feed.stat().st_size < 1_000_000 and (feed.parent / "jobs.csv").is_file()
+    assert "no faults" in of.output(PYTHON, of.folder / "bin/ttm-tools", "prepare", "--check", feed)
+
+
+def tools_say_that_python_is_not_there(of: Packages) -> None:
+    """where there is no Python, the tools say so in a line"""
+    room = of.room / "bare"
+    room.mkdir()
+    command = (of.folder / "bin/ttm-tools").read_text().replace("/usr/bin/python3", "/nonexistent/python3")
+    (room / "ttm-tools").write_text(command)
+    ran = subprocess.run(["/bin/sh", room / "ttm-tools"], env={"PATH": str(room)}, capture_output=True, text=True)
+    assert ran.returncode == 1 and ran.stderr.startswith("ttm-tools: no Python 3.11 or later here"), ran.stderr
 
 
 def folder_gives_the_example(of: Packages) -> None:
@@ -174,6 +213,31 @@ def words_are_completed(of: Packages) -> None:
         assert told == found + "\n", f"{words}: {told}"
 
 
+def wheel_says_what_an_index_asks(of: Packages) -> None:
+    """twine takes the wheel's metadata, and its name says the least glibc that the program needs"""
+    minors = [int(it) for it in re.findall(rb"GLIBC_2\.(\d+)", of.program.read_bytes())]
+    assert f"-py3-none-manylinux_2_{max([17, *minors])}_x86_64.whl" in of.wheel.name, of.wheel.name
+    if not shutil.which("twine"):
+        raise Skipped("no twine on this machine")
+    said = of.output("twine", "check", "--strict", of.wheel)
+    assert "PASSED" in said, said
+
+
+def wheel_is_installed_by_pip(of: Packages) -> None:
+    """installed by pip from the file alone, the program gives the worked example, and the tools find it"""
+    venv = of.room / "venv"
+    try:
+        of.output(PYTHON, "-m", "venv", "--system-site-packages", venv)
+    except AssertionError as why:
+        raise Skipped(f"no virtual environment can be made: {why}") from None
+    of.output(venv / "bin/pip", "install", "--no-index", "--no-deps", of.wheel, PIP_DISABLE_PIP_VERSION_CHECK="1")
+    assert of.output(venv / "bin/ttm") == example()
+    assert (venv / "share/ttm/PROVED").read_text() == of.share("doc/ttm/PROVED")
+    assert "usage: ttm-tools" in of.output(venv / "bin/ttm-tools", "--help")
+    found = "import ttm_tools.engine as it; print(it.program_at(None))"
+    assert of.output(venv / "bin/python", "-c", found) == f"{venv}/bin/ttm\n"
+
+
 def installed_by_dpkg(of: Packages) -> None:
     """installed by dpkg into an empty room, it gives the worked example, and is removed whole"""
     of.install("dpkg")
@@ -192,12 +256,18 @@ CHECKS: tuple[Callable[[Packages], None], ...] = (
     every_file_in_both,
     toolchain_is_named,
     documents_are_there,
+    licence_and_changes_are_said,
+    lintian_finds_no_error,
+    sample_feed_is_taken,
+    tools_say_that_python_is_not_there,
     folder_gives_the_example,
     tools_of_the_folder_run,
     control_says_what_is_needed,
     manuals_have_every_option,
     manuals_are_read_without_warnings,
     words_are_completed,
+    wheel_says_what_an_index_asks,
+    wheel_is_installed_by_pip,
     installed_by_dpkg,
     installed_in_debian,
 )

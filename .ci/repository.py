@@ -61,8 +61,8 @@ def tests_of(crates: Crates) -> list[str]:
     return [name for name in crates if name.endswith(OF_TESTS)]
 
 
-def edits_of(root: Path, name: str) -> list[Path]:
-    return sorted((root / "crates" / name / "must-fail").glob("*.edit"))
+def edits_of(root: Path, name: str, folder: str = "must-fail") -> list[Path]:
+    return sorted((root / "crates" / name / folder).glob("*.edit"))
 
 
 def files_of(folder: Path) -> list[Path]:

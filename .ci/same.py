@@ -1,7 +1,7 @@
 #!/usr/bin/env python3
 """Looks that what several places say is the same in all of them.
 
-The small feed of `program_runs.py` is that of the crate `small_feed`; no two crates declare a limit, or the number of
+The small feed of `bench/small.py` is that of the crate `small_feed`; no two crates declare a limit, or the number of
 lanes, of one name; and the help states the limits that the code goes by. The last line is 'N passed, M failed'.
 Standard library only.
 """
@@ -14,7 +14,9 @@ from collections.abc import Iterator
 from pathlib import Path
 
 import repository
-from program_runs import FEED
+
+sys.path.insert(0, str(Path(__file__).resolve().parent.parent / "bench"))
+from small import FEED  # noqa: E402
 
 ROOT = Path(__file__).resolve().parent.parent
 OF_TESTS = ["board_trials", "edge_tests", "growth_trials", "matrix_tests", "measure", "network_tests", "table_tests"]

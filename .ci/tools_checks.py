@@ -1,11 +1,12 @@
 #!/usr/bin/env python3
-"""Checks the Python of this repository: its layout, its types, and the tests of the tools.
+"""Checks the Python of this repository: its layout, its types, and the tests of the tools; and runs the built program.
 
     tools_checks.py                  layout, types, and the tests that don't run the program
-    tools_checks.py PROGRAM          the tests that run the built `ttm`
+    tools_checks.py --no-browser     the same without those in a browser, which takes longest to install
+    tools_checks.py PROGRAM          tests/program, and the tests of the tools that run the built `ttm`
 
-`black`, `flake8` and `mypy --strict` look at the folders below, and `pytest` runs the tests of the tools, by as many
-processes as there are processors. What is missing is installed from Debian where that can be had, in five minutes at
+`black`, `flake8` and `mypy --strict` look at the folders below, and `pytest` runs the tests, by as many processes as
+there are processors. What is missing is installed from Debian where that can be had, in five minutes at
 most; a linter, and a test that needs a package, counts as skipped where it can't. Each linter counts as one. The last
 line is 'N passed, M failed, K skipped'.
 """
@@ -22,7 +23,8 @@ from installing import install
 
 ROOT = Path(__file__).resolve().parent.parent
 PYTHON = "/usr/bin/python3"  # that of Debian's packages
-CHECKED = ["tools", "bench", ".ci", "packaging"]  # folders that pass all linters
+CHECKED = ["tools", "bench", ".ci", "packaging", "tests"]  # folders that pass all linters
+OF_PROGRAM = "tests/program"
 COMMANDS = {"black": "black", "flake8": "flake8", "mypy": "mypy"}
 PACKAGES = {
     "numpy": "python3-numpy",
@@ -72,7 +74,7 @@ def lacking_browser() -> list[str]:
 
 def run(words: list[str], folder: Path) -> tuple[int, str]:
     """Runs a command, prints what it says, and gives its status and what it said."""
-    path = ":".join(str(ROOT / it) for it in CHECKED)
+    path = ":".join(str(ROOT / it) for it in [*CHECKED, OF_PROGRAM])
     environment = {**os.environ, "PYTHONDONTWRITEBYTECODE": "1", "MYPYPATH": path}
     ran = subprocess.run(
         words, cwd=folder, env=environment, stdout=subprocess.PIPE, stderr=subprocess.STDOUT, text=True
@@ -94,21 +96,14 @@ def python_files(folders: list[str]) -> list[str]:
 def lint(counts: Counts) -> None:
     """Each linter over the folders."""
     files, settings = python_files(CHECKED), "tools/pyproject.toml"
-    linters = {
-        "black": ["black", "--check", "-q", "--config", settings, *files],
-        "flake8": ["flake8", *files],
-        "mypy": [
-            "mypy",
-            "--strict",
-            "--no-error-summary",
-            "--cache-dir",
-            os.devnull,
-            "--config-file",
-            settings,
-            *packages(),
-        ],
-    }
-    for name, words in linters.items():
+    mypy = ["mypy", "--strict", "--no-error-summary", "--cache-dir", os.devnull, "--config-file", settings]
+    linters = [
+        ("black", ["black", "--check", "-q", "--config", settings, *files]),
+        ("flake8", ["flake8", *files]),
+        ("mypy", [*mypy, *packages()]),
+        ("mypy", [*mypy, *python_files([OF_PROGRAM])]),
+    ]
+    for name, words in linters:
         if shutil.which(name) is None:
             print(f"1 check is skipped: {name} isn't installed (Debian: apt-get install {COMMANDS[name]})")
             counts.add(0, 0, 1)
@@ -119,8 +114,10 @@ def lint(counts: Counts) -> None:
 
 
 def packages() -> list[str]:
-    """What mypy looks at: the package, its tests, and the files of the other folders."""
-    return ["tools/src", "tools/tests", *python_files([it for it in CHECKED if it != "tools"])]
+    """What mypy looks at: the package, its tests, and the files of the other folders; by itself tests/program, whose
+    `conftest` bears the name of another.
+    """
+    return ["tools/src", "tools/tests", *python_files([it for it in CHECKED if it not in ("tools", "tests")])]
 
 
 def there(*modules: str) -> bool:
@@ -129,7 +126,7 @@ def there(*modules: str) -> bool:
 
 
 def test(counts: Counts, program: str | None) -> None:
-    """The tests of the tools that run this program; without one the others, and those of the bench."""
+    """The tests that run this program; without one the others."""
     if not there("pytest", "numpy"):
         print("the tests of the tools are skipped: without python3-pytest and python3-numpy")
         counts.add(0, 0, 1)
@@ -139,7 +136,9 @@ def test(counts: Counts, program: str | None) -> None:
     at_once = ["-n", str(len(os.sched_getaffinity(0))), "--dist", "loadgroup"] if there("xdist") else []
     chosen = ["-m", "program", f"--program={Path(program).resolve()}"] if program else ["-m", "not program"]
     add_tests(counts, [*common, *at_once, *chosen], "tools")
-    if not program:
+    if program:
+        add_tests(counts, [*common, *at_once, *chosen[2:]], OF_PROGRAM)
+    else:
         add_tests(counts, common, "bench")
 
 
@@ -154,11 +153,13 @@ def add_tests(counts: Counts, words: list[str], folder: str) -> None:
 
 
 def main() -> int:
-    install(lacking(), lacking_browser())
+    asked = sys.argv[1] if len(sys.argv) > 1 else None
+    without_browser = asked == "--no-browser"
+    program = None if without_browser else asked
+    install(lacking(), [] if without_browser else lacking_browser())
     missing, counts = lacking() + lacking_browser(), Counts()
     if missing:
-        print(f"what needs {', '.join(missing)} is skipped: apt-get can't install that here")
-    program = sys.argv[1] if len(sys.argv) > 1 else None
+        print(f"what needs {', '.join(missing)} is skipped: it isn't installed")
     if not program:
         lint(counts)
     test(counts, program)

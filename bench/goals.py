@@ -2,23 +2,26 @@
 """Measures the goals of the search and of reading, each in one run and in turns, and prints a Markdown table with the
 goal beside each figure.
 
-    goals.py --town FOLDER --city FOLDER --metropolis FOLDER [--peers FOLDER] [--beside MEASURE] [--parts cells,days]
-             [--origins N] [--times N]
+    goals.py --town FOLDER --city FOLDER --metropolis FOLDER [--region FOLDER] [--peers FOLDER] [--beside MEASURE]
+             [--parts cells,days] [--origins N] [--times N]
 
 The folders hold the feeds of `feedgen.py`; `rt run` in crates/measure and crates/ttm comes first. Departures are each
 minute from 07:00 to 08:59, journeys have at most 4 trips, walks at most 600 seconds; times are the least of the runs.
 The parts, which are all measured unless --parts names some:
 
     peers     durations beside textbook RAPTOR `a`, range RAPTOR `b` (--peers) and another `measure` (--beside)
-    windows   durations of 1, 4 and 16 departures in the city beside another `measure`
+    sparse    the same of town and city with every third trip, and of the region
+    order     durations with the stops of city and metropolis in a drawn order, over those of the order as made
+    windows   durations of 1, 4, 16 departures in the city, and of a whole day in the region, beside another `measure`
     days      rows of the city with three service days in the network, over one day (text left out)
     changes   durations in the city with a change time at each stop, over none
     workers   rows of the metropolis by four workers beside one, and the memory of each worker more
     cells     what cells, access and text of the metropolis' rows take, over the durations of the same
     reading   `read_feed` over the `csv` crate's own pass, in the metropolis
 
-A part that lacks what it is measured beside is left out. --origins says how many origins a feed has at most: else the
-first 200 of the city's origins500.csv, 60 of the metropolis' origins1000.csv, 100 of the town's origins100.csv.
+A part that lacks what it is measured beside is left out, as is what needs a region where --region names none. --origins
+says how many origins a feed has at most: else the first 200 of the city's origins500.csv, 60 of the metropolis'
+origins1000.csv, 100 of the town's origins100.csv and of the region's origins300.csv.
 Standard library only; Linux.
 """
 import os
@@ -29,10 +32,17 @@ from dataclasses import dataclass, replace
 from typing import Any, Callable, Iterator, Optional, Sequence
 
 import ratios
-from shared import DATE, Study, built, parser_of, print_head, print_row, run_into, stops_of, there, write_lines
-from shared import write_origins
+from shared import DATE, Study, built, parser_of, print_head, print_row, run_into, there, write_origins
+from variants import every_third_trip, with_changes, with_drawn_order
 
-FILES = {"town": ("origins100.csv", 100), "city": ("origins500.csv", 200), "metropolis": ("origins1000.csv", 60)}
+FILES = {
+    "town": ("origins100.csv", 100),
+    "city": ("origins500.csv", 200),
+    "metropolis": ("origins1000.csv", 60),
+    "region": ("origins300.csv", 100),
+}
+NEEDED = ("town", "city", "metropolis")
+WHOLE_DAY = 1440  # departures
 CHANGE = 90  # seconds
 FROM_ON = ["07:00:00", "120", "4", "600"]
 DURATIONS, CELLS = "rows' durations, us", "rows' cells and access, us"  # as `measure` calls them
@@ -87,48 +97,65 @@ class Asked:
             return ratios.means_of(folder, asked, ratios.programs_of(asked, place), place)
 
 
+def beside_peers(
+    asked: Asked, size: str, feed: str, folder: str, goals: dict[str, tuple[float, Optional[float]]]
+) -> Iterator[Figure]:
+    """Durations of a feed beside each peer, or other program, that there is a goal for."""
+    if not asked.peers and not asked.beside:
+        return
+    mean = asked.means(size, folder, peers=asked.peers, beside=asked.beside)
+    for name, (goal, aim) in goals.items():
+        if name in mean:
+            yield Figure("times as fast as `%s`" % name, feed, mean[name] / mean["ttm"], goal, aim=aim)
+
+
 def peers(asked: Asked) -> Iterator[Figure]:
-    """Durations beside the peers and beside another program."""
-    goals: dict[str, dict[str, tuple[float, Optional[float]]]] = {
-        "town": {"b": (1.2, None)},
-        "city": {"a": (8.5, 10.0), "b": (1.7, 2.0), "beside": (1.35, 1.75)},
-        "metropolis": {"a": (7.0, 10.0), "b": (1.5, 2.0), "beside": (1.35, 1.75)},
-    }
-    for size, of_feed in goals.items():
-        if not asked.peers and not asked.beside:
-            continue
-        mean = asked.means(size, asked.folders[size], peers=asked.peers, beside=asked.beside)
-        for name, (goal, aim) in of_feed.items():
-            if name in mean:
-                yield Figure("times as fast as `%s`" % name, size, mean[name] / mean["ttm"], goal, aim=aim)
+    """Durations of the feeds as made, beside the peers and beside another program."""
+    yield from beside_peers(asked, "town", "town", asked.folders["town"], {"b": (2.4, 3.0), "beside": (1.0, None)})
+    goals = {"a": (8.5, 10.0), "b": (2.4, 3.0), "beside": (1.0, None)}
+    yield from beside_peers(asked, "city", "city", asked.folders["city"], goals)
+    goals = {"a": (7.0, 10.0), "b": (3.2, None), "beside": (1.0, None)}
+    yield from beside_peers(asked, "metropolis", "metropolis", asked.folders["metropolis"], goals)
+
+
+def sparse(asked: Asked) -> Iterator[Figure]:
+    """Durations of feeds with long headways, beside the same."""
+    goals: dict[str, tuple[float, Optional[float]]] = {"b": (1.8, 2.5), "beside": (1.0, None)}
+    for size in ("town", "city") if asked.peers or asked.beside else ():
+        thinned = every_third_trip(asked.folders[size], asked.place)
+        yield from beside_peers(asked, size, size + ", every third trip", thinned, goals)
+    if asked.folders["region"]:
+        yield from beside_peers(asked, "region", "region", asked.folders["region"], goals)
+
+
+def in_turns(asked: Asked, size: str, folders: Sequence[str]) -> list[float]:
+    """The mean milliseconds of variants of a feed, each the least of its runs, in turns."""
+    runs = [[asked.means(size, it, times=1)["ttm"] for it in folders] for _ in range(asked.times)]
+    return [min(it) for it in zip(*runs)]
+
+
+def order(asked: Asked) -> Iterator[Figure]:
+    """A drawn order of stops, over the order as made."""
+    for size in ("city", "metropolis"):
+        folder = asked.folders[size]
+        made, drawn = in_turns(asked, size, [folder, with_drawn_order(folder, asked.place)])
+        yield Figure("stops in a drawn order, over the order as made", size, drawn / made, 1.05, False)
 
 
 def windows(asked: Asked) -> Iterator[Figure]:
-    """Short windows, no slower than by another program."""
-    for minutes in (1, 4, 16) if asked.beside else ():
-        mean = asked.means("city", asked.folders["city"], minutes=minutes, beside=asked.beside)
-        what = "times as fast as `beside`, %d minutes" % minutes
-        yield Figure(what, "city", mean["beside"] / mean["ttm"], 1.0)
-
-
-def with_changes(folder: str, place: str, seconds: int) -> str:
-    """A folder with the files of a feed in which a change between two vehicles at any stop takes so long."""
-    made = tempfile.mkdtemp(dir=place)
-    names = [name for name in os.listdir(folder) if name != "transfers.txt"]
-    for path in there(folder, *names):
-        os.symlink(os.path.abspath(path), os.path.join(made, os.path.basename(path)))
-    stops = stops_of(os.path.join(folder, "stops.txt"))
-    rows = ["%s,%s,2,%d" % (stop, stop, seconds) for stop in stops]
-    write_lines(made, "transfers.txt", "from_stop_id,to_stop_id,transfer_type,min_transfer_time", rows)
-    return made
+    """Short windows, no slower than by another program, and a whole day."""
+    goals = [("city", minutes, 1.0) for minutes in (1, 4, 16)] + [("region", WHOLE_DAY, 2.5)]
+    for size, minutes, goal in goals if asked.beside else ():
+        if asked.folders[size]:
+            mean = asked.means(size, asked.folders[size], minutes=minutes, beside=asked.beside)
+            what = "times as fast as `beside`, %d minutes" % minutes
+            yield Figure(what, size, mean["beside"] / mean["ttm"], goal)
 
 
 def changes(asked: Asked) -> Iterator[Figure]:
-    """Change times at each stop; both feeds in turns."""
+    """Change times at each stop, over none."""
     folder = asked.folders["city"]
-    changed = [with_changes(folder, asked.place, seconds) for seconds in (0, CHANGE)]
-    runs = [[asked.means("city", it, times=1)["ttm"] for it in changed] for _ in range(asked.times)]
-    none, some = (min(it) for it in zip(*runs))
+    none, some = in_turns(asked, "city", [with_changes(folder, asked.place, seconds) for seconds in (0, CHANGE)])
     yield Figure("change times of %d s at each stop, over none" % CHANGE, "city", some / none, 1.3, False)
 
 
@@ -201,6 +228,8 @@ def reading(asked: Asked) -> Iterator[Figure]:
 
 PARTS: dict[str, Callable[[Asked], Iterator[Figure]]] = {
     "peers": peers,
+    "sparse": sparse,
+    "order": order,
     "windows": windows,
     "days": days,
     "changes": changes,
@@ -214,7 +243,7 @@ def asked_of(words: Optional[Sequence[str]] = None) -> Asked:
     """What the arguments ask for."""
     parser = parser_of(__doc__)
     for size in FILES:
-        parser.add_argument("--" + size, metavar="FOLDER", required=True, help="an unpacked feed")
+        parser.add_argument("--" + size, metavar="FOLDER", required=size in NEEDED, help="an unpacked feed")
     parser.add_argument("--peers", metavar="FOLDER", help="a folder of Rust peers, as of ratios.py")
     parser.add_argument("--beside", metavar="PROGRAM", help="the program of crates/measure as another commit builds it")
     parser.add_argument("--parts", default=",".join(PARTS), help="which parts, divided by commas (default: all)")

@@ -10,6 +10,7 @@ import goals
 import ratios
 import shared
 import study_times
+import variants
 
 # of all files of the town that seed 1 makes: results of other days are of these bytes
 TOWN = "58955af162bcfc04fb364acd8aca7f8b3f51f3be99fd5ac4ae8dd0ecf852cf0d"
@@ -98,10 +99,40 @@ def test_a_feed_gets_a_change_time_at_each_stop(tmp_path: Path) -> None:
     feed.mkdir()
     write_stops(feed, "stops.txt", "G,1", "A,0", "B,")
     write_stops(feed, "transfers.txt")
-    made = Path(goals.with_changes(str(feed), str(tmp_path), 90))
+    made = Path(variants.with_changes(str(feed), str(tmp_path), 90))
     rows = (made / "transfers.txt").read_text().splitlines()
     assert rows == ["from_stop_id,to_stop_id,transfer_type,min_transfer_time", "A,A,2,90", "B,B,2,90"]
     assert (made / "stops.txt").read_bytes() == (feed / "stops.txt").read_bytes()
+
+
+def test_every_third_trip_keeps_its_stop_times(tmp_path: Path) -> None:
+    feed = tmp_path / "feed"
+    feed.mkdir()
+    shared.write_lines(str(feed), "trips.txt", "route_id,service_id,trip_id", ["R,S,T%d" % it for it in range(5)])
+    times = ["T%d,08:00:00" % trip for trip in range(5) for _ in range(2)]
+    shared.write_lines(str(feed), "stop_times.txt", "trip_id,arrival_time", times)
+    made = Path(variants.every_third_trip(str(feed), str(tmp_path)))
+    assert (made / "trips.txt").read_text().splitlines()[1:] == ["R,S,T0", "R,S,T3"]
+    assert [it[:2] for it in (made / "stop_times.txt").read_text().splitlines()[1:]] == ["T0", "T0", "T3", "T3"]
+
+
+def test_a_drawn_order_has_the_same_stops(tmp_path: Path) -> None:
+    feed = tmp_path / "feed"
+    feed.mkdir()
+    write_stops(feed, "stops.txt", *("S%d,0" % it for it in range(20)))
+    drawn = [Path(variants.with_drawn_order(str(feed), str(tmp_path))) / "stops.txt" for _ in range(2)]
+    header, *stops = drawn[0].read_text().splitlines()
+    assert header == "stop_id,location_type" and drawn[0].read_bytes() == drawn[1].read_bytes()
+    assert sorted(stops) == sorted("S%d,0" % it for it in range(20)) and stops[:3] != ["S0,0", "S1,0", "S2,0"]
+
+
+def test_a_region_has_long_headways_and_school_days(tmp_path: Path) -> None:
+    told = feedgen.write_feed("region", 1, str(tmp_path))
+    assert told.startswith("size region seed 1: stops 3006, stations 3, routes 149, trips 9010, stop_times 179005")
+    services = [it.split(",")[1] for it in (tmp_path / "trips.txt").read_text().splitlines()[1:]]
+    assert services.count("SCHOOL") == 3 * 20 and set(services) == {"ALL", "WD", "SCHOOL"}
+    terms = [it for it in (tmp_path / "calendar.txt").read_text().splitlines() if it.startswith("SCHOOL")]
+    assert len(terms) == 3 and all(it.startswith("SCHOOL,1,1,1,1,1,0,0,2026") for it in terms)
 
 
 def test_figures_are_read_by_their_words() -> None:

@@ -1,8 +1,8 @@
 #!/bin/sh
 # Makes a tar file and a Debian package of the program, the tools for analysts, their manual pages, completion for bash
-# and the documents. The same commit and program give the same bytes.
+# and the documents; and a wheel of the program and the tools, for pip. The same commit and program give the same bytes.
 # usage: packaging/build.sh [--out FOLDER] [PROGRAM]
-#   FOLDER   where both are written; packaging/out by default
+#   FOLDER   where the three are written; packaging/out by default
 #   PROGRAM  a proved build: crates/ttm/out/ttm by default, which `rt run` proves and builds where it isn't there
 # Needs python3, dpkg-deb and git (or SOURCE_DATE_EPOCH in the environment where there is no clone).
 set -eu
@@ -39,6 +39,7 @@ docs=$usr/share/doc/ttm
 completions=$usr/share/bash-completion/completions
 mkdir -p "$usr/bin" "$usr/lib/python3/dist-packages" "$usr/share/man/man1" "$completions" "$docs"
 install -m 755 "$program" "$usr/bin/ttm"
+! command -v strip > /dev/null || strip --strip-unneeded "$usr/bin/ttm"
 install -m 755 "$here/packaging/ttm-tools" "$usr/bin/ttm-tools"
 cp -r "$here/tools/src/ttm_tools" "$usr/lib/python3/dist-packages/"
 find "$usr/lib" -name __pycache__ -prune -exec rm -r {} +
@@ -46,12 +47,36 @@ tools=$(sed -n 's/^version = "\(.*\)"/\1/p' "$here/tools/pyproject.toml")
 mkdir "$usr/lib/python3/dist-packages/ttm_tools-$tools.dist-info"
 printf 'Metadata-Version: 2.1\nName: ttm-tools\nVersion: %s\n' "$tools" \
     > "$usr/lib/python3/dist-packages/ttm_tools-$tools.dist-info/METADATA"
+author=$(git -C "$here" log -1 --format='%an <%ae>' 2> /dev/null || true)
+maintainer=${MAINTAINER:-${author:-unknown <root@localhost.localdomain>}}
+install -m 644 "$here/packaging/copyright" "$docs/copyright"
+printf 'ttm (%s) unstable; urgency=medium\n\n  * Commit %.48s.\n    CHANGELOG.md says what changed.\n\n -- %s  %s\n' \
+    "$version+git$stamp" "$commit" "$maintainer" "$(date -u -R -d "@$SOURCE_DATE_EPOCH")" | gzip -9n > "$docs/changelog.gz"
+
+# A sample feed, by which the tutorial can be followed.
+examples=$docs/examples
+mkdir "$examples"
+python3 "$here/bench/feedgen.py" town "$room/made" > /dev/null
+cp "$room/made/opportunities.csv" "$examples/jobs.csv"
+python3 - "$room/made" "$examples/town.zip" << 'END'
+import sys
+import zipfile
+from pathlib import Path
+
+names = "calendar calendar_dates routes stop_times stops transfers trips".split()
+with zipfile.ZipFile(sys.argv[2], "w", zipfile.ZIP_DEFLATED, compresslevel=9) as packed:
+    for name in names:
+        member = zipfile.ZipInfo(f"{name}.txt", (1980, 1, 1, 0, 0, 0))
+        member.external_attr, member.compress_type = 0o644 << 16, zipfile.ZIP_DEFLATED
+        packed.writestr(member, (Path(sys.argv[1]) / f"{name}.txt").read_bytes())
+END
 cp "$here/README.md" "$here/CHANGELOG.md" "$here"/docs/*.md "$here"/docs/*.png "$docs"
 {
     echo "$said"
     ! at_hand=$(rt version 2> /dev/null) || echo "packed beside $at_hand"
     echo "commit $commit"
     echo "sha256 of the program $(sha256sum < "$program" | cut -d ' ' -f 1)"
+    echo "sha256 of the packaged program, without its symbols $(sha256sum < "$usr/bin/ttm" | cut -d ' ' -f 1)"
 } > "$docs/PROVED"
 export PYTHONDONTWRITEBYTECODE=1
 for name in ttm ttm-tools; do
@@ -83,7 +108,7 @@ cat > "$room/deb/DEBIAN/control" << END
 Package: ttm
 Version: $version+git$stamp
 Architecture: $machine
-Maintainer: ttm <ttm@localhost>
+Maintainer: $maintainer
 Section: science
 Priority: optional
 Installed-Size: $(du -k -s --apparent-size "$usr" | cut -f 1)
@@ -114,10 +139,11 @@ chmod 755 "$room/deb/DEBIAN/postinst" "$room/deb/DEBIAN/prerm"
 (cd "$room/deb" && find usr -type f | LC_ALL=C sort | xargs md5sum) > "$room/deb/DEBIAN/md5sums"
 dpkg-deb --root-owner-group --threads-max=1 -Zxz --build "$room/deb" "$room/ttm.deb" > /dev/null
 
-# Both get their names when they are whole.
+# Each gets its name when it is whole.
 deb=$out/ttm_$version+git${stamp}_$machine.deb
 tar=$out/ttm-$version-linux-$machine.tar.gz
 cp "$room/ttm.deb" "$deb.new" && mv "$deb.new" "$deb"
 cp "$room/ttm.tar.gz" "$tar.new" && mv "$tar.new" "$tar"
 echo "$deb"
 echo "$tar"
+python3 "$here/packaging/wheel.py" "$program" "$docs/PROVED" "$out"

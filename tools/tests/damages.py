@@ -283,7 +283,7 @@ def damage_stays(program: str, seed: int, room: Path) -> str:
     """What is wrong where a damaged feed is mended: the program must take it; nothing where it does."""
     feed = Damaged(seed)
     feed.put_into(room / str(seed))
-    status, _, told = matrix_of(program, prepared(room / str(seed), "--repair"))
+    status, _, told = matrix_of(program, prepared(room / str(seed), "--repair", "--allow-loss"))
     return "" if (status, told) == (0, b"") else f"seed {seed}: {', '.join(feed.done)}: {told.decode()}"
 
 

@@ -3,6 +3,7 @@
 import argparse
 import subprocess
 import sys
+from pathlib import Path
 
 import pytest
 
@@ -114,3 +115,40 @@ def test_out_of_memory_has_the_status_3(town: Town, monkeypatch: pytest.MonkeyPa
         raise MemoryError
 
     assert cli.told(argparse.Namespace(command="map", run=run)) == 3
+
+
+def test_an_option_that_is_none_is_told_with_the_usage_of_its_command(room: Room) -> None:
+    _, told, status = room.ran("page", "--feed", "a", "matrix.csv", "--wthin", "3")
+    assert status == 2 and told.startswith("usage: ttm-tools page ") and "unrecognized arguments: --wthin" in told
+
+
+def test_a_limit_is_in_minutes_or_in_seconds_as_ttm_has_it(town: Town) -> None:
+    town.matrix(town_matrix(True, limits=(900, 1800)))
+    words = ["compare", "--by", "origin", town.file]
+    found = [town.ran(*words, *it) for it in (["--within", "900"], ["--cutoff", "15"], ["--cutoffs", "15"])]
+    assert found[0][2] == 0 and found[0] == found[1] == found[2]
+    town.write("jobs.csv", "stop_id,jobs", [["A", 7], ["D", 8]])
+    words = ["access", "--opportunities", town.path("jobs.csv"), town.file]
+    found = [town.ran(*words, *it) for it in (["--cutoffs", "15,30"], ["--within", "900,1800"])]
+    assert found[0][2] == 0 and found[0] == found[1]
+
+
+def test_some_of_many_names_are_told_with_how_many_more() -> None:
+    assert faults.some(["a", "b", "c", "d"]) == "a, b, c, d"
+    assert faults.some([f"c{n}" for n in range(1234)]) == "c0, c1, c2, c3 and 1,230 more"
+
+
+def test_pip_builds_the_package_without_network_or_other_packages(room: Room) -> None:
+    if subprocess.run([sys.executable, "-m", "pip", "--version"], capture_output=True).returncode:
+        pytest.skip("without pip")
+    tools, out = Path(LAUNCHER).parent, room.path("there")
+    words = ["install", "--no-index", "--no-deps", "--disable-pip-version-check", "--target", out, str(tools)]
+    ran = subprocess.run([sys.executable, "-m", "pip", *words], capture_output=True, text=True)
+    assert ran.returncode == 0, ran.stderr
+    made = {str(it.relative_to(out)) for it in Path(out).rglob("*") if it.is_file() and it.suffix != ".pyc"}
+    own = {
+        f"ttm_tools/{it.relative_to(tools / 'src' / 'ttm_tools')}"
+        for it in (tools / "src" / "ttm_tools").rglob("*")
+        if it.is_file() and it.suffix != ".pyc"
+    }
+    assert own <= made and "bin/ttm-tools" in made

@@ -55,3 +55,9 @@ def test_origins_without_a_column_are_points(town: Town) -> None:
         told = [feature["properties"] for feature in json.loads(made.read_text())["features"]]
         assert {it["stop_id"]: it["base_50_seconds"] for it in told} == times
         assert {it["stop_id"]: it["base_50_access_1800"] for it in told if it["stop_id"] != "B"} == {"A": 3, "D": 2}
+
+
+def test_a_matrix_without_columns_is_no_open_matrix_file(town: Town) -> None:
+    town.matrix(ALONE)
+    told = "has no columns, as a run whose --destinations are a header alone: there is nothing to write"
+    town.refused(f"{town.file}: {told}", "omx", "--out", town.path("made.omx"), town.file)

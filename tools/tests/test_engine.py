@@ -1,17 +1,19 @@
 """Runs of `ttm` from Python, and the page that shows them."""
 
 import contextlib
+import datetime
 import os
 import re
 import stat
 from pathlib import Path
 from typing import Iterator
 
+import numpy as np
 import pytest
 
 import ttm_tools
 from helpers import Room
-from ttm_tools.engine import EngineFault, Run, program_at, run
+from ttm_tools.engine import EngineFault, Result, Run, program_at, run
 from ttm_tools.faults import Lacking, WrongWords
 
 PAGE = Path(__file__).resolve().parents[2] / "docs" / "PYTHON.md"
@@ -59,6 +61,57 @@ def test_the_words_of_a_run() -> None:
 def test_a_fault_line_names_file_and_record(line: str, file: str, record: int | None) -> None:
     fault = EngineFault(line, 2)
     assert (fault.file, fault.record, fault.line) == (file, record, line)
+
+
+@pytest.mark.parametrize(
+    "told, option, column, value, allowed",
+    [
+        (
+            'ttm: bad date\nttm: --date is "4.5.2026"; a date is YYYYMMDD',
+            "--date",
+            "--date",
+            "4.5.2026",
+            "a date is YYYYMMDD",
+        ),
+        (
+            'ttm: calendar.txt: record 2: bad date\nttm: column start_date is "x"; a date is YYYYMMDD',
+            *(None, "start_date", "x", "a date is YYYYMMDD"),
+        ),
+        ("ttm: stops.txt: missing file\nttm: folder a has b", None, None, None, None),
+    ],
+)
+def test_a_fault_has_what_the_report_explains(
+    told: str, option: str | None, column: str | None, value: str | None, allowed: str | None
+) -> None:
+    fault = EngineFault(told, 2)
+    assert (fault.option, fault.column, fault.value, fault.allowed) == (option, column, value, allowed)
+    assert fault.line == told.splitlines()[0] and fault.explanation == told.splitlines()[1:]
+    assert value is None or str(fault).endswith(f"{column} {value!r} bad date; allowed: {allowed}")
+
+
+def test_a_refusal_says_the_option_its_value_and_what_is_allowed(program: str, room: Room) -> None:
+    with pytest.raises(EngineFault) as told:
+        ttm_tools.matrix(room.folder, "20260504", ("8:00", "08:00"), program=program)
+    allowed = "a time of day is HH:MM, 00:00 to 23:59"
+    assert (told.value.option, told.value.value, told.value.allowed) == ("--from", "8:00", allowed)
+    assert str(told.value) == f"ttm: --from '8:00' bad window; allowed: {allowed}"
+
+
+@pytest.mark.parametrize("date", ["20260504", "2026-05-04", datetime.date(2026, 5, 4)])
+def test_dates_are_taken_as_people_write_them(date: str | datetime.date) -> None:
+    assert Run("feed", date, ("08:00", "08:59")).words()[3] == "20260504"
+
+
+def test_without_a_name_the_scenario_is_that_others_are_compared_with() -> None:
+    numbers = {(name, 50): np.full((1, 1), place, np.float32) for place, name in enumerate(("base", "today", "tram"))}
+    made = Result(["base", "today", "tram"], [50], [1800], ["A"], ["A"], numbers, {}, 0)
+    assert made.array().tolist() == [[1]] and made.times().loc["A", "A"] == 1
+    assert made.array("base").tolist() == [[0]]
+
+
+def test_all_public_names_are_found_by_tab() -> None:
+    assert {"WrongWords", "matrix", "EngineFault"} <= set(dir(ttm_tools))
+    assert ttm_tools.WrongWords is WrongWords
 
 
 def test_a_run_that_fails_leaves_no_matrix(room: Room) -> None:

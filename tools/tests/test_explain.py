@@ -183,9 +183,9 @@ class Second:
 
 def others() -> tuple[Any, Any]:
     """The other program, and what draws feeds."""
-    if not (ROOT / ".ci" / "random_feeds.py").is_file():
-        pytest.skip("without the gate")
-    for folder in ("bench", ".ci"):
+    if not (ROOT / "tests/program/random_feeds.py").is_file():
+        pytest.skip("without the tests of the program")
+    for folder in ("bench", "tests/program"):
         if str(ROOT / folder) not in sys.path:
             sys.path.append(str(ROOT / folder))
     return importlib.import_module("plain"), importlib.import_module("random_feeds")

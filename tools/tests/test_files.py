@@ -73,18 +73,30 @@ def test_a_signal_leaves_nothing_behind(room: Room, name: str) -> None:
     assert room.names() == set()
 
 
+WAITING = """
+import sys, time
+sys.path.insert(0, sys.argv[1])
+import ttm_tools.feed
+from ttm_tools import cli, files
+
+def wait(*_):
+    print("begun", flush=True)
+    time.sleep(30)
+
+ttm_tools.feed.read_stops = wait
+files.unwind_on_signals()
+sys.exit(cli.main(["walks", sys.argv[2]]))
+"""
+
+
 def test_a_command_that_is_ended_says_so_and_leaves_nothing(room: Room) -> None:
-    os.mkfifo(room.path("stops.txt"))
-    words = [sys.executable, LAUNCHER, "walks", str(room.folder)]
-    with subprocess.Popen(words, stderr=subprocess.PIPE) as run:
-        with open(room.path("stops.txt"), "w") as pipe:
-            pipe.write("stop_id\nA\n")
-            pipe.flush()
-            time.sleep(0.2)
-            run.send_signal(signal.SIGTERM)
-            assert run.stderr is not None
-            assert (run.wait(10), run.stderr.read()) == (143, b"ttm-tools walks: ended by SIGTERM\n")
-    assert room.names() == {"stops.txt"}
+    words = [sys.executable, "-c", WAITING, str(Path(LAUNCHER).parent / "src"), str(room.folder)]
+    with subprocess.Popen(words, stdout=subprocess.PIPE, stderr=subprocess.PIPE) as run:
+        assert run.stdout is not None and run.stdout.readline() == b"begun\n"
+        run.send_signal(signal.SIGTERM)
+        assert run.stderr is not None
+        assert (run.wait(10), run.stderr.read()) == (143, b"ttm-tools walks: ended by SIGTERM\n")
+    assert room.names() == set()
 
 
 @pytest.mark.parametrize("command", ["long", "compare", "omx"])

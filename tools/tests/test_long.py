@@ -81,6 +81,8 @@ def test_r5py_names_have_minutes_and_a_column_for_each_share(town: Town) -> None
     assert "A,D,," not in lines(town, "--names", "r5py", "--scenario", "cut", "--reached").splitlines()
     told = "r5py's columns name no scenario, and it has base, cut: name one by --scenario"
     town.refused(f"{town.file}: {told}", "long", "--names", "r5py", town.file)
+    median = lines(town, "--names", "r5py", "--scenario", "cut", "--share", "50").splitlines()
+    assert median[:2] == ["from_id,to_id,travel_time", "A,A,0.0"]
     town.matrix(town_matrix(False, {"base": TOWN["base"]}))
     assert lines(town, "--names", "r5py").splitlines()[:3] == ["from_id,to_id,travel_time", "A,A,0.0", "A,B,5.0"]
 
@@ -167,3 +169,27 @@ def test_a_file_is_written_whole(town: Town) -> None:
     town.matrix(town_matrix(True))
     assert town.ran("long", "--out", town.path("long.csv"), town.file) == ("", "", 0)
     assert Path(town.path("long.csv")).read_text() == lines(town)
+
+
+def test_more_lines_than_a_spreadsheet_shows_are_told(town: Town, monkeypatch: pytest.MonkeyPatch) -> None:
+    town.matrix(town_matrix(True))
+    monkeypatch.setattr("ttm_tools.views.long.MOST_LINES", 16)
+    out, told, status = town.ran("long", "--out", town.path("long.csv"), town.file)
+    wanted = f"{town.path('long.csv')}: 17 lines, of which a spreadsheet shows 16: take some by --origins\n"
+    assert (out, told, status) == ("", wanted, 0)
+
+
+def test_types_of_columns_stand_beside_for_qgis(town: Town) -> None:
+    town.matrix(town_matrix(True))
+    assert town.ran("long", "--csvt", "--feed", town.feed, "--out", town.path("long.csv"), town.file)[2] == 0
+    made = (town.folder / "long.csvt").read_text()
+    assert made == ('"String","Integer","String","String","Integer","String","Real","Real","String","Real","Real"\n')
+    assert town.ran("long", "--csvt", town.file)[1:] == ("ttm-tools long: --csvt needs --out, the name of a CSV\n", 2)
+
+
+def test_names_that_are_formulas_are_quoted(town: Town) -> None:
+    town.matrix(town_matrix(True))
+    town.write("stops.txt", "stop_id,stop_name", [["A", "=1+1"], ["B", "-x"], ["C", "@c"], ["D", "Delta"]])
+    made = lines(town, "--safe", "--feed", town.feed).splitlines()
+    assert made[1] == "base,50,A,A,0,'=1+1,,,'=1+1,," and made[4].endswith(",Delta,,")
+    assert lines(town, "--feed", town.feed).splitlines()[1] == "base,50,A,A,0,=1+1,,,=1+1,,"

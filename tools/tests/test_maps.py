@@ -56,21 +56,10 @@ def test_access_in_round_numbers(town: Town, monkeypatch: pytest.MonkeyPatch) ->
 def test_the_difference_of_access(town: Town, monkeypatch: pytest.MonkeyPatch) -> None:
     town.matrix(town_matrix(True))
     texts, _, classes = figure(town, monkeypatch, "difference")
-    told = "Of 2 stops 1 lose, 1 gain (by 1 % or more); the most: 33 % (1 opportunities) at Alpha (A)"
+    told = "Of 2 stops 1 lose, 1 gain; the most: 33 % (1 opportunities) at Alpha (A)"
     assert texts[1] == told
     lost, gained = "25 % or more lost  (1)", "25 % or more gained  (1)"
     assert classes[:3] == [lost, gained, "no origin of the matrix  (2)"]
-
-
-@pytest.mark.parametrize("form", [False, True])
-def test_an_origin_that_loses_half_of_its_stops_is_cut_off(
-    town: Town, monkeypatch: pytest.MonkeyPatch, form: bool
-) -> None:
-    town.matrix(town_matrix(form, {"base": TOWN["base"], "cut": {"A": [0, "", "", 2400], "D": TOWN["base"]["D"]}}))
-    classes = figure(town, monkeypatch, "difference")[2]
-    assert classes[:2] == ["cut off from half of\nthe stops or more  (1)", "less than 1 % either way  (1)"]
-    classes = figure(town, monkeypatch, "difference", "--base", "cut", "--scenario", "base")[2]
-    assert "joined to half of\nits stops or more  (1)" in classes
 
 
 def test_the_difference_of_travel_times(town: Town, monkeypatch: pytest.MonkeyPatch) -> None:

@@ -177,6 +177,9 @@ def test_an_open_matrix_file_has_the_form_of_its_format(town: Town) -> None:
         assert file["lookup/origin"][:].tolist() == [b"A", b"D"]
         assert file["lookup/destination"][:].tolist() == [b"A", b"B", b"C", b"D"]
         assert file["lookup/origin_number"][:].tolist() == [1, 2]
+        lookups = [(name, int(it.attrs["DIM"])) for name, it in file["lookup"].items()]
+        assert lookups == [("origin_number", 0), ("destination_number", 1), ("origin", 0), ("destination", 1)]
+        assert all(np.isnan(it.attrs["NA"]) for it in file["data"].values())
         assert file["access/cut_50"][:].tolist() == [[2, 2], [2, 4]]
 
 

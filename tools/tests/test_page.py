@@ -253,7 +253,7 @@ def test_points_alone_as_squares_and_a_new_line(town: Town, browser: Browser) ->
     town.write("jobs.csv", "stop_id,jobs", [["A", 5], ["B", 20]])  # B isn't shown, but reached in 6 or 5 minutes
     words += ["--points", cells, "--opportunities", town.path("jobs.csv")]
     browser.open(page(town, *words), "view=access&of=points")
-    assert browser.text("heading") == "Access: points within 15 minutes"
+    assert browser.text("heading") == "Access: points within 30 minutes"
     browser.choose("counted", "jobs")
     browser.click("A")
     assert browser.lines("sums")[1] == ["jobs", "25", "25", "0", "0 %"]
@@ -376,3 +376,33 @@ def test_neighbours_stand_together() -> None:
     steps = np.abs(np.diff(x[order])) + np.abs(np.diff(y[order]))
     assert (steps == places.CELLS // 16).all()
     assert places.ranks(np.array([1.0, np.nan]), np.array([2.0, np.nan]))[1] == np.inf
+
+
+def test_a_page_opens_with_something_to_see_and_the_focus_is_seen(town: Town, browser: Browser) -> None:
+    town.matrix(town_matrix(True, {"base": TOWN["base"]}, limits=(900, 1800)))
+    browser.open(page(town, *jobs(town)))
+    assert browser.text("heading").startswith("Access: ") and len(browser.key()) > 1
+    style = "return getComputedStyle(document.querySelector(arguments[0])).outlineWidth"
+    for name in ("#map", ".leaflet-control-zoom-in"):
+        browser.run("document.querySelector(arguments[0]).focus({ focusVisible: true })", name)
+        assert browser.run(style, name) == "3px"
+
+
+def test_what_loses_can_be_pressed_by_a_finger(town: Town, browser: Browser) -> None:
+    town.matrix(town_matrix(True))
+    browser.open(page(town, *jobs(town)), "view=access&scenario=cut")
+    box = browser.run(
+        "const it = document.querySelector('#losers button').getBoundingClientRect(); return [it.width, it.height]"
+    )
+    assert min(box) >= 24
+
+
+def test_cells_have_a_height_of_their_own(town: Town, browser: Browser) -> None:
+    town.matrix(town_matrix(True))
+    rows = [["A", 0.0, 9.0, 200, 800], ["D", 0.02, 9.0, 300, ""]]
+    cells = town.write("cells.csv", "id,lat,lon,width,height", rows)
+    browser.open(page(town, "--points", cells))
+    sides = browser.run(
+        "return [...numbers.widths].map((wide, place) => [head.identifiers[place], wide, numbers.heights[place]])"
+    )
+    assert sorted(sides) == [["A", 200, 800], ["D", 300, 300]]

@@ -120,7 +120,6 @@ def test_several_files_have_roles_and_collisions_get_the_name_of_the_file(room: 
         ("id,lat,lon", ["1", "x", 1], "record 2: lat 'x' is no such number; allowed: degrees from -90 to 90"),
         ("id,lat,lon", ["1", 0.1, 181], "record 2: lon '181' is no such number; allowed: degrees from -180 to 180"),
         ("id,lat,lon", ["1", 0, "-0.0"], "record 2: lat and lon are 0 and 0, which is no place"),
-        ("id,lat,lon,jobs", ["1", 0.1, 1, "many"], "record 2: jobs 'many' is none; allowed: a number from 0 on"),
         ("id,lat,lon,jobs", ["1", 0.1, 1, -1], "record 2: jobs '-1' is none; allowed: a number from 0 on"),
         (
             "id,lat,lon,width",
@@ -335,3 +334,29 @@ def test_whatever_is_damaged_is_told_in_a_line(room: Room, seed: int) -> None:
         assert status == 0 or room.names() == before
         Path(name).write_bytes(whole[name])
     assert statuses == {0, 1}
+
+
+def test_columns_of_text_are_labels_and_columns_may_have_other_names(room: Room) -> None:
+    near = [["p", *place(30, 0), "East", 3], ["q", *place(0, 1040), "", 4]]
+    path, out = room.write("p.csv", "cell,y,x,quarter,jobs", near), room.path("doors")
+    words = ["--id", "cell", "--lat", "y", "--lon", "x", "--out", out]
+    assert room.ran("points", *words, feed(room), path)[2] == 0
+    assert Path(out, "labels.csv").read_text() == "id,quarter\np,East\nq,\n"
+    assert Path(out, "feed", "points.csv").read_text().splitlines()[0] == "id,name,lat,lon,width,jobs"
+
+
+def test_a_column_with_a_number_and_a_text_is_refused(room: Room) -> None:
+    path = room.write("p.csv", "id,lat,lon,jobs", [["p", *place(30, 0), "many"], ["q", *place(0, 1040), 4]])
+    told = f"{path}: record 2: jobs 'many' is none; allowed: a number from 0 on"
+    room.refused(told, "points", "--out", room.path("doors"), feed(room), path)
+
+
+def test_heights_of_cells_are_kept(room: Room) -> None:
+    rows = [["p", *place(30, 0), 50, 80], ["q", *place(0, 1040), 60, ""]]
+    path, out = room.write("p.csv", "id,lat,lon,width,height", rows), room.path("doors")
+    assert room.ran("points", "--out", out, feed(room), path)[2] == 0
+    made = Path(out, "feed", "points.csv").read_text().splitlines()
+    assert made[0] == "id,name,lat,lon,width,height" and [it.split(",")[4:] for it in made[1:]] == [
+        ["50", "80"],
+        ["60", "60"],
+    ]

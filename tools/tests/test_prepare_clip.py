@@ -180,6 +180,18 @@ def test_wrong_boxes_and_dates(feed: Room) -> None:
         assert feed.ran("prepare", "--out", feed.path("out"), *words, feed.path("in"))[2] == 2
 
 
+def test_a_box_west_of_greenwich_is_taken_as_it_is_written(feed: Room) -> None:
+    feed.write("in/stops.txt", HEAD, [[name, north, east and -0.1, *more] for name, north, east, *more in STOPS])
+    clipped(feed, "--box", "-0.2,49,.1,50.15")
+    assert firsts(feed, "stops.txt") == ["A", "B", "S", "E"]
+
+
+@pytest.mark.parametrize("date", ["20260517", "2026-05-17"])
+def test_a_date_is_taken_in_both_forms(feed: Room, date: str) -> None:
+    clipped(feed, "--date", date, "--back", "0", "--ahead", "0")
+    assert [line.split(",")[2] for line in texts(feed, "trips.txt")] == ["V"]
+
+
 def cells(matrix: bytes, stops: list[str]) -> dict[tuple[str, str], str]:
     """The travel times between some stops."""
     header, *lines = csv.reader(io.StringIO(matrix.decode()))

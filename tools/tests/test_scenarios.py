@@ -212,6 +212,42 @@ def test_a_route_ends_earlier_and_begins_later(small: Room) -> None:
     assert feed["R1"] == R1[:3] and feed["S1"] == ["C 08:19:00 08:19:30", "B 08:25:00 08:25:30", "A 08:30:00"]
 
 
+def test_a_trip_that_ends_elsewhere_has_another_headsign(small: Room) -> None:
+    trips = [["R", "M", "R1", 0, "Delta"], ["R", "M", "R2", 0, ""], ["Q", "M", "Q1", 0, "Delta"]]
+    small.write("feed/trips.txt", "route_id,service_id,trip_id,direction_id,trip_headsign", trips)
+    times = [it for it in rows(small, "feed/stop_times.txt") if it["trip_id"] in ("R1", "R2", "Q1")]
+    heads = "trip_id,arrival_time,departure_time,stop_id,stop_sequence,pickup_type,drop_off_type"
+    calls_with = [[*it.values(), "Delta"] for it in times]
+    small.write("feed/stop_times.txt", f"{heads},stop_headsign", calls_with)
+    made(small, 'do = "cut"\nroute = "R"\nafter = "B"')
+    signs = {row["trip_id"]: row["trip_headsign"] for row in rows(small, "out/trips.txt")}
+    assert signs == {"R1": "Beta", "R2": "", "Q1": "Delta"}
+    stop_signs = {(row["trip_id"], row["stop_headsign"]) for row in rows(small, "out/stop_times.txt")}
+    assert stop_signs == {("R1", ""), ("R2", ""), ("Q1", "Delta")}
+
+
+def test_copies_of_routes_have_the_fare_rules_of_their_routes(small: Room) -> None:
+    small.write("feed/fare_rules.txt", "fare_id,route_id", [["one", "R"], ["two", "Q"], ["all", ""]])
+    plan = plan_of(small, 'do = "cut"\nroute = "R"\nafter = "B"')
+    assert small.ran("scenarios", small.path("feed"), plan, "--out", small.path("out"))[2] == 0
+    found = [(row["fare_id"], row["route_id"]) for row in rows(small, "out/fare_rules.txt")]
+    assert found == [("one", "R"), ("two", "Q"), ("all", ""), ("one", "R@new")]
+
+
+def test_the_agency_of_a_new_line_is_told(small: Room) -> None:
+    small.write("feed/routes.txt", "route_id,agency_id,route_type", [["R", "City", 3], ["Q", "Other", 3]])
+    line = 'do = "add_line"\nroute = "N"\nstops = ["A", "B"]\nseconds = [60]\ndays = "daily"\n'
+    line += 'departures = [{ first = "08:00", last = "08:00", every = 60 }]'
+    assert "  route N: of the agency City" in made(small, line)[1]
+
+
+def test_an_action_that_is_none_is_told_with_all_that_there_are(small: Room) -> None:
+    plan = plan_of(small, 'do = "frequency"')
+    _, told, status = small.ran("scenarios", small.path("feed"), plan, "--out", small.path("out"))
+    actions = "remove_route, remove_trip, remove_stop, shift_route, shift_trip, add_line, headway, speed, extend, cut"
+    assert status == 1 and sorted(told.partition("allowed: ")[2].strip().split(", ")) == sorted(actions.split(", "))
+
+
 def test_headways_move_with_the_first_stop(small: Room) -> None:
     """R1 leaves A at 7:00, 7:30, .. by its headways, and so B 5 minutes 30 seconds later."""
     small.write(
@@ -330,7 +366,11 @@ def test_the_examples_of_the_page_for_analysts(room: Room, actions: list[str], f
 
 
 FAULTS = [
-    ('do = "remove_rout"\nroute = "R"', "line 4: do 'remove_rout' is no action; the nearest is 'remove_route'"),
+    (
+        'do = "remove_rout"\nroute = "R"',
+        "line 4: do 'remove_rout' is no action; the nearest is 'remove_route'; allowed: "
+        "remove_route, remove_trip, remove_stop, shift_route, shift_trip, add_line, headway, speed, extend, cut",
+    ),
     ('do = "remove_route"\nroutes = "R"', "line 5: routes isn't known; the nearest is 'route'; allowed: do, route"),
     (
         'do = "remove_route"\n\nroute = "13"',

@@ -20,6 +20,7 @@ fn settled(closed: &Closed, jobs: u32) -> u32
 }
 
 // A thousand jobs, each offered once, by two threads.
+/// `Closed::settled`.
 #[test]
 fn two_threads_settle_each_of_a_thousand_jobs_once(rt: HostRuntime) -> Result<(), Fail> {
     let outcome = trials::make(&rt, rt.alloc(), Task::Settle, 1000, 1, 2)?;
@@ -34,6 +35,7 @@ fn two_threads_settle_each_of_a_thousand_jobs_once(rt: HostRuntime) -> Result<()
 }
 
 // Each job is drawn twice, kept once, and settled before once.
+/// `Closed::settled`.
 #[test]
 fn eight_threads_settle_each_of_many_jobs_once(rt: HostRuntime) -> Result<(), Fail> {
     let outcome = trials::make(&rt, rt.alloc(), Task::Settle, 100_000, 2, 8)?;
@@ -47,6 +49,7 @@ fn eight_threads_settle_each_of_many_jobs_once(rt: HostRuntime) -> Result<(), Fa
     Ok(())
 }
 
+/// `Closed::settled`.
 #[test]
 fn eight_threads_draw_each_number_once(rt: HostRuntime) -> Result<(), Fail> {
     let outcome = trials::make(&rt, rt.alloc(), Task::Draw, 100_000, 8, 8)?;
@@ -58,6 +61,7 @@ fn eight_threads_draw_each_number_once(rt: HostRuntime) -> Result<(), Fail> {
 }
 
 // The first seat draws and settles job 0; a seat that was split from it before sees that, and that job 1 is open.
+/// `Board::split`, `Board::look`.
 #[test]
 fn a_seat_sees_what_another_settled(rt: HostRuntime) -> Result<(), Fail> {
     let (board, mut first) = Board::new(rt.alloc(), 2, 2)?;
@@ -72,6 +76,7 @@ fn a_seat_sees_what_another_settled(rt: HostRuntime) -> Result<(), Fail> {
 }
 
 // A seat that was told `Nothing` is told so again, and so is one that takes it in.
+/// `WorkSeat::share`, `Board::draw`.
 #[test]
 fn nothing_is_left_after_nothing(rt: HostRuntime) -> Result<(), Fail> {
     let (board, first) = Board::new(rt.alloc(), 3, 1)?;
@@ -84,6 +89,7 @@ fn nothing_is_left_after_nothing(rt: HostRuntime) -> Result<(), Fail> {
 }
 
 // Numbers go to whoever asks, and a number's job and pass are those of the book.
+/// `Board::split`, `WorkSeat::share`.
 #[test]
 fn numbers_go_to_whoever_asks(rt: HostRuntime) -> Result<(), Fail> {
     let (board, mut first) = Board::new(rt.alloc(), 2, 2)?;
@@ -97,6 +103,7 @@ fn numbers_go_to_whoever_asks(rt: HostRuntime) -> Result<(), Fail> {
 }
 
 // A seat settles what a seat drew that it took in, and only once.
+/// `Board::join`, `Board::split`.
 #[test]
 fn a_seat_settles_what_it_took_in(rt: HostRuntime) -> Result<(), Fail> {
     let (board, mut first) = Board::new(rt.alloc(), 2, 2)?;
@@ -117,6 +124,7 @@ fn lease(number: u64, job: u32, pass: u32) -> Draw {
     Draw::Lease(Lease { number, job, pass })
 }
 
+/// `Board::jobs`, `Board::tries`.
 #[test]
 fn a_board_without_jobs_gives_nothing(rt: HostRuntime) -> Result<(), Fail> {
     let (board, mut seat) = Board::new(rt.alloc(), 0, 1)?;

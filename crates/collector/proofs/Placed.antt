@@ -37,7 +37,8 @@ book_is s steps = sym (ap (λ (c : Core). c.book) (run_is steps (opening s).book
 open_size : (s : Setup) → length (opening s).places.rows ≡ s.scenarios * s.origins
 open_size s = length-replicate (s.scenarios * s.origins) None
 
-none_at : (n k : ℕ) → get_or (replicate {A = Option RowData} n None) k None ≡ None
+-- an empty list of places has no row at any place
+pub none_at : (n k : ℕ) → get_or (replicate {A = Option RowData} n None) k None ≡ None
 none_at zero k = refl
 none_at (suc n) zero = refl
 none_at (suc n) (suc k) = none_at n k

@@ -80,6 +80,7 @@ fn expect_file(rt: &impl Abort, alloc: Global, file: FileName, words: &[u8]) {
     expect_words(rt, alloc, feed(file, 9, What::BadDate), b"ttm: ", words);
 }
 
+/// `status`.
 #[test]
 fn tells_each_file_of_stops_and_days(rt: HostRuntime) {
     let alloc = rt.alloc();
@@ -109,6 +110,7 @@ fn tells_each_file_of_stops_and_days(rt: HostRuntime) {
     );
 }
 
+/// `status`.
 #[test]
 fn tells_each_file_of_trips_and_walks(rt: HostRuntime) {
     let alloc = rt.alloc();
@@ -138,6 +140,7 @@ fn tells_each_file_of_trips_and_walks(rt: HostRuntime) {
     );
 }
 
+/// `status`.
 #[test]
 fn tells_each_file_of_an_analyst(rt: HostRuntime) {
     let alloc = rt.alloc();
@@ -161,6 +164,7 @@ fn tells_each_file_of_an_analyst(rt: HostRuntime) {
     );
 }
 
+/// `status`.
 #[test]
 fn tells_the_file_of_destinations(rt: HostRuntime) {
     let alloc = rt.alloc();
@@ -195,6 +199,7 @@ fn expect_what(rt: &impl Abort, alloc: Global, what: What, words: &[u8]) {
     expect_words(rt, alloc, feed(FileName::StopTimes, 5, what), start, words);
 }
 
+/// `status`.
 #[test]
 fn tells_each_fault_of_a_feed(rt: HostRuntime) {
     let alloc = rt.alloc();
@@ -228,6 +233,7 @@ fn expect_edit(rt: &impl Abort, alloc: Global, what: ScenarioWhat, words: &[u8])
     expect_words(rt, alloc, scenario(2, what), start, words);
 }
 
+/// `status`.
 #[test]
 fn tells_each_fault_of_a_scenario(rt: HostRuntime) {
     let alloc = rt.alloc();
@@ -247,6 +253,7 @@ fn tells_each_fault_of_a_scenario(rt: HostRuntime) {
     expect_line(&rt, alloc, memory, b"ttm: out of memory\n", 3);
 }
 
+/// `status`.
 #[test]
 fn tells_each_fault_of_names_and_networks(rt: HostRuntime) {
     let alloc = rt.alloc();
@@ -294,6 +301,7 @@ fn expect_feet(rt: &impl Abort, alloc: Global, fault: FootFault, want: &[u8], co
     expect_line(rt, alloc, StudyFault::Feet(fault), want, code);
 }
 
+/// `status`.
 #[test]
 fn tells_each_fault_of_days_and_footpaths(rt: HostRuntime) {
     let alloc = rt.alloc();
@@ -321,6 +329,7 @@ fn expect_run(rt: &impl Abort, alloc: Global, fault: RunFault, want: &[u8], code
     expect_line(rt, alloc, StudyFault::Run(fault), want, code);
 }
 
+/// `status`.
 #[test]
 fn tells_each_fault_of_a_run_and_its_text(rt: HostRuntime) {
     let alloc = rt.alloc();
@@ -354,6 +363,7 @@ fn expect_option(rt: &impl Abort, option: Opt, want: &[u8]) {
     assert_eq!(rt; bad_line(option), want);
 }
 
+/// `bad_line`.
 #[test]
 fn tells_each_bad_option(rt: HostRuntime) {
     expect_option(&rt, Opt::Date, b"ttm: bad date\n");

@@ -36,6 +36,7 @@ fn count_of(alloc: Global, left: usize, calls: usize) -> Result<usize, ReadFault
     }
 }
 
+/// `read_all`.
 #[test]
 fn reads_all_bytes(rt: HostRuntime) {
     let mut three: &[u8] = b"a,b";
@@ -45,6 +46,7 @@ fn reads_all_bytes(rt: HostRuntime) {
     }
 }
 
+/// `read_all`.
 #[test]
 fn tells_why_a_file_is_not_read(rt: HostRuntime) {
     let cases: [(usize, usize, Result<usize, ReadFault>); 2] = [
@@ -56,6 +58,7 @@ fn tells_why_a_file_is_not_read(rt: HostRuntime) {
     }
 }
 
+/// `path_status`, `path_line`.
 #[test]
 fn tells_which_file_is_not_read(rt: HostRuntime) {
     let cases: [(ReadFault, &[u8], u8); 3] = [
@@ -72,6 +75,7 @@ fn tells_which_file_is_not_read(rt: HostRuntime) {
     }
 }
 
+/// `window_of`.
 #[test]
 fn a_window_has_both_its_ends(rt: HostRuntime) {
     let cases: [(&[u8], &[u8], Option<(u32, u32)>); 8] = [
@@ -89,6 +93,7 @@ fn a_window_has_both_its_ends(rt: HostRuntime) {
     }
 }
 
+/// `scenario_of`.
 #[test]
 fn names_scenarios_by_their_files(rt: HostRuntime) {
     let cases: [(&[u8], &[u8]); 6] = [
@@ -104,6 +109,7 @@ fn names_scenarios_by_their_files(rt: HostRuntime) {
     }
 }
 
+/// `path_in`.
 #[test]
 fn finds_the_files_of_a_feed_in_its_folder(rt: HostRuntime) {
     match path_in(rt.alloc(), "town", "stops.txt") {
@@ -112,6 +118,7 @@ fn finds_the_files_of_a_feed_in_its_folder(rt: HostRuntime) {
     }
 }
 
+/// `tell_short`.
 #[test]
 fn a_line_is_told_whole(rt: HostRuntime) {
     let mut err = Vec::new(rt.alloc());

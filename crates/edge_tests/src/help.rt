@@ -58,6 +58,7 @@ fn told(alloc: Global, words: &[&str]) -> Result<Option<String>, AllocError> {
     }
 }
 
+/// `task_of`.
 #[test]
 fn names_each_option_with_its_limits(rt: HostRuntime) -> Result<(), Fail> {
     match told(rt.alloc(), &["ttm", "--help"])? {
@@ -67,6 +68,7 @@ fn names_each_option_with_its_limits(rt: HostRuntime) -> Result<(), Fail> {
     Ok(())
 }
 
+/// `task_of`.
 #[test]
 fn tells_the_version_and_the_toolchain(rt: HostRuntime) -> Result<(), Fail> {
     for word in &["--version", "-V"] {

@@ -5,18 +5,21 @@
 //! - `fault_lines`, `files`: the line and the status of each fault; files read whole, windows, paths, and lines put
 //!   out.
 //! - `told_studies`, `told_dates`, `told_faults`: what is told of studies of the small feed, of dates without trips,
-//!   and of files with too many records (what is told of other faults is data, `.ci/fault_cases.py`); `told_options`,
-//!   `told_folders`: of options that are refused, and of folders in which a file is missing. `small_study` and `pages`:
-//!   the feed, and consoles that keep what is told.
+//!   and of files with too many records (what is told of other faults is data, `tests/program/fault_cases.py`);
+//!   `told_options`, `told_folders`: of options that are refused, and of folders in which a file is missing.
+//!   `small_study` and `pages`: the feed, and consoles that keep what is told.
 //! - `minute_lines`: the line for one minute of the small feed.
+//! - `worked_rows`: whole studies of the small feed, with one thing changed in its files.
 //! - `watched_studies`: by how many workers a study is run, how often each row is begun, and in which order a watch is
-//!   told.
+//!   told; `gated_studies`: whole texts where leases are lost or repeated.
 #![tactic(auto)]
 
 #[cfg(test)]
 mod fault_lines;
 #[cfg(test)]
 mod files;
+#[cfg(test)]
+mod gated_studies;
 #[cfg(test)]
 mod help;
 #[cfg(test)]
@@ -41,3 +44,5 @@ mod told_studies;
 mod watched_studies;
 #[cfg(test)]
 mod words;
+#[cfg(test)]
+mod worked_rows;

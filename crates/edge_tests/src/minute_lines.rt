@@ -46,6 +46,7 @@ fn with_stop_times(stop_times: &'static [u8]) -> FeedBytes<'static> {
     files
 }
 
+/// `minute_line`.
 #[test]
 fn tells_the_least_durations(rt: HostRuntime) {
     let files = small_feed();
@@ -68,6 +69,7 @@ fn tells_the_least_durations(rt: HostRuntime) {
     }
 }
 
+/// `minute_line`.
 #[test]
 fn a_minute_later_the_trip_is_gone(rt: HostRuntime) {
     let files = small_feed();
@@ -78,6 +80,7 @@ fn a_minute_later_the_trip_is_gone(rt: HostRuntime) {
     }
 }
 
+/// `minute_line`.
 #[test]
 fn reads_marks_and_windows_line_ends(rt: HostRuntime) {
     let mut files = small_feed();
@@ -99,6 +102,7 @@ fn fault_of(alloc: Global, files: &FeedBytes<'_>, origin: &[u8]) -> Option<Study
     minute_line(alloc, files, origin, 480, 1).err()
 }
 
+/// `minute_line`.
 #[test]
 fn refuses_the_tables_before_the_origin(rt: HostRuntime) {
     let files = small_feed();

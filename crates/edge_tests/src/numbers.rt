@@ -16,6 +16,7 @@ fn lists_nothing(alloc: Global, text: &[u8]) -> Result<bool, AllocError> {
     Ok(numbers_of(alloc, text)?.is_none())
 }
 
+/// `numbers_of`.
 #[test]
 fn reads_lists_of_one_to_eight_numbers(rt: HostRuntime) -> Result<(), AllocError> {
     let cases: [(&[u8], &[u32]); 6] = [
@@ -32,6 +33,7 @@ fn reads_lists_of_one_to_eight_numbers(rt: HostRuntime) -> Result<(), AllocError
     Ok(())
 }
 
+/// `numbers_of`.
 #[test]
 fn reads_nothing_from_other_texts(rt: HostRuntime) -> Result<(), AllocError> {
     let cases: [&[u8]; 14] = [

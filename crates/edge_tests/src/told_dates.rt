@@ -95,6 +95,7 @@ fn goes_on(told: &[u8], text: &str) -> bool {
     }
 }
 
+/// `Report::refused`, `fault_line`, `warn`.
 #[test]
 fn dates_beside_those_of_the_feed(rt: HostRuntime) {
     let cases: [(&[u8], &str); 3] = [
@@ -146,6 +147,7 @@ fn is_told_of<R: Threads + Wait + Sync>(
     )
 }
 
+/// `Report::refused`.
 #[test]
 fn calendars_of_no_trip_or_of_dates_alone(rt: HostRuntime) {
     let alloc = rt.alloc();

@@ -1,5 +1,5 @@
 //! What is told of faults of files that have more records than they may. The texts are written by hand; those of other
-//! faults are data (`.ci/fault_cases.py`).
+//! faults are data (`tests/program/fault_cases.py`).
 
 use crate::pages::{Page, blank};
 use crate::small_study::{MONDAY, small_inputs};
@@ -31,6 +31,7 @@ fn expect_told(rt: &(impl Wait + Abort), alloc: Global, file: FileName, what: Wh
     assert_eq!(rt; told.as_slice(), text.as_bytes());
 }
 
+/// `Report::refused`.
 #[test]
 fn files_have_their_limits(rt: HostRuntime) {
     let alloc = rt.alloc();

@@ -27,6 +27,7 @@ fn is_explained<R: Wait>(rt: &R, alloc: Global, folder: &str, text: &str) -> boo
     told.as_slice() == text.as_bytes()
 }
 
+/// `Report::refused`, `tell_line`.
 #[test]
 fn folders_that_lack_a_file_are_shown(rt: HostRuntime) {
     let cases: [(&str, &str); 9] = [
@@ -60,6 +61,7 @@ ttm: \"home/town.zip\" is a zip; ttm-tools prepare makes a feed's folder of it
     }
 }
 
+/// `explain_folder`.
 #[test]
 fn what_is_no_folder_is_told(rt: HostRuntime) {
     let cases: [(&str, &str); 3] = [

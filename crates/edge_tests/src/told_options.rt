@@ -123,6 +123,7 @@ const REFUSED: [(usize, &str, &str); 16] = [
     ),
 ];
 
+/// `explain_option`.
 #[test]
 fn texts_of_options_are_explained(rt: HostRuntime) {
     for (position, word, text) in &REFUSED {
@@ -130,6 +131,7 @@ fn texts_of_options_are_explained(rt: HostRuntime) {
     }
 }
 
+/// `explain_option`.
 #[test]
 fn days_beside_the_date_are_explained(rt: HostRuntime) {
     let alloc = rt.alloc();
@@ -141,6 +143,7 @@ fn days_beside_the_date_are_explained(rt: HostRuntime) {
     assert!(rt; is_told(&rt, alloc, ahead, text));
 }
 
+/// `explain_option`.
 #[test]
 fn nothing_is_explained_without_a_report(rt: HostRuntime) {
     let words = changed(rt.alloc(), 10, "9", "cut.csv");

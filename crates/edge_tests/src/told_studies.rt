@@ -78,6 +78,7 @@ fn ends<R: Threads + Wait + Sync>(
     made != are_lost && told.as_slice().ends_with(text)
 }
 
+/// `Report::ended`, `Report::new`, `small_files`, `tell_count`, `tell_count_of`.
 #[test]
 fn the_small_feed_is_told(rt: HostRuntime) {
     expect(
@@ -140,6 +141,7 @@ ttm: time: 0:03:03
 ttm: bytes taken at most: 500
 ";
 
+/// `Report::ended`, `Report::new`.
 #[test]
 fn a_date_without_trips_or_walks_is_warned_of(rt: HostRuntime) {
     let inputs = Inputs {
@@ -191,6 +193,7 @@ ttm: time: 0:00:00
 ttm: bytes taken at most: 500
 ";
 
+/// `Report::ended`, `Report::new`.
 #[test]
 fn rows_of_scenarios_move_along_on_a_terminal(rt: HostRuntime) {
     let alloc = rt.alloc();
@@ -266,6 +269,7 @@ fn long_run<R: Threads + Wait + Sync>(rt: &R, alloc: Global, asked: Asked) -> Op
     }
 }
 
+/// `Report::ended`, `Report::new`.
 #[test]
 fn each_row_of_a_long_run_is_told(rt: HostRuntime) {
     let Some(told) = long_run(&rt, rt.alloc(), LONG_RUN) else {
@@ -305,6 +309,7 @@ ttm: bytes taken at most: 500
     );
 }
 
+/// `Report::ended`, `Report::new`.
 #[test]
 fn lines_are_a_minute_apart(rt: HostRuntime) {
     let sooner = Asked {
@@ -340,6 +345,7 @@ ttm: bytes taken at most: 500
     );
 }
 
+/// `Report::ended`, `Report::new`.
 #[test]
 fn rows_that_are_lost_are_not_done(rt: HostRuntime) {
     assert!(rt;
@@ -366,6 +372,7 @@ fn moves(rt: &(impl Threads + Wait + Sync), alloc: Global, step: u64, text: &[u8
     }
 }
 
+/// `Report::ended`, `Report::new`.
 #[test]
 fn a_shorter_line_covers_the_one_before(rt: HostRuntime) {
     let alloc = rt.alloc();
@@ -401,6 +408,7 @@ ttm: bytes taken at most: 500
     );
 }
 
+/// `memory_of`.
 #[test]
 fn memory_is_read_in_kilobytes(rt: HostRuntime) {
     let text =
@@ -412,6 +420,7 @@ fn memory_is_read_in_kilobytes(rt: HostRuntime) {
     assert_eq!(rt; memory_of(text, b"Bad:"), None);
 }
 
+/// `Report::new`.
 #[test]
 fn the_machine_tells_of_itself(rt: HostRuntime) {
     let memory = Console::memory(&rt, rt.alloc());

@@ -71,6 +71,7 @@ impl Gate for Meeting {
     fn after(&self, _lease: &Lease, _settled: Settled) {}
 }
 
+/// `watch_study`, `run_study`.
 #[test]
 fn two_workers_meet(rt: HostRuntime) {
     let gate = Meeting {
@@ -96,6 +97,7 @@ impl Gate for FirstLost {
     fn after(&self, _lease: &Lease, _settled: Settled) {}
 }
 
+/// `watch_study`.
 #[test]
 fn a_row_is_begun_as_often_as_is_asked_for(rt: HostRuntime) {
     let unfinished = StudyFault::Run(RunFault::Unfinished {
@@ -181,6 +183,7 @@ impl Watch for Ledger {
     }
 }
 
+/// `watch_study`.
 #[test]
 fn one_worker_asks_once_of_each_row_and_tells_in_order(rt: HostRuntime) {
     let ledger = Ledger {

@@ -97,6 +97,7 @@ fn numbers(settings: &Settings) -> [u32; 8] {
     ]
 }
 
+/// `word_status`, `task_of`.
 #[test]
 fn asks_for_a_study_of_one_minute(rt: HostRuntime) {
     match asked(rt.alloc(), changed(rt.alloc(), 0, "ttm", "cut.csv")) {
@@ -120,6 +121,7 @@ fn asks_for(alloc: Global, position: usize, text: &str, shares: &[u32], withins:
     }
 }
 
+/// `word_status`, `task_of`.
 #[test]
 fn asks_for_shares_and_limits(rt: HostRuntime) {
     let shares = [1, 25, 50, 75, 100];
@@ -127,6 +129,7 @@ fn asks_for_shares_and_limits(rt: HostRuntime) {
     assert!(rt; asks_for(rt.alloc(), 16, "700,1800", &[50], &[700, 1800]));
 }
 
+/// `word_status`, `task_of`.
 #[test]
 fn wrong_words_are_no_study(rt: HostRuntime) {
     let wrong = Refusal {
@@ -175,6 +178,7 @@ fn gives(alloc: Global, more: &[&str], name: &str, text: Option<&str>) -> bool {
     }
 }
 
+/// `text_of`.
 #[test]
 fn an_option_has_the_text_that_words_give_it(rt: HostRuntime) {
     assert!(rt; gives(rt.alloc(), &["--back", " 7"], "back", Some(" 7")));
@@ -185,6 +189,7 @@ fn an_option_has_the_text_that_words_give_it(rt: HostRuntime) {
     assert!(rt; !gives(rt.alloc(), &["--nope"], "date", Some("20260504")));
 }
 
+/// `word_status`, `task_of`.
 #[test]
 fn a_report_is_asked_for_by_a_flag_without_text(rt: HostRuntime) {
     assert!(rt; reports(rt.alloc(), &[]) == Ok(false));
@@ -204,6 +209,7 @@ fn is_bad(alloc: Global, position: usize, word: &str, option: Opt) -> bool {
     why_not(alloc, position, word, "cut.csv") == Some(want)
 }
 
+/// `word_status`, `task_of`.
 #[test]
 fn tells_the_option_whose_text_is_bad(rt: HostRuntime) {
     let cases: [(usize, &str, Opt); 14] = [

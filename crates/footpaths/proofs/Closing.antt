@@ -72,9 +72,6 @@ at_map f (y ∷ xs) (suc k) x e = at_map f xs k x e
 contains_at : (xs : List ℕ) (k x : ℕ) → slice_get xs k ≡ Some x → Contains xs x
 contains_at xs k x e = (k, slice_get_within xs k x e, get_or_from_slice_get xs k x x e)
 
-labelled : Marks → ℕ → StopNo × ℕ
-labelled m stop = (record { 0 = stop }, get_or m.labels stop 0)
-
 -- the stops that are reached, with their labels, are the walking times from the source
 pub row_closed : (direct : DirectLists) (limit source : ℕ) (leaving : Leaving) (m : Marks) → AreDirect direct
     → ((u : ℕ) → u < direct.stops → leaving u ≡ legs_of direct.pairs limit u) → LeadToStops direct.stops leaving →
@@ -156,15 +153,6 @@ pub row_settled : (direct : DirectLists) (limit source n : ℕ) (a : Adjacency) 
 row_settled direct limit source n a m given by_stop same here low st =
     row_closed direct limit source (part a) m given by_stop.parts by_stop.in_range.targets here low
     (subst (λ (k : ℕ). IsSettled (part a) k source limit m) same st)
-
--- no stops yet
-pub closed_none : (direct : List Footpath) (limit : ℕ) → AreClosedBelow direct limit 0 []
-closed_none direct limit = record {
-  lists = refl;
-  ascending = λ a row e. let w = slice_get_within {A = List (StopNo × ℕ)} [] a row e in absurd (omega (arith, w));
-  least = λ a b s f. let w = slice_get_within {A = List (StopNo × ℕ)} [] a f.0 f.2 in absurd (omega (arith, w));
-  complete = λ a b s l. absurd (omega (arith, l));
-}
 
 -- one stop more
 pub closed_more : (direct : List Footpath) (limit n : ℕ) (feet : FootLists) (row : List (StopNo × ℕ)) →

@@ -79,20 +79,6 @@ relaxed_again limit stop label old ks here low there less moved =
     lowered limit stop label old old.touched ks here less moved
     (λ source start t. touched_lowered limit stop label source old ks here low there t)
 
--- no lower label
-pub unrelaxed : (limit stop label : ℕ) (old : Marks) → get_or old.labels stop 0 ≤ label →
-    Relaxed limit stop label old old
-unrelaxed limit stop label old h = record {
-  count = refl;
-  lower = λ p. omega arith;
-  met = h;
-  cause = λ p. inl refl;
-  kept = λ x c. c;
-  only = λ x c. inl c;
-  measure = omega arith;
-  touched = λ source start t. t;
-}
-
 -- a footpath of one more is a footpath of those before, or that footpath
 pub Contains-more : {X : Type 0} (xs : List X) (i : ℕ) (x d : X) → i < length xs → Contains (take (i + 1) xs) x →
     (Contains (take i xs) x) ⊎ (x ≡ get_or xs i d)
@@ -122,19 +108,6 @@ pub Contains-last : {X : Type 0} (xs : List X) (i : ℕ) (d : X) → i < length 
     Contains (take (i + 1) xs) (get_or xs i d)
 Contains-last xs i d here = subst (Contains (take (i + 1) xs)) (get_or-take (i + 1) xs i d (omega arith))
     (Contains-get_or (take (i + 1) xs) i d (rw (length-take-le (i + 1) xs (omega arith)) (omega arith)))
-
--- no footpath yet
-pub passed_none : (limit label : ℕ) (m : Marks) → PassedOn limit label [] m m
-passed_none limit label m = record {
-  count = refl;
-  lower = λ p. omega arith;
-  met = λ v w c low. let z = c.1 in absurd (omega (arith, z));
-  cause = λ p. inl refl;
-  kept = λ x c. c;
-  only = λ x c. inl c;
-  measure = omega arith;
-  touched = λ source start t. t;
-}
 
 -- one footpath more, whose label is past the limit
 pub leg_skipped : (limit label i : ℕ) (leaving : List (StopNo × ℕ)) (old new : Marks) (d : StopNo × ℕ) →

@@ -15,9 +15,6 @@ use Rattle.footpaths.specs.Settling.{Way, LeadToStops}
 use Rattle.footpaths.proofs.Steps.{Contains-front, Contains-later, Contains-split}
 use Rattle.footpaths.proofs.Spreading.{way_end}
 
-seconds : List Footpath → ℕ
-seconds chain = sum_by (λ (path : Footpath). path.2) chain
-
 -- what leaves a stop begins there and is within the limit
 leaves_true : (limit stop : ℕ) (path : Footpath) → leaves limit stop path ≡ true → (path.0.0 ≡ stop) × (path.2 ≤ limit)
 leaves_true limit stop path e = elim (cases_Bool (nat_eq path.0.0 stop)) [

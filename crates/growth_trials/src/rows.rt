@@ -10,7 +10,7 @@ use std::sync::Wait;
 use std::thread::Threads;
 use timetable::{Network, StopNo};
 use work_book::Board;
-use workers::{Asked, Open, RunFault, Study, one_thread, row_of, run_workers};
+use workers::{Open, RunFault, Study, one_thread, row_of, run_workers};
 
 /// A call that computes rows in its own thread.
 #[derive(Clone, Copy)]
@@ -61,16 +61,14 @@ fn study_of(networks: &[Network]) -> Study<'_> {
         networks,
         origins: &[StopNo(0), StopNo(1), StopNo(2)],
         opportunities: &[1, 1, 1],
-        asked: Asked {
-            window: Window {
-                first: 28_800,
-                minutes: 1,
-            },
-            rides: 2,
-            shares: &[50],
-            limits: &[1_800],
-            destinations: &[StopNo(0), StopNo(1), StopNo(2)],
+        window: Window {
+            first: 28_800,
+            minutes: 1,
         },
+        rides: 2,
+        shares: &[50],
+        withins: &[1_800],
+        destinations: &[StopNo(0), StopNo(1), StopNo(2)],
     }
 }
 

@@ -134,14 +134,13 @@ fn try_cells_of(alloc: Global, found: &Durations, call: Cells) -> Outcome {
 fn ask_cells(alloc: Global, found: &Durations, call: Cells) -> Result<bool, AllocError> {
     let half = [Some(0), Some(660), Some(1_860)];
     let more = [Some(0), Some(720), Some(1_920)];
-    let stops = [StopNo(0), StopNo(1), StopNo(2)];
     if found.stops() != 3 {
         return Ok(false);
     }
     match call {
-        Cells::OfOneShare => Ok(cells(alloc, found, &stops, 50)?.as_slice() == half.as_slice()),
+        Cells::OfOneShare => Ok(cells(alloc, found, 50)?.as_slice() == half.as_slice()),
         Cells::OfTwoShares => {
-            let lists = cells_of(alloc, found, &stops, &[50, 75])?;
+            let lists = cells_of(alloc, found, &[50, 75])?;
             Ok(
                 lists.len() == 2
                     && lists[0].as_slice() == half.as_slice()

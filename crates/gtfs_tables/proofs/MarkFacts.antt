@@ -126,11 +126,6 @@ none_marked stops n marks count are = rw are (record {
   each = λ m lt. get_or-replicate n m false false (omega (arith, lt, count));
 })
 
--- what is told of a record's stop
-pub unknown : (stops before : List (List ℕ)) (id : List ℕ) → is_empty id ≡ false → None ≡ position (bytes_eq id) stops →
-    IsFirst what.UnknownStop (stop_checks stops before id)
-unknown stops before id some absent = rw (some, ← absent) refl
-
 pub repeated : (stops before : List (List ℕ)) (id : List ℕ) (n : ℕ) → is_empty id ≡ false →
     Some n ≡ position (bytes_eq id) stops → list_any (bytes_eq id) before ≡ true
     → IsFirst what.DuplicateId (stop_checks stops before id)

@@ -146,9 +146,6 @@ module _ (f : FeedFiles) where
   as_many_departures = length-departures_from (files.trip_ids_in f) (rows_in frequency_rows f.frequencies) 0
       (files.trip_ids_in f)
 
-  trips_here : List FeedTrip
-  trips_here = files.trips_of (files.trip_ids_in f) (files.numbers_in f) (files.events_in f) (files.departures_in f)
-
   pub ids_are : map (λ (t : FeedTrip). t.id)
       (files.trips_of (files.trip_ids_in f) (files.numbers_in f) (files.events_in f) (files.departures_in f))
       ≡ files.trip_ids_in f
@@ -280,9 +277,6 @@ module _ (f : FeedFiles) where
   module _ (c : Catalog) (all : List FeedTrip) (aside : ℕ) (events : List (List Event))
       (departures : List (List Departures)) (is : IsCatalog c f) (are_events : events ≡ files.events_in f)
       (are_departures : departures ≡ files.departures_in f) (are_aside : aside ≡ files.aside_in f) where
-    pub numbers_count : length c.trips.numbers.items ≡ length c.trips.ids
-    numbers_count = ap length is.numbers ∙ as_many_numbers ∙ sym (ap length is.trip_ids)
-
     pub events_count : length events ≡ length c.trips.ids
     events_count = ap length are_events ∙ as_many_events ∙ sym (ap length is.trip_ids)
 

@@ -31,17 +31,6 @@ pub fifth_of_five : (e : FeedFault) (a b c d f : List FeedFault) → a ≡ [] �
     Tells e (a ++ b ++ c ++ d ++ f)
 fifth_of_five e a b c d f no_a no_b no_c no_d t = rw (no_a, no_b, no_c, no_d) t
 
-pub second_of_four : (e : FeedFault) (a b c d : List FeedFault) → a ≡ [] → Tells e b → Tells e (a ++ b ++ c ++ d)
-second_of_four e a b c d no_a t = rw no_a (first_of_three e b c d t)
-
-pub third_of_four : (e : FeedFault) (a b c d : List FeedFault) → a ≡ [] → b ≡ [] → Tells e c →
-    Tells e (a ++ b ++ c ++ d)
-third_of_four e a b c d no_a no_b t = rw (no_a, no_b) (tells_more e c d t)
-
-pub fourth_of_four : (e : FeedFault) (a b c d : List FeedFault) → a ≡ [] → b ≡ [] → c ≡ [] → Tells e d →
-    Tells e (a ++ b ++ c ++ d)
-fourth_of_four e a b c d no_a no_b no_c t = rw (no_a, no_b, no_c) t
-
 -- where none has a fault, all have none
 pub none_of_five : (a b c d f : List FeedFault) → a ≡ [] → b ≡ [] → c ≡ [] → d ≡ [] → f ≡ [] →
     a ++ b ++ c ++ d ++ f ≡ []

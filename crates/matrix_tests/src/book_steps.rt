@@ -218,6 +218,7 @@ fn new_book_answers(alloc: Global, steps: &[Step], want: &[Answer], shown: &Show
     }
 }
 
+/// `Book::mark`, `Book::kept`, `Book::next`.
 #[test]
 fn makes_a_list_of_steps(rt: HostRuntime) {
     let shown: Shown<'_> = (4, [true, true], [&[0, 2], &[1, 3]], [&[0], &[1]]);
@@ -266,6 +267,7 @@ fn steps_and_answers() -> [(Step, Answer); 12] {
     ]
 }
 
+/// `Book::lose`, `Book::settle`.
 #[test]
 fn makes_the_steps_one_by_one(rt: HostRuntime) {
     assert!(rt; book_answers(rt.alloc(), (2, 2, 2), &steps_and_answers(), 4));
@@ -282,6 +284,7 @@ fn answers_with_loss(alloc: Global, k: usize) -> bool {
     }
 }
 
+/// `Book::run`.
 #[test]
 fn loses_a_seat_before_each_step(rt: HostRuntime) {
     for k in 0..=12 {
@@ -301,11 +304,13 @@ fn keeps_after_loss(alloc: Global) -> bool {
     }
 }
 
+/// `Book::mark`, `Book::kept`.
 #[test]
 fn keeps_what_a_lost_seat_did(rt: HostRuntime) {
     assert!(rt; keeps_after_loss(rt.alloc()));
 }
 
+/// `Book::lose`, `Book::settle`.
 #[test]
 fn has_no_jobs(rt: HostRuntime) {
     let told = [
@@ -347,11 +352,13 @@ fn hands_out_all(alloc: Global) -> bool {
     }
 }
 
+/// `Book::lose`, `Book::settle`.
 #[test]
 fn offers_each_job_eight_times(rt: HostRuntime) {
     assert!(rt; hands_out_all(rt.alloc()));
 }
 
+/// `Book::lose`, `Book::settle`.
 #[test]
 fn refuses_a_seat_that_is_not_there(rt: HostRuntime) {
     let told = [

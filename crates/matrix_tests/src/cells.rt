@@ -4,7 +4,7 @@ ghost use Rattle.std.specs.Prelude.{◌<◌, All, IsTrue};
 
 use crate::small_networks::{SmallNetwork, a_line, network_with, of_window, two_trips};
 use rounds::{Durations, Window};
-use shares::{access, cell, cells, cells_of};
+use shares::{access, access_at, cell, cells, cells_at, cells_of, cells_of_at};
 use std::alloc::{AllocError, Global};
 use timetable::{MOST_STOPS, StopNo};
 
@@ -34,14 +34,22 @@ fn are(alloc: Global, found: &Durations, share: u32, expected: &[Option<u32>]) -
             return false;
         }
     }
+    match cells(alloc, found, share) {
+        Ok(all) => all.as_slice() == expected && are_at_all(alloc, found, share, expected),
+        Err(_) => false,
+    }
+}
+
+/// Whether these are the cells of all stops, named as destinations.
+fn are_at_all(alloc: Global, found: &Durations, share: u32, expected: &[Option<u32>]) -> bool {
     match stops_below(alloc, found.stops()) {
-        Ok(stops) => are_cells_of(alloc, found, &stops, share, expected),
+        Ok(stops) => are_cells_at(alloc, found, &stops, share, expected),
         Err(_) => false,
     }
 }
 
 /// Whether these are the cells of some destinations.
-fn are_cells_of(
+fn are_cells_at(
     alloc: Global,
     found: &Durations,
     destinations: &[StopNo],
@@ -51,7 +59,7 @@ fn are_cells_of(
     if share > 100 || !are_of(found, destinations) {
         return false;
     }
-    match cells(alloc, found, destinations, share) {
+    match cells_at(alloc, found, destinations, share) {
         Ok(all) => all.as_slice() == expected,
         Err(_) => false,
     }
@@ -108,16 +116,23 @@ fn two_trips_have_theirs(alloc: Global) -> bool {
     }
 }
 
+/// `cells`.
 #[test]
 fn cells_of_shares(rt: HostRuntime) {
     assert!(rt; two_trips_have_theirs(rt.alloc()));
 }
 
-/// Whether a window of the two trips has these cells for two shares at once.
+/// Whether these are the lists of cells of two shares.
+fn are_lists(lists: &[Vec<Option<u32>>], expected: [&[Option<u32>]; 2]) -> bool {
+    lists.len() == 2 && lists[0].as_slice() == expected[0] && lists[1].as_slice() == expected[1]
+}
+
+/// Whether a window of the two trips has these cells for two shares at once: those of some destinations, or of all
+/// stops.
 fn has_cells_of(
     alloc: Global,
     window: Window,
-    destinations: &[StopNo],
+    destinations: Option<&[StopNo]>,
     shares: [u32; 2],
     expected: [&[Option<u32>]; 2],
 ) -> bool {
@@ -130,19 +145,18 @@ fn has_cells_of(
     let Ok(Some(found)) = of_window(alloc, &network, 0, window, 2) else {
         return false;
     };
-    if !are_of(&found, destinations) {
-        return false;
-    }
-    match cells_of(alloc, &found, destinations, &shares) {
-        Ok(lists) => {
-            lists.len() == 2
-                && lists[0].as_slice() == expected[0]
-                && lists[1].as_slice() == expected[1]
-        }
+    let lists = match destinations {
+        None => cells_of(alloc, &found, &shares),
+        Some(stops) if are_of(&found, stops) => cells_of_at(alloc, &found, stops, &shares),
+        Some(_) => return false,
+    };
+    match lists {
+        Ok(lists) => are_lists(&lists, expected),
         Err(_) => false,
     }
 }
 
+/// `cells_of`.
 #[test]
 fn cells_of_two_shares_at_once(rt: HostRuntime) {
     let four = Window {
@@ -155,18 +169,31 @@ fn cells_of_two_shares_at_once(rt: HostRuntime) {
         &[Some(0), Some(660), Some(1_860)],
         &[Some(0), Some(720), Some(1_920)],
     ];
-    assert!(rt; has_cells_of(alloc, four, &all, [50, 75], expected));
+    assert!(rt; has_cells_of(alloc, four, None, [50, 75], expected));
+    assert!(rt; has_cells_of(alloc, four, Some(&all), [50, 75], expected));
     let turned: [&[Option<u32>]; 2] = [&[Some(1_860), Some(0)], &[Some(1_920), Some(0)]];
-    assert!(rt; has_cells_of(alloc, four, &[StopNo(2), StopNo(0)], [50, 75], turned));
-    assert!(rt; has_cells_of(alloc, four, &[], [50, 75], [&[], &[]]));
+    assert!(rt; has_cells_of(alloc, four, Some(&[StopNo(2), StopNo(0)]), [50, 75], turned));
+    assert!(rt; has_cells_of(alloc, four, Some(&[]), [50, 75], [&[], &[]]));
 }
 
-/// The access of a share, where there are as many opportunities as stops.
-fn sum_within(found: &Durations, opportunities: &[u32], share: u32, within: u32) -> Option<u64> {
-    if found.stops() as usize == opportunities.len() && share <= 100 {
-        return Some(access(found, opportunities, share, within));
+/// The access of a share, from its cells as from the durations, where there are as many opportunities as stops.
+fn sum_within(
+    alloc: Global,
+    found: &Durations,
+    opportunities: &[u32],
+    share: u32,
+    within: u32,
+) -> Option<u64> {
+    if found.stops() as usize != opportunities.len() || share > 100 {
+        return None;
     }
-    None
+    found.known();
+    let cells = cells(alloc, found, share).ok()?;
+    let sum = access_at(found, opportunities, share, within);
+    if cells.len() != opportunities.len() || access(&cells, opportunities, within) != sum {
+        return None;
+    }
+    Some(sum)
 }
 
 /// From 07:58 to 08:01 the two trips' cells are 0, 600 and 1,800 for a quarter of the minutes, 0, 660 and 1,860 for
@@ -196,12 +223,13 @@ fn two_trips_have_their_sums(alloc: Global) -> bool {
     };
     match of_window(alloc, &network, 0, four, 2) {
         Ok(Some(found)) => SUMS.iter().all(|(share, opportunities, within, expected)| {
-            sum_within(&found, opportunities, *share, *within) == Some(*expected)
+            sum_within(alloc, &found, opportunities, *share, *within) == Some(*expected)
         }),
         _ => false,
     }
 }
 
+/// `access`.
 #[test]
 fn opportunities_within_reach(rt: HostRuntime) {
     assert!(rt; two_trips_have_their_sums(rt.alloc()));
@@ -219,6 +247,7 @@ fn the_line_has_its_cells(alloc: Global, rides: &[Option<u32>]) -> bool {
     }
 }
 
+/// `access`.
 #[test]
 fn an_hour_of_a_trip_every_minute(rt: HostRuntime) {
     let mut rides = [None; 20];
@@ -240,8 +269,8 @@ fn the_line_has_its_sums(alloc: Global) -> bool {
     };
     match of_window(alloc, &network, 0, hour, 2) {
         Ok(Some(found)) => {
-            sum_within(&found, &[1; 20], 50, 1_200) == Some(11)
-                && sum_within(&found, &[1; 20], 50, 1_199) == Some(10)
+            sum_within(alloc, &found, &[1; 20], 50, 1_200) == Some(11)
+                && sum_within(alloc, &found, &[1; 20], 50, 1_199) == Some(10)
         }
         _ => false,
     }
@@ -268,11 +297,12 @@ fn greatest_sum(alloc: Global, within: u32, expected: u64) -> bool {
         return false;
     };
     match of_window(alloc, &network, 0, minute, 1) {
-        Ok(Some(found)) => sum_within(&found, &opportunities, 100, within) == Some(expected),
+        Ok(Some(found)) => sum_within(alloc, &found, &opportunities, 100, within) == Some(expected),
         _ => false,
     }
 }
 
+/// `access`.
 #[test]
 fn the_greatest_opportunities_at_the_most_stops(rt: HostRuntime) {
     assert!(rt; greatest_sum(rt.alloc(), 7_200, 281_470_681_677_825));

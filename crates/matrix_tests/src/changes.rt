@@ -17,6 +17,7 @@ fn durations(
     of_minute(alloc, &network, origin, depart, 2)
 }
 
+/// `Search::durations`, `lower_all`.
 #[test]
 fn a_change_needs_its_time(rt: HostRuntime) -> Result<(), Fail> {
     let alloc = rt.alloc();
@@ -36,6 +37,7 @@ fn a_change_needs_its_time(rt: HostRuntime) -> Result<(), Fail> {
     Ok(())
 }
 
+/// `Search::durations`.
 #[test]
 fn no_time_at_the_start(rt: HostRuntime) -> Result<(), Fail> {
     let alloc = rt.alloc();
@@ -45,6 +47,7 @@ fn no_time_at_the_start(rt: HostRuntime) -> Result<(), Fail> {
     Ok(())
 }
 
+/// `Search::durations`.
 #[test]
 fn no_time_after_a_walk(rt: HostRuntime) -> Result<(), Fail> {
     let alloc = rt.alloc();
@@ -61,6 +64,7 @@ fn no_time_after_a_walk(rt: HostRuntime) -> Result<(), Fail> {
     Ok(())
 }
 
+/// `Search::durations`.
 #[test]
 fn a_stop_reached_by_a_ride_and_by_a_walk(rt: HostRuntime) -> Result<(), Fail> {
     let alloc = rt.alloc();
@@ -88,6 +92,7 @@ fn a_stop_reached_by_a_ride_and_by_a_walk(rt: HostRuntime) -> Result<(), Fail> {
     Ok(())
 }
 
+/// `Search::durations`.
 #[test]
 fn staying_aboard_takes_no_time(rt: HostRuntime) -> Result<(), Fail> {
     let alloc = rt.alloc();

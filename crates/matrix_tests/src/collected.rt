@@ -142,6 +142,7 @@ fn ends(alloc: Global, origins: u32, cases: &[Case], end: End) -> bool {
     }
 }
 
+/// `Collector::new`.
 #[test]
 fn keeps_the_first_row_of_a_place(rt: HostRuntime) {
     let twice = [
@@ -151,6 +152,7 @@ fn keeps_the_first_row_of_a_place(rt: HostRuntime) {
     assert!(rt; ends(rt.alloc(), 3, &twice, End::Empty(0, 1)));
 }
 
+/// `Collector::new`.
 #[test]
 fn hands_strangers_back(rt: HostRuntime) {
     let strangers = [
@@ -176,11 +178,13 @@ fn hands_back_a_short_share(alloc: Global) -> Result<bool, AllocError> {
     Ok(became(&mut collector, row) == Outcome::Stranger)
 }
 
+/// `Collector::new`.
 #[test]
 fn hands_a_row_with_a_short_share_back(rt: HostRuntime) {
     assert!(rt; hands_back_a_short_share(rt.alloc()) == Ok(true));
 }
 
+/// `Collector::new`.
 #[test]
 fn names_a_place_of_a_later_scenario(rt: HostRuntime) {
     let rows = [
@@ -193,6 +197,7 @@ fn names_a_place_of_a_later_scenario(rt: HostRuntime) {
     assert!(rt; ends(rt.alloc(), 3, &rows, End::Empty(1, 1)));
 }
 
+/// `Collector::new`.
 #[test]
 fn finishes_with_every_row(rt: HostRuntime) {
     let rows = [
@@ -209,6 +214,7 @@ fn finishes_with_every_row(rt: HostRuntime) {
     assert!(rt; ends(rt.alloc(), 3, &rows, End::Full(3, 3, 3, 2, 4)));
 }
 
+/// `Collector::new`.
 #[test]
 fn has_no_places(rt: HostRuntime) {
     assert!(rt; ends(rt.alloc(), 0, &[], End::Full(3, 0, 3, 2, 4)));
@@ -287,6 +293,7 @@ fn keeps_and_gives_back(alloc: Global) -> bool {
     }
 }
 
+/// `Collector::place`, `Collector::new`.
 #[test]
 fn gives_the_second_row_of_a_place_back(rt: HostRuntime) {
     assert!(rt; keeps_and_gives_back(rt.alloc()));
@@ -316,6 +323,7 @@ fn goes_on_unfinished(alloc: Global) -> bool {
     }
 }
 
+/// `Collector::finish`, `Collector::new`.
 #[test]
 fn an_unfinished_collector_goes_on(rt: HostRuntime) {
     assert!(rt; goes_on_unfinished(rt.alloc()));
@@ -436,6 +444,7 @@ fn core_answers(alloc: Global, book: &mut Book) -> bool {
     }
 }
 
+/// `Collector::new`.
 #[test]
 fn makes_steps_and_offers_in_order(rt: HostRuntime) -> Result<(), Fail> {
     let mut book = Book::new(rt.alloc(), 2, 2, 2)?;

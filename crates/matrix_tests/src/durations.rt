@@ -5,6 +5,7 @@ use rounds::{Durations, Window};
 use std::test::Fail;
 use timetable::{END_OF_AXIS, NEVER, StopNo};
 
+/// `Search::durations`.
 #[test]
 fn two_trips_with_a_change(rt: HostRuntime) -> Result<(), Fail> {
     let alloc = rt.alloc();
@@ -27,6 +28,7 @@ fn two_trips_with_a_change(rt: HostRuntime) -> Result<(), Fail> {
     Ok(())
 }
 
+/// `Search::durations`.
 #[test]
 fn no_two_walks_follow_one_another(rt: HostRuntime) -> Result<(), Fail> {
     let alloc = rt.alloc();
@@ -43,6 +45,7 @@ fn no_two_walks_follow_one_another(rt: HostRuntime) -> Result<(), Fail> {
     Ok(())
 }
 
+/// `Search::durations`.
 #[test]
 fn walks_come_first_and_last(rt: HostRuntime) -> Result<(), Fail> {
     let alloc = rt.alloc();
@@ -59,6 +62,7 @@ fn walks_come_first_and_last(rt: HostRuntime) -> Result<(), Fail> {
     Ok(())
 }
 
+/// `Search::durations`.
 #[test]
 fn odd_trips(rt: HostRuntime) -> Result<(), Fail> {
     let alloc = rt.alloc();
@@ -98,6 +102,7 @@ fn odd_trips(rt: HostRuntime) -> Result<(), Fail> {
     Ok(())
 }
 
+/// `Search::durations`.
 #[test]
 fn the_faster_of_two_trips(rt: HostRuntime) -> Result<(), Fail> {
     let alloc = rt.alloc();
@@ -116,6 +121,7 @@ fn the_faster_of_two_trips(rt: HostRuntime) -> Result<(), Fail> {
     Ok(())
 }
 
+/// `Search::durations`.
 #[test]
 fn a_trip_every_minute(rt: HostRuntime) -> Result<(), Fail> {
     let alloc = rt.alloc();
@@ -151,6 +157,7 @@ fn is_at(found: &Option<Durations>, stop: u32, minute: u32, expected: Option<u32
     }
 }
 
+/// `Search::durations`.
 #[test]
 fn windows_that_fit(rt: HostRuntime) -> Result<(), Fail> {
     for (first, minutes, expected) in &[
@@ -179,6 +186,7 @@ fn windows_that_fit(rt: HostRuntime) -> Result<(), Fail> {
     Ok(())
 }
 
+/// `Search::durations`.
 #[test]
 fn each_minute_of_a_window(rt: HostRuntime) -> Result<(), Fail> {
     let alloc = rt.alloc();
@@ -210,6 +218,7 @@ fn each_minute_of_a_window(rt: HostRuntime) -> Result<(), Fail> {
     Ok(())
 }
 
+/// `Search::durations`.
 #[test]
 fn an_hour_of_a_trip_every_minute(rt: HostRuntime) -> Result<(), Fail> {
     let alloc = rt.alloc();
@@ -232,6 +241,7 @@ fn an_hour_of_a_trip_every_minute(rt: HostRuntime) -> Result<(), Fail> {
     Ok(())
 }
 
+/// `Search::durations`.
 #[test]
 fn a_whole_day(rt: HostRuntime) -> Result<(), Fail> {
     let alloc = rt.alloc();

@@ -81,6 +81,7 @@ fn both_count_down(
 }
 
 // 27:00:00 is 97,200: 72,000 after 07:00, 68,400 after 08:00, and 68,401 after the base of a batch that begins then.
+/// `Search::durations`, `Search::new`, `Durations::minutes`, `Durations::stops`.
 #[test]
 fn stops_are_reached_the_next_day(rt: HostRuntime) -> Result<(), Fail> {
     let alloc = rt.alloc();
@@ -109,6 +110,7 @@ fn stops_are_reached_the_next_day(rt: HostRuntime) -> Result<(), Fail> {
 }
 
 // At 07:00 the base is 25,199: 90,733 is 65,534 after it, the last time that a label tells, and 90,734 is 65,535.
+/// `Search::durations`.
 #[test]
 fn a_ride_ends_at_the_horizon(rt: HostRuntime) -> Result<(), Fail> {
     let alloc = rt.alloc();
@@ -133,6 +135,7 @@ fn a_ride_ends_at_the_horizon(rt: HostRuntime) -> Result<(), Fail> {
 }
 
 // Walks from stop 2, which is reached at 90,700, 65,501 after the base, to 3.
+/// `Search::durations`.
 #[test]
 fn a_walk_ends_at_the_horizon(rt: HostRuntime) -> Result<(), Fail> {
     let alloc = rt.alloc();
@@ -149,6 +152,7 @@ fn a_walk_ends_at_the_horizon(rt: HostRuntime) -> Result<(), Fail> {
 
 // Who comes to stop 1 at 29,400 and changes there in 70,000 seconds is ready at 99,400, past the horizon. What leaves a
 // second earlier is past it too, and nobody catches that.
+/// `Search::durations`.
 #[test]
 fn a_change_ends_past_the_horizon(rt: HostRuntime) -> Result<(), Fail> {
     let alloc = rt.alloc();
@@ -167,6 +171,7 @@ fn a_change_ends_past_the_horizon(rt: HostRuntime) -> Result<(), Fail> {
 // From stop 0 at 08:00 to 1 at 08:10, and at 27:00 (97,200) to 1 at 27:10 (97,800). A window of 32 minutes from 07:45
 // (27,900) is one batch, of which sixteen departures catch the first trip, and sixteen have to wait for the second: of
 // these the first is 08:01 (28,860), and 97,800 is 68,940 later.
+/// `Search::durations`.
 #[test]
 fn some_lanes_wait_for_the_next_day(rt: HostRuntime) -> Result<(), Fail> {
     let alloc = rt.alloc();
@@ -192,6 +197,7 @@ fn some_lanes_wait_for_the_next_day(rt: HostRuntime) -> Result<(), Fail> {
 
 // The trips of 08:00 (28,800) and 08:15 come to stop 1 at 29,400 and to 2 at 30,600. 07:28 is 26,880, and 08:00 the
 // 33rd minute from there: the one living lane of the second batch. 06:56 is 24,960, and 08:00 the 65th minute.
+/// `Search::durations`.
 #[test]
 fn windows_are_no_whole_batches(rt: HostRuntime) -> Result<(), Fail> {
     let alloc = rt.alloc();
@@ -222,6 +228,7 @@ fn windows_are_no_whole_batches(rt: HostRuntime) -> Result<(), Fail> {
 
 // 33 minutes from 07:28 (26,880) are a batch with its horizon at 92,414, and one with its horizon at 94,334: both tell
 // 92,413, the second alone tells what comes then and before 94,334, and neither tells that.
+/// `Search::durations`.
 #[test]
 fn each_batch_has_its_own_horizon(rt: HostRuntime) -> Result<(), Fail> {
     let alloc = rt.alloc();
@@ -246,6 +253,7 @@ fn each_batch_has_its_own_horizon(rt: HostRuntime) -> Result<(), Fail> {
 
 // For 00:00:00 labels count from 0, and for a second later too: so 65,534 is the last second that they tell. What
 // leaves at 0 is caught at 0 alone.
+/// `Search::durations`.
 #[test]
 fn windows_begin_at_midnight(rt: HostRuntime) -> Result<(), Fail> {
     let alloc = rt.alloc();
@@ -273,6 +281,7 @@ fn windows_begin_at_midnight(rt: HostRuntime) -> Result<(), Fail> {
 
 // Stop n is reached by n rides, n steps less 100 seconds after 07:00: with steps of 9,000 seconds the eighth in 71,900,
 // past the horizon, and the seventh in 62,900.
+/// `Search::durations`.
 #[test]
 fn eight_rides_and_no_more(rt: HostRuntime) -> Result<(), Fail> {
     let alloc = rt.alloc();
@@ -355,6 +364,7 @@ fn finds_in_chain(alloc: Global, search: &mut Search) -> Result<bool, AllocError
 
 // After a search that goes wide fifteen more do, whatever they are asked: hence 60 of them, five a turn, so that narrow
 // labels are tried again for each.
+/// `Search::durations`.
 #[test]
 fn one_search_by_both_widths(rt: HostRuntime) -> Result<(), Fail> {
     let alloc = rt.alloc();

@@ -53,6 +53,7 @@ fn feet_of(
     }
 }
 
+/// `carry_trip`.
 #[test]
 fn who_is_ready_rides(rt: HostRuntime) -> Result<(), Fail> {
     let alloc = rt.alloc();
@@ -71,6 +72,7 @@ fn who_is_ready_rides(rt: HostRuntime) -> Result<(), Fail> {
     Ok(())
 }
 
+/// `walk`.
 #[test]
 fn a_walk_takes_its_seconds(rt: HostRuntime) -> Result<(), Fail> {
     let alloc = rt.alloc();
@@ -87,6 +89,7 @@ fn a_walk_takes_its_seconds(rt: HostRuntime) -> Result<(), Fail> {
     Ok(())
 }
 
+/// `transfer`.
 #[test]
 fn a_change_takes_its_time_and_a_walk_none(rt: HostRuntime) -> Result<(), Fail> {
     let alloc = rt.alloc();
@@ -103,6 +106,7 @@ fn a_change_takes_its_time_and_a_walk_none(rt: HostRuntime) -> Result<(), Fail> 
     Ok(())
 }
 
+/// `transfer`.
 #[test]
 fn a_change_at_the_end_of_the_numbers_takes_its_time(rt: HostRuntime) -> Result<(), Fail> {
     let alloc = rt.alloc();
@@ -138,6 +142,7 @@ fn stops_at(time: u32) -> Times {
     }
 }
 
+/// `scan_line`, `falls_of`.
 #[test]
 fn each_lane_takes_the_first_trip_of_a_line(rt: HostRuntime) -> Result<(), Fail> {
     let calls = [call(0), call(1), call(2)];
@@ -184,6 +189,7 @@ fn three(first: u16, second: u16, last: u16) -> Narrow {
 }
 
 // The three trips of the line above, as labels tell them that count from 50: 50, 60, 70; 150, 160, 170; 250, 260, 270.
+/// `scan_line`, `falls_of`.
 #[test]
 fn narrow_lanes_take_the_first_trip_from_their_base_on(rt: HostRuntime) -> Result<(), Fail> {
     let calls = [call(0), call(1), call(2)];
@@ -222,6 +228,7 @@ fn narrow_lanes_take_the_first_trip_from_their_base_on(rt: HostRuntime) -> Resul
 }
 
 // From 50 on labels end at 65,585, and 100,000 would be 34,414 if its upper bits were left out.
+/// `scan_line`, `falls_of`.
 #[test]
 fn narrow_labels_end_at_their_horizon(rt: HostRuntime) -> Result<(), Fail> {
     let calls = [call(0), call(1), call(2), call(3)];
@@ -255,6 +262,7 @@ fn narrow_labels_end_at_their_horizon(rt: HostRuntime) -> Result<(), Fail> {
 }
 
 // The trips leave at 20, 50 and 51, and labels count from 50: so the first two leave at 0, before all who are ready.
+/// `scan_line`, `falls_of`.
 #[test]
 fn nobody_catches_what_left_before_the_base(rt: HostRuntime) -> Result<(), Fail> {
     let calls = [call(0), call(1)];

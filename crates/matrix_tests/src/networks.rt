@@ -72,6 +72,7 @@ fn net_fault(
     }
 }
 
+/// `Feet::seconds`, `Events::new`.
 #[test]
 fn footpaths_lead_one_way(rt: HostRuntime) -> Result<(), Fail> {
     let alloc = rt.alloc();
@@ -102,6 +103,7 @@ fn footpaths_lead_one_way(rt: HostRuntime) -> Result<(), Fail> {
     Ok(())
 }
 
+/// `Feet::new`.
 #[test]
 fn footpaths_are_refused(rt: HostRuntime) -> Result<(), Fail> {
     let alloc = rt.alloc();
@@ -140,6 +142,7 @@ fn footpaths_are_refused(rt: HostRuntime) -> Result<(), Fail> {
     Ok(())
 }
 
+/// `Feet::new`.
 #[test]
 fn change_times_are_refused(rt: HostRuntime) -> Result<(), Fail> {
     let alloc = rt.alloc();
@@ -159,6 +162,7 @@ fn change_times_are_refused(rt: HostRuntime) -> Result<(), Fail> {
     Ok(())
 }
 
+/// `Feet::change`, `Feet::new`.
 #[test]
 fn each_stop_has_its_change_time(rt: HostRuntime) -> Result<(), Fail> {
     let alloc = rt.alloc();
@@ -175,6 +179,7 @@ fn each_stop_has_its_change_time(rt: HostRuntime) -> Result<(), Fail> {
     Ok(())
 }
 
+/// `Network::new`, `Feet::new`.
 #[test]
 fn networks_off_their_stops_are_refused(rt: HostRuntime) -> Result<(), Fail> {
     let alloc = rt.alloc();
@@ -203,6 +208,7 @@ fn networks_off_their_stops_are_refused(rt: HostRuntime) -> Result<(), Fail> {
     Ok(())
 }
 
+/// `Network::new`, `Feet::new`.
 #[test]
 fn networks_with_bad_times_are_refused(rt: HostRuntime) -> Result<(), Fail> {
     let alloc = rt.alloc();
@@ -234,6 +240,7 @@ fn networks_with_bad_times_are_refused(rt: HostRuntime) -> Result<(), Fail> {
     Ok(())
 }
 
+/// `Network::trips`, `Network::new`.
 #[test]
 fn an_empty_network(rt: HostRuntime) -> Result<(), Fail> {
     let alloc = rt.alloc();

@@ -6,7 +6,7 @@ use rounds::Window;
 use std::alloc::{AllocError, Global};
 use timetable::{Event, Network, StopNo};
 use work_book::{Lease, Settled};
-use workers::{Asked, Gate, Open, Study, Verdict, limits_fit, one_thread, row_of, shares_fit};
+use workers::{Gate, Open, Study, Verdict, limits_fit, one_thread, row_of, shares_fit};
 
 /// The stops of the small feed.
 pub(crate) const A: u32 = 0;
@@ -63,31 +63,19 @@ fn window(minute: u32, minutes: u32) -> Window {
     }
 }
 
-/// Two rides, half of the minutes of 08:00 alone, and half an hour's reach.
-fn asked() -> Asked<'static> {
-    Asked {
-        window: window(480, 1),
-        rides: 2,
-        shares: &[50],
-        limits: &[1_800],
-        destinations: &[StopNo(0), StopNo(1), StopNo(2)],
-    }
-}
-
-/// The study that asks so of these networks, from A.
-fn asking<'a>(networks: &'a [Network], asked: Asked<'a>) -> Study<'a> {
+/// The study of two rides, half of the minutes of 08:00 alone, and half an hour's reach, from A.
+pub(crate) fn study_of(networks: &[Network]) -> Study<'_> {
     Study {
         number: 7,
         networks,
         origins: &[StopNo(A)],
         opportunities: &[1, 1, 1],
-        asked,
+        window: window(480, 1),
+        rides: 2,
+        shares: &[50],
+        withins: &[1_800],
+        destinations: &[StopNo(0), StopNo(1), StopNo(2)],
     }
-}
-
-/// The study of two rides, half of the minutes of 08:00 alone, and half an hour's reach, from A.
-pub(crate) fn study_of(networks: &[Network]) -> Study<'_> {
-    asking(networks, asked())
 }
 
 /// What a share gives: access sums and cells.
@@ -205,18 +193,19 @@ fn give_the_nearest_rank(alloc: Global, networks: &[Network]) -> bool {
         (448, 33, 50, 2, [Some(0), Some(1_560), Some(2_760)]),
     ] {
         let shares = [*share];
-        let asked = Asked {
+        let study = Study {
             window: window(*minute, *minutes),
             shares: &shares,
-            ..asked()
+            ..study_of(networks)
         };
-        if !gives_one(alloc, &asking(networks, asked), *access, *cells) {
+        if !gives_one(alloc, &study, *access, *cells) {
             return false;
         }
     }
     true
 }
 
+/// `one_thread`.
 #[test]
 fn gives_the_nearest_rank_of_the_minutes(rt: HostRuntime) {
     assert!(rt; are_right(rt.alloc(), BASE, Wanted::Shares));
@@ -242,13 +231,12 @@ fn begins_with(matrix: &Matrix, given: &[Given<'_>]) -> bool {
 
 /// Five shares and two limits, in one run.
 fn give_each_share_and_limit(alloc: Global, networks: &[Network]) -> bool {
-    let asked = Asked {
+    let study = Study {
         window: window(478, 4),
         shares: &[1, 25, 50, 75, 100],
-        limits: &[700, 1_800],
-        ..asked()
+        withins: &[700, 1_800],
+        ..study_of(networks)
     };
-    let study = asking(networks, asked);
     if !study.fits() {
         return false;
     }
@@ -261,6 +249,7 @@ fn give_each_share_and_limit(alloc: Global, networks: &[Network]) -> bool {
     }
 }
 
+/// `one_thread`.
 #[test]
 fn gives_each_share_its_cells_and_each_limit_its_sum(rt: HostRuntime) {
     assert!(rt; are_right(rt.alloc(), BASE, Wanted::SharesAtOnce));
@@ -270,13 +259,10 @@ fn gives_each_share_its_cells_and_each_limit_its_sum(rt: HostRuntime) {
 fn sum_the_opportunities(alloc: Global, networks: &[Network]) -> bool {
     for (within, access) in &[(1_800, 15), (1_799, 10), (599, 0)] {
         let limits = [*within];
-        let asked = Asked {
-            limits: &limits,
-            ..asked()
-        };
         let study = Study {
             opportunities: &[0, 10, 5],
-            ..asking(networks, asked)
+            withins: &limits,
+            ..study_of(networks)
         };
         if !gives_one(alloc, &study, *access, [Some(0), Some(600), Some(1_800)]) {
             return false;
@@ -285,6 +271,7 @@ fn sum_the_opportunities(alloc: Global, networks: &[Network]) -> bool {
     true
 }
 
+/// `one_thread`.
 #[test]
 fn sums_the_opportunities_within_reach(rt: HostRuntime) {
     assert!(rt; are_right(rt.alloc(), BASE, Wanted::Reach));
@@ -321,15 +308,12 @@ const TO: [(&[StopNo], [&[Option<u32>]; 2]); 4] = [
 /// The cells of the destinations alone, in their order, and the access of all stops.
 fn give_the_destinations(alloc: Global, networks: &[Network]) -> bool {
     for (destinations, [half, more]) in TO {
-        let asked = Asked {
+        let study = Study {
+            opportunities: &[1, 10, 5],
             window: window(478, 4),
             shares: &[50, 75],
             destinations,
-            ..asked()
-        };
-        let study = Study {
-            opportunities: &[1, 10, 5],
-            ..asking(networks, asked)
+            ..study_of(networks)
         };
         if !study.fits() {
             return false;
@@ -348,6 +332,7 @@ fn give_the_destinations(alloc: Global, networks: &[Network]) -> bool {
     true
 }
 
+/// `one_thread`.
 #[test]
 fn gives_the_cells_of_the_destinations_and_the_access_of_all_stops(rt: HostRuntime) {
     assert!(rt; are_right(rt.alloc(), BASE, Wanted::Destinations));
@@ -355,18 +340,14 @@ fn gives_the_cells_of_the_destinations_and_the_access_of_all_stops(rt: HostRunti
 
 /// One ride, where C wants two.
 fn count_rides(alloc: Global, networks: &[Network]) -> bool {
-    let asked = Asked {
+    let study = Study {
         rides: 1,
-        ..asked()
+        ..study_of(networks)
     };
-    gives_one(
-        alloc,
-        &asking(networks, asked),
-        2,
-        [Some(0), Some(600), None],
-    )
+    gives_one(alloc, &study, 2, [Some(0), Some(600), None])
 }
 
+/// `one_thread`.
 #[test]
 fn counts_rides(rt: HostRuntime) {
     assert!(rt; are_right(rt.alloc(), BASE, Wanted::OneRide));
@@ -401,6 +382,7 @@ fn give_every_row(alloc: Global, networks: &[Network]) -> bool {
     gives(alloc, &study, (3, 3, 3), &EVERY_ROW)
 }
 
+/// `one_thread`.
 /// The rows of all three scenarios, from each stop.
 #[test]
 fn has_a_row_per_scenario_and_origin(rt: HostRuntime) {
@@ -424,6 +406,7 @@ fn give_one_row(alloc: Global, networks: &[Network]) -> bool {
     }
 }
 
+/// `one_thread`.
 #[test]
 fn gives_one_row_alone(rt: HostRuntime) {
     let scenarios: [&[Ride]; 2] = [&[FIRST, SECOND], &[FIRST]];
@@ -432,19 +415,15 @@ fn gives_one_row_alone(rt: HostRuntime) {
 
 /// The row of all minutes of a day, of which 481 leave before the only trips: a third of them is 476 minutes.
 fn give_the_row_of_a_day(alloc: Global, networks: &[Network]) -> bool {
-    let asked = Asked {
+    let study = Study {
         window: window(0, 1_440),
         shares: &[33],
-        ..asked()
+        ..study_of(networks)
     };
-    gives_one(
-        alloc,
-        &asking(networks, asked),
-        1,
-        [Some(0), Some(29_100), Some(30_300)],
-    )
+    gives_one(alloc, &study, 1, [Some(0), Some(29_100), Some(30_300)])
 }
 
+/// `one_thread`.
 #[test]
 fn gives_the_row_of_a_days_window(rt: HostRuntime) {
     assert!(rt; are_right(rt.alloc(), BASE, Wanted::WholeDay));
@@ -459,6 +438,7 @@ fn give_no_rows(alloc: Global, networks: &[Network]) -> bool {
     gives(alloc, &from_nowhere, (1, 0, 3), &[]) && gives(alloc, &study_of(&[]), (0, 1, 3), &[])
 }
 
+/// `one_thread`.
 #[test]
 fn has_no_rows_without_origins_or_scenarios(rt: HostRuntime) {
     assert!(rt; are_right(rt.alloc(), BASE, Wanted::NoOrigins));
@@ -466,21 +446,21 @@ fn has_no_rows_without_origins_or_scenarios(rt: HostRuntime) {
 
 /// Whether the study that asks for so many minutes and rides fits.
 fn fits_with(networks: &[Network], minutes: u32, rides: u32) -> bool {
-    let asked = Asked {
+    let study = Study {
         window: window(0, minutes),
         rides,
-        ..asked()
+        ..study_of(networks)
     };
-    asking(networks, asked).fits()
+    study.fits()
 }
 
 /// Whether the study of some networks fits with these destinations.
 fn fits_to(networks: &[Network], destinations: &[StopNo]) -> bool {
-    let asked = Asked {
+    let study = Study {
         destinations,
-        ..asked()
+        ..study_of(networks)
     };
-    asking(networks, asked).fits()
+    study.fits()
 }
 
 /// Rides, minutes, origins and destinations, at each limit and past it.
@@ -493,6 +473,7 @@ fn fit_up_to_each_limit(networks: &[Network]) -> bool {
     rides && minutes && origins && destinations
 }
 
+/// `one_thread`.
 #[test]
 fn fits_up_to_each_limit(rt: HostRuntime) {
     assert!(rt; are_right(rt.alloc(), BASE, Wanted::Limits));
@@ -524,20 +505,27 @@ const LIMITS: [(&[u32], bool); 6] = [
 /// Each of the shares, and each of the limits.
 fn fit_with_theirs(networks: &[Network]) -> bool {
     for (shares, want) in &SHARES {
-        let asked = Asked { shares, ..asked() };
-        if shares_fit(shares) != *want || asking(networks, asked).fits() != *want {
+        let study = Study {
+            shares,
+            ..study_of(networks)
+        };
+        if shares_fit(shares) != *want || study.fits() != *want {
             return false;
         }
     }
-    for (limits, want) in &LIMITS {
-        let asked = Asked { limits, ..asked() };
-        if limits_fit(limits) != *want || asking(networks, asked).fits() != *want {
+    for (withins, want) in &LIMITS {
+        let study = Study {
+            withins,
+            ..study_of(networks)
+        };
+        if limits_fit(withins) != *want || study.fits() != *want {
             return false;
         }
     }
     true
 }
 
+/// `one_thread`.
 #[test]
 fn fits_with_one_to_eight_rising_shares_and_limits(rt: HostRuntime) {
     assert!(rt; are_right(rt.alloc(), BASE, Wanted::Rising));
@@ -556,6 +544,7 @@ fn fit_an_opportunity_for_each_stop(networks: &[Network]) -> bool {
     !few.fits() && !many.fits()
 }
 
+/// `one_thread`.
 #[test]
 fn fits_an_opportunity_for_each_stop(rt: HostRuntime) {
     assert!(rt; are_right(rt.alloc(), BASE, Wanted::Opportunities));
@@ -578,6 +567,7 @@ fn fit_up_to_the_most_origins(alloc: Global, networks: &[Network]) -> bool {
     }
 }
 
+/// `one_thread`.
 #[test]
 fn fits_up_to_the_most_origins(rt: HostRuntime) {
     assert!(rt; are_right(rt.alloc(), BASE, Wanted::Origins));
@@ -588,12 +578,14 @@ fn fit_sixteen_scenarios(networks: &[Network]) -> bool {
     networks.len() == 17 && study_of(&networks[..16]).fits() && !study_of(networks).fits()
 }
 
+/// `one_thread`.
 #[test]
 fn fits_sixteen_scenarios(rt: HostRuntime) {
     let one: &[Ride] = &[FIRST];
     assert!(rt; are_right(rt.alloc(), &[one; 17], Wanted::Scenarios));
 }
 
+/// `Gate::after`.
 #[test]
 fn lets_each_lease_be_worked_at(rt: HostRuntime) {
     let lease = Lease {

@@ -212,6 +212,7 @@ fn give<R: Threads + Wait + Sync + AllocGlobal>(
     }
 }
 
+/// `run_workers`.
 #[test]
 fn any_number_of_workers_gives_one_matrix(rt: HostRuntime) {
     assert!(rt; are_right(&rt, Asked::Workers));
@@ -229,6 +230,7 @@ fn lose_each<R: Threads + Wait + Sync + AllocGlobal>(rt: &R, study: &Study) -> b
     true
 }
 
+/// `run_workers`.
 #[test]
 fn a_lost_lease_leaves_its_place_empty(rt: HostRuntime) {
     assert!(rt; are_right(&rt, Asked::Lost));
@@ -252,6 +254,7 @@ fn lose_each_once<R: Threads + Wait + Sync + AllocGlobal>(rt: &R, study: &Study)
     true
 }
 
+/// `run_workers`.
 #[test]
 fn a_second_try_makes_a_lost_lease_good(rt: HostRuntime) {
     assert!(rt; are_right(&rt, Asked::LostOnce));
@@ -270,6 +273,7 @@ fn vanish_at_each<R: Threads + Wait + Sync + AllocGlobal>(rt: &R, study: &Study)
     true
 }
 
+/// `run_workers`.
 #[test]
 fn the_only_worker_vanishes(rt: HostRuntime) {
     assert!(rt; are_right(&rt, Asked::Vanished));
@@ -285,6 +289,7 @@ fn vanish_of_two<R: Threads + Wait + Sync + AllocGlobal>(rt: &R, study: &Study) 
     true
 }
 
+/// `run_workers`.
 #[test]
 fn one_of_two_workers_vanishes(rt: HostRuntime) {
     assert!(rt; are_right(&rt, Asked::VanishedOfTwo));
@@ -297,11 +302,13 @@ fn repeat_each<R: Threads + Wait + Sync + AllocGlobal>(rt: &R, study: &Study) ->
     is_given && gate.told.load(Ordering::SeqCst) == 18 && gate.uneven.load(Ordering::SeqCst) == 0
 }
 
+/// `run_workers`.
 #[test]
 fn each_repeat_is_kept_once(rt: HostRuntime) {
     assert!(rt; are_right(&rt, Asked::Repeated));
 }
 
+/// `run_workers`.
 #[test]
 fn all_leases_are_lost_but_the_last_of_each_job(rt: HostRuntime) {
     assert!(rt; are_right(&rt, Asked::LostToTheLast));
@@ -316,6 +323,7 @@ fn lose_one_job<R: Threads + Wait + Sync + AllocGlobal>(rt: &R, study: &Study) -
     misses(rt, study, 2, 8, &gate, (1, 1))
 }
 
+/// `run_workers`.
 #[test]
 fn a_job_that_is_never_done_is_named(rt: HostRuntime) {
     assert!(rt; are_right(&rt, Asked::NeverDone));
@@ -335,11 +343,13 @@ fn delay_some<R: Threads + Wait + Sync + AllocGlobal>(rt: &R, study: &Study) -> 
     true
 }
 
+/// `run_workers`.
 #[test]
 fn delays_change_no_row(rt: HostRuntime) {
     assert!(rt; are_right(&rt, Asked::Delayed));
 }
 
+/// `run_workers`.
 #[test]
 fn without_a_worker_none_is_started(rt: HostRuntime) {
     assert!(rt; are_right(&rt, Asked::NoWorker));
@@ -358,6 +368,7 @@ fn overlaps<R: Threads + Wait + Sync + AllocGlobal>(rt: &R, networks: &[Network]
     run(rt, &study, 2, 1, &gate).is_ok() && gate.missed.load(Ordering::SeqCst) == 0
 }
 
+/// `run_workers`.
 #[test]
 fn two_workers_are_at_work_at_once(rt: HostRuntime) {
     let is_met = match networks_of(rt.alloc(), &EDITED[..1]) {

@@ -205,6 +205,7 @@ fn gives(alloc: Global, files: Files, told: &[Told<'_>], named: Named<'_>, want:
     }
 }
 
+/// `write_matrix`, `Labels::fit`.
 #[test]
 fn writes_one_row(rt: HostRuntime) {
     assert!(rt;
@@ -218,6 +219,7 @@ fn writes_one_row(rt: HostRuntime) {
     );
 }
 
+/// `write_matrix`, `Labels::fit`.
 #[test]
 fn writes_scenarios_and_their_origins_in_order(rt: HostRuntime) {
     let told: [Told<'_>; 9] = [
@@ -252,6 +254,7 @@ late,C,50,1,,,0
     assert!(rt; gives(rt.alloc(), THREE_STOPS, &told, named, want));
 }
 
+/// `write_matrix`, `Labels::fit`.
 #[test]
 fn writes_a_line_for_each_share_and_a_sum_for_each_limit(rt: HostRuntime) {
     let told: [Told<'_>; 4] = [
@@ -276,6 +279,7 @@ base,B,100,1,1,,0,
     assert!(rt; gives(rt.alloc(), THREE_STOPS, &told, named, want));
 }
 
+/// `write_matrix`, `Labels::fit`.
 #[test]
 fn tells_origins_by_their_stops(rt: HostRuntime) {
     let named = Named {
@@ -293,6 +297,7 @@ fn tells_origins_by_their_stops(rt: HostRuntime) {
     );
 }
 
+/// `write_matrix`, `Labels::fit`.
 #[test]
 fn writes_the_header_alone_without_origins(rt: HostRuntime) {
     let named = Named {
@@ -303,6 +308,7 @@ fn writes_the_header_alone_without_origins(rt: HostRuntime) {
     assert!(rt; gives(rt.alloc(), THREE_STOPS, &[], named, want));
 }
 
+/// `write_matrix`, `Labels::fit`.
 #[test]
 fn quotes_where_it_is_needed(rt: HostRuntime) {
     let named = Named {
@@ -330,6 +336,7 @@ fn gives_a_line_longer_than(alloc: Global, bytes: usize) -> Result<bool, AllocEr
     Ok(gives(alloc, THREE_STOPS, &[FROM_A], named, &want))
 }
 
+/// `write_matrix`, `Labels::fit`.
 #[test]
 fn writes_a_line_of_more_than_64_kib(rt: HostRuntime) {
     assert_eq!(rt; gives_a_line_longer_than(rt.alloc(), 65_536), Ok(true));
@@ -404,6 +411,7 @@ fn labels_are_told(alloc: Global) -> bool {
     true
 }
 
+/// `Labels::fit`.
 #[test]
 fn labels_fit_their_own_matrix_alone(rt: HostRuntime) {
     assert!(rt; labels_are_told(rt.alloc()));
@@ -418,6 +426,7 @@ fn to(destinations: &[StopNo]) -> Named<'_> {
     }
 }
 
+/// `Labels::fit`.
 #[test]
 fn a_matrix_has_as_many_columns_as_labels(rt: HostRuntime) {
     let alloc = rt.alloc();
@@ -435,6 +444,7 @@ fn a_matrix_has_as_many_columns_as_labels(rt: HostRuntime) {
     );
 }
 
+/// `write_matrix`, `Labels::fit`.
 #[test]
 fn names_each_column_by_its_own_stop(rt: HostRuntime) {
     let told: [Told<'_>; 1] = [(0, 0, &[3], &[Some(1_800), Some(0), Some(600)])];
@@ -496,6 +506,7 @@ fn leaves(
     }
 }
 
+/// `write_matrix`, `Labels::fit`.
 #[test]
 fn leaves_a_prefix_where_the_writer_fails(rt: HostRuntime) {
     let fault = Err(TextFault::Write);
@@ -508,6 +519,7 @@ fn leaves_a_prefix_where_the_writer_fails(rt: HostRuntime) {
     assert!(rt; leaves(rt.alloc(), 99, 0, fault, b""));
 }
 
+/// `put_all`.
 #[test]
 fn puts_out_bytes_piece_by_piece(rt: HostRuntime) {
     let mut writer = Slow {

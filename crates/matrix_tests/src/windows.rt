@@ -1,7 +1,7 @@
 //! The durations of a window beside those of each of its minutes alone, and one search for several networks.
 
 use crate::small_networks::{
-    Footpath, SmallNetwork, at, is_minute, network_over, of_window, trip_of, two_trips,
+    Footpath, SmallNetwork, a_line, at, is_minute, network_over, of_window, trip_of, two_trips,
 };
 use rounds::{Durations, Search, Window, one_minute};
 use std::alloc::{AllocError, Global};
@@ -167,6 +167,7 @@ fn origins_agree(
     Ok(true)
 }
 
+/// `one_minute`, `Lines::count`, `FlatLists::count`, `Network::feet`, `durations`.
 #[test]
 fn as_each_minute_alone(rt: HostRuntime) -> Result<(), Fail> {
     let alloc = rt.alloc();
@@ -182,6 +183,7 @@ fn as_each_minute_alone(rt: HostRuntime) -> Result<(), Fail> {
     Ok(())
 }
 
+/// `one_minute`.
 #[test]
 fn a_day_as_each_minute_alone(rt: HostRuntime) -> Result<(), Fail> {
     let alloc = rt.alloc();
@@ -194,6 +196,7 @@ fn a_day_as_each_minute_alone(rt: HostRuntime) -> Result<(), Fail> {
     Ok(())
 }
 
+/// `one_minute`.
 #[test]
 fn two_days_as_each_minute_alone(rt: HostRuntime) -> Result<(), Fail> {
     let alloc = rt.alloc();
@@ -205,6 +208,33 @@ fn two_days_as_each_minute_alone(rt: HostRuntime) -> Result<(), Fail> {
                 "{minutes} minutes, {rides} rides"
             );
         }
+    }
+    Ok(())
+}
+
+/// Windows from 06:00, which all find the same trip a minute, and a day from 05:00, after whose first 400 minutes no trip
+/// leaves.
+#[test]
+fn a_line_as_each_minute_alone(rt: HostRuntime) -> Result<(), Fail> {
+    let alloc = rt.alloc();
+    let network = a_line(alloc)?;
+    for (first, minutes) in &[
+        (21_600, 1),
+        (21_600, 15),
+        (21_600, 16),
+        (21_600, 17),
+        (21_600, 32),
+        (21_600, 60),
+        (18_000, 1_440),
+    ] {
+        let window = Window {
+            first: *first,
+            minutes: *minutes,
+        };
+        assert!(rt;
+            window_agrees(alloc, &network, 0, window, 2)?,
+            "{minutes} minutes from {first}"
+        );
     }
     Ok(())
 }
@@ -283,6 +313,7 @@ fn agrees_in_turn(alloc: Global, search: &mut Search) -> Result<bool, AllocError
     Ok(true)
 }
 
+/// `Search::durations`.
 #[test]
 fn one_search_for_two_networks(rt: HostRuntime) -> Result<(), Fail> {
     let alloc = rt.alloc();

@@ -1,18 +1,14 @@
 -- Texts that are put out in parts, the last of them perhaps cut off.
-use Rattle.std.proofs.Common.{◌≡◌, ◌<◌, ◌+◌, ℕ, zero, suc, List, [], ◌++◌, Option, Some, None, inl, inr, ◌⊎◌, take}
-use Rattle.std.proofs.Common.{drop, refl, sym, ap, ◌∙◌, subst, arith, append_assoc, take-append-drop, length}
+use Rattle.std.proofs.Common.{◌≡◌, ◌<◌, ◌+◌, ℕ, zero, suc, List, ◌++◌, Option, Some, None, inl, inr, ◌⊎◌, take}
+use Rattle.std.proofs.Common.{drop, sym, ap, ◌∙◌, subst, arith, append_assoc, take-append-drop, length}
 use Rattle.std.proofs.Common.{length-drop}
-use Rattle.std.proofs.KnownBytes.{Appends-nil, Appends-trans}
+use Rattle.std.proofs.KnownBytes.{Appends-trans}
 use Rattle.std.proofs.lemmas.Bool.{cases_order}
 use Rattle.std.specs.Io.KnownBytes.{Appends, Keeps}
 use Rattle.matrix_text.specs.Prefixes.{PutsPart, PutsPrefix}
 use Rattle.matrix_text.specs.Text.{texts_below}
 
--- nothing is a prefix
-pub nothing_out : (a : Option (List ℕ)) (text : List ℕ) → PutsPrefix a a text
-nothing_out a text = record { out = []; left = text; split = refl; appended = Appends-nil a }
-
--- so are the first bytes
+-- the first bytes of a text are a prefix
 pub first_out : (a b : Option (List ℕ)) (text : List ℕ) (n : ℕ) → Appends a b (take n text) → PutsPrefix a b text
 first_out a b text n h = record { out = take n text; left = drop n text; split = take-append-drop n text; appended = h }
 
@@ -70,12 +66,3 @@ fewer a b text k (suc n) low p = at (λ l. fewer a b text k n l p) (cases_order 
 pub cut_below : (a b c : Option (List ℕ)) (text : ℕ → List ℕ) (k n : ℕ) → k < n → Appends a b (texts_below text k) →
     PutsPrefix b c (text k) → PutsPrefix a c (texts_below text n)
 cut_below a b c text k n low h p = fewer a c text k n low (cut_after a b c (texts_below text k) (text k) h p)
-
--- the texts below k, and the next
-pub one_more : (a b c : Option (List ℕ)) (text : ℕ → List ℕ) (k : ℕ) → Appends a b (texts_below text k) →
-    Appends b c (text k) → Appends a c (texts_below text (k + 1))
-one_more a b c text k h p = subst (λ n. Appends a c (texts_below text n)) (suc_is k)
-    (Appends-trans a b c (texts_below text k) (text k) h p)
-  where
-    suc_is : (n : ℕ) → suc n ≡ n + 1
-    suc_is n = omega arith

@@ -5,7 +5,7 @@ ghost use Rattle.workers.specs.Study.{study_of, StudyFits};
 use crate::figures::micros;
 use crate::telling::{refuse, tell};
 use rounds::{Durations, Search};
-use shares::{access, cells_of};
+use shares::{access_at, cells_of_at};
 use std::io;
 use std::time::Instant;
 use timetable::Network;
@@ -69,21 +69,10 @@ fn time_row(
 {
     let stop = study.origins[origin];
     let start = Instant::now(rt)?;
-    let found = search.durations(
-        rt.alloc(),
-        network,
-        stop,
-        study.asked.window,
-        study.asked.rides,
-    )?;
+    let found = search.durations(rt.alloc(), network, stop, study.window, study.rides)?;
     let durations = micros(start.elapsed(rt)?);
     let start = Instant::now(rt)?;
-    let lists = cells_of(
-        rt.alloc(),
-        &found,
-        study.asked.destinations,
-        study.asked.shares,
-    )?;
+    let lists = cells_of_at(rt.alloc(), &found, study.destinations, study.shares)?;
     let access = access_of(study, &found);
     let cells = micros(start.elapsed(rt)?);
     drop(lists);
@@ -100,7 +89,7 @@ fn access_of(study: &Study<'_>, found: &Durations) -> u64
     requires stops { found.now.stops ≡ length study.now.opportunities.now }
 {
     let mut sum = 0;
-    for share in study.asked.shares {
+    for share in study.shares {
         sum = access_within(study, found, *share, sum);
     }
     sum
@@ -112,8 +101,8 @@ fn access_within(study: &Study<'_>, found: &Durations, share: u32, other: u64) -
     requires share { share ≤ 100 }
 {
     let mut sum = other;
-    for limit in study.asked.limits {
-        sum = sum.wrapping_add(access(found, study.opportunities, share, *limit));
+    for limit in study.withins {
+        sum = sum.wrapping_add(access_at(found, study.opportunities, share, *limit));
     }
     sum
 }

@@ -207,13 +207,11 @@ fn time_query<'a>(
         networks,
         origins: tables.origins.as_slice(),
         opportunities,
-        asked: workers::Asked {
-            window: asked.window,
-            rides: asked.rides,
-            shares: SHARES,
-            limits: LIMITS,
-            destinations: tables.destinations.as_slice(),
-        },
+        window: asked.window,
+        rides: asked.rides,
+        shares: SHARES,
+        withins: LIMITS,
+        destinations: tables.destinations.as_slice(),
     };
     time_rows(rt, asked.part, feed, tables, &study)
 }

@@ -182,6 +182,7 @@ fn closed(alloc: Global, paths: &[(u32, u32, u32)], limit: u32, all: &[Expected]
     holds(alloc, 3, paths, Trial::Closed(limit, all))
 }
 
+/// `close`, `limit_fits`.
 #[test]
 fn two_footpaths_in_succession(rt: HostRuntime) {
     let paths = [(0, 1, 60), (1, 2, 60)];
@@ -201,6 +202,7 @@ fn two_footpaths_in_succession(rt: HostRuntime) {
     assert!(rt; closed(rt.alloc(), &paths, 119, &[Expected::Seconds(0, 2, None)]));
 }
 
+/// `close`, `limit_fits`.
 #[test]
 fn one_way_only(rt: HostRuntime) {
     let all = [
@@ -211,6 +213,7 @@ fn one_way_only(rt: HostRuntime) {
     assert!(rt; closed(rt.alloc(), &[(0, 1, 60), (1, 2, 60)], 7200, &all));
 }
 
+/// `close`, `limit_fits`.
 #[test]
 fn round_a_loop(rt: HostRuntime) {
     let all = [
@@ -231,6 +234,7 @@ fn round_a_loop(rt: HostRuntime) {
     );
 }
 
+/// `close`, `limit_fits`.
 #[test]
 fn no_time_at_all(rt: HostRuntime) {
     let all = [
@@ -244,6 +248,7 @@ fn no_time_at_all(rt: HostRuntime) {
     assert!(rt; holds(rt.alloc(), 2, &[(0, 1, 1)], Trial::Closed(0, &none)));
 }
 
+/// `close`, `limit_fits`.
 #[test]
 fn the_least_of_repeats(rt: HostRuntime) {
     let falling = [(0, 1, 90), (0, 1, 30), (0, 1, 60)];
@@ -251,6 +256,7 @@ fn the_least_of_repeats(rt: HostRuntime) {
     assert!(rt; holds(rt.alloc(), 2, &falling, Trial::Closed(100, &all)));
 }
 
+/// `close`, `limit_fits`.
 #[test]
 fn a_chain_shorter_than_the_direct_footpath(rt: HostRuntime) {
     let paths = [(0, 2, 100), (0, 1, 30), (1, 2, 30)];
@@ -264,6 +270,7 @@ fn a_chain_shorter_than_the_direct_footpath(rt: HostRuntime) {
     );
 }
 
+/// `close`, `limit_fits`.
 #[test]
 fn past_the_limit(rt: HostRuntime) {
     let all = [
@@ -274,6 +281,7 @@ fn past_the_limit(rt: HostRuntime) {
     assert!(rt; closed(rt.alloc(), &[(0, 1, 101), (1, 2, 100)], 100, &all));
 }
 
+/// `close`, `limit_fits`.
 #[test]
 fn the_longest_footpaths(rt: HostRuntime) {
     let long = 4_294_967_295;
@@ -281,12 +289,14 @@ fn the_longest_footpaths(rt: HostRuntime) {
     assert!(rt; closed(rt.alloc(), &[(0, 1, long), (1, 2, long)], 7200, &none));
 }
 
+/// `close`, `limit_fits`.
 #[test]
 fn no_stops(rt: HostRuntime) {
     let none = [Expected::Stops(0)];
     assert!(rt; holds(rt.alloc(), 0, &[], Trial::Closed(7200, &none)));
 }
 
+/// `limit_fits`.
 #[test]
 fn limits(rt: HostRuntime) {
     assert!(rt; limit_fits(0));
@@ -296,6 +306,7 @@ fn limits(rt: HostRuntime) {
     too_many_have_no_closure();
 }
 
+/// `close`, `limit_fits`.
 #[test]
 fn direct_footpaths_as_they_are_given(rt: HostRuntime) {
     let first = (StopNo(0), StopNo(1), 90);

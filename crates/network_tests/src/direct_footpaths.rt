@@ -140,6 +140,7 @@ fn gives_large(alloc: Global, stops: u32, own: &[u8], expected: Expected<'_>) ->
     }
 }
 
+/// `direct`, `Locations::children`, `Children::at`, `Locations::stops`, `Ends::as_slice`.
 #[test]
 fn a_station_stands_for_its_stops(rt: HostRuntime) {
     let all = [path(1, 2, 30), path(2, 1, 30), path(0, 1, 60)];
@@ -153,6 +154,7 @@ fn states(alloc: Global, transfers: &[u8], times: &[u32]) -> bool {
         && gives(alloc, STOPS, transfers, Some(own), Expected::Changes(times))
 }
 
+/// `direct`.
 #[test]
 fn change_times_of_stops_and_stations(rt: HostRuntime) {
     let alloc = rt.alloc();
@@ -181,6 +183,7 @@ C,C,2,16777215
     );
 }
 
+/// `direct`.
 #[test]
 fn walks_of_a_file_come_after_those_of_the_feed(rt: HostRuntime) {
     let own = b"seconds,to_stop_id,from_stop_id\n 90 ,B,A\n7,T,S\n";
@@ -197,12 +200,14 @@ fn walks_of_a_file_come_after_those_of_the_feed(rt: HostRuntime) {
     assert!(rt; gives_small(rt.alloc(), Some(own), Expected::Paths(&all)));
 }
 
+/// `direct`.
 #[test]
 fn rows_without_a_pair_are_passed_over(rt: HostRuntime) {
     let own = b"from_stop_id,to_stop_id,seconds\nA,A,5\nX,A,5\nA,U,5\nU,X,5\nB,A,0\n";
     assert!(rt; gives_small(rt.alloc(), Some(own), Expected::Last(4, path(1, 0, 0))));
 }
 
+/// `direct`.
 #[test]
 fn identifiers_that_are_refused(rt: HostRuntime) {
     let from = b"from_stop_id,to_stop_id,seconds\nA,B,5\n,Z,x\n";
@@ -215,6 +220,7 @@ fn identifiers_that_are_refused(rt: HostRuntime) {
     expect_refusal(&rt, rt.alloc(), other, 3, What::UnknownStop);
 }
 
+/// `direct`.
 #[test]
 fn seconds_and_columns_that_are_refused(rt: HostRuntime) {
     let seconds = b"from_stop_id,to_stop_id,seconds\nA,A,\n";
@@ -224,6 +230,7 @@ fn seconds_and_columns_that_are_refused(rt: HostRuntime) {
     expect_refusal(&rt, rt.alloc(), b"", 1, What::MissingColumn);
 }
 
+/// `direct`.
 #[test]
 fn too_many_footpaths_of_a_transfer(rt: HostRuntime) {
     // 4,002,000 pairs, and a file whose fault comes later
@@ -231,6 +238,7 @@ fn too_many_footpaths_of_a_transfer(rt: HostRuntime) {
     assert!(rt; gives_large(rt.alloc(), 2001, b"x\n", Expected::Fault(fault)));
 }
 
+/// `direct`.
 #[test]
 fn too_many_footpaths_of_a_file(rt: HostRuntime) {
     // 3,998,000 pairs, and 2,000 more of each row

@@ -3,6 +3,7 @@
 //!
 //! - `direct_footpaths`, `closed_footpaths`: the footpaths that rows state, and the least sums over chains of them.
 //! - `lines`: which trips share a line, how its events lie, and which trips serve a stop.
+//! - `refusals`: what comes back of footpaths and trips that are refused.
 //! - `runs`: which trips run on which days.
 //! - `scenario_files`, `scenario_networks`: what a scenario's file says, and the network that it leaves.
 #![tactic(auto)]
@@ -13,6 +14,8 @@ mod closed_footpaths;
 mod direct_footpaths;
 #[cfg(test)]
 mod lines;
+#[cfg(test)]
+mod refusals;
 #[cfg(test)]
 mod runs;
 #[cfg(test)]

@@ -163,6 +163,7 @@ fn has_calls(network: &Network, calls: &[Call]) -> bool {
     false
 }
 
+/// `Network::lines`, `Lines::new`, `FlatLists::new`.
 #[test]
 fn trips_that_overtake_or_stop_elsewhere_have_lines_of_their_own(rt: HostRuntime) {
     let network = network_of_overtaking(rt.alloc()).expect(&rt, "a network");
@@ -173,6 +174,7 @@ fn trips_that_overtake_or_stop_elsewhere_have_lines_of_their_own(rt: HostRuntime
     assert!(rt; has_line(lines, &[2]));
 }
 
+/// `Network::lines`.
 #[test]
 fn equal_times_share_a_line_and_other_flags_and_loops_do_not(rt: HostRuntime) {
     let network = network_of_alike(rt.alloc()).expect(&rt, "a network");
@@ -184,6 +186,7 @@ fn equal_times_share_a_line_and_other_flags_and_loops_do_not(rt: HostRuntime) {
     assert!(rt; has_line(lines, &[4]));
 }
 
+/// `Network::lines`.
 #[test]
 fn each_of_ten_trips_that_overtake_has_a_line(rt: HostRuntime) {
     let network = network_of_ten(rt.alloc()).expect(&rt, "a network");
@@ -193,6 +196,7 @@ fn each_of_ten_trips_that_overtake_has_a_line(rt: HostRuntime) {
     assert!(rt; has_line(lines, &[9]));
 }
 
+/// `Lines::boarded_at`, `Network::lines`.
 #[test]
 fn lines_are_listed_where_they_can_be_boarded(rt: HostRuntime) {
     let network = network_of_overtaking(rt.alloc()).expect(&rt, "a network");
@@ -202,6 +206,7 @@ fn lines_are_listed_where_they_can_be_boarded(rt: HostRuntime) {
     assert_eq!(rt; lines.boarded_at(StopNo(2)).len(), 1);
 }
 
+/// `Network::serving`.
 #[test]
 fn the_trips_that_serve_a_stop_ascend(rt: HostRuntime) {
     let network = network_of_overtaking(rt.alloc()).expect(&rt, "a network");
@@ -210,6 +215,7 @@ fn the_trips_that_serve_a_stop_ascend(rt: HostRuntime) {
     assert!(rt; network.serving(StopNo(2)) == [0, 1, 2, 3].as_slice());
 }
 
+/// `Network::serving`.
 #[test]
 fn both_trips_serve_the_stop_of_the_change(rt: HostRuntime) {
     let network = network_with_a_change(rt.alloc()).expect(&rt, "a network");
@@ -218,6 +224,7 @@ fn both_trips_serve_the_stop_of_the_change(rt: HostRuntime) {
     assert!(rt; network.serving(StopNo(2)) == [1].as_slice());
 }
 
+/// `Network::serving`.
 #[test]
 fn a_trip_that_loops_serves_its_stop_once(rt: HostRuntime) {
     let network = network_of_alike(rt.alloc()).expect(&rt, "a network");
@@ -225,6 +232,7 @@ fn a_trip_that_loops_serves_its_stop_once(rt: HostRuntime) {
     assert!(rt; network.serving(StopNo(2)) == [].as_slice());
 }
 
+/// `Lines::times_of`, `Network::lines`.
 #[test]
 fn times_lie_trip_by_trip(rt: HostRuntime) {
     let network = network_of_overtaking(rt.alloc()).expect(&rt, "a network");
@@ -240,6 +248,7 @@ fn times_lie_trip_by_trip(rt: HostRuntime) {
     );
 }
 
+/// `Lines::calls_of`, `Network::lines`.
 #[test]
 fn calls_tell_where_one_may_board_and_alight(rt: HostRuntime) {
     let network = network_of_alike(rt.alloc()).expect(&rt, "a network");

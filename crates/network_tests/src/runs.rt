@@ -144,6 +144,7 @@ fn runs_on_its_days(feed: &Feed) -> bool {
     runs_as_scheduled(feed) && runs_as_excepted(feed)
 }
 
+/// `active`, `Events::into_vec`.
 #[test]
 fn services_run_on_their_days(rt: HostRuntime) {
     let files = FeedBytes {
@@ -178,6 +179,7 @@ fn runs_on_leap_days(alloc: Global, feed: &Feed) -> bool {
         && runs_the_day_before(alloc, feed, b"19000301")
 }
 
+/// `active`.
 #[test]
 fn leap_days_are_days(rt: HostRuntime) {
     assert!(rt; read_date(b"19000229").is_none());
@@ -226,6 +228,7 @@ fn lists_days_around(alloc: Global, feed: &Feed) -> bool {
         && lists_distant_days(alloc, feed)
 }
 
+/// `active`.
 #[test]
 fn a_study_sees_the_days_around_its_date(rt: HostRuntime) {
     let files = FeedBytes {
@@ -259,6 +262,7 @@ fn lists_departures(alloc: Global, feed: &Feed) -> bool {
     lists(alloc, feed, b"20260504", 1, 1, &departures)
 }
 
+/// `active`.
 #[test]
 fn trips_with_headways_run_as_their_departures(rt: HostRuntime) {
     let files = FeedBytes {
@@ -296,6 +300,7 @@ fn refuses_studies(alloc: Global, feed: &Feed) -> bool {
         && lists(alloc, feed, b"99991231", 6, 0, &[])
 }
 
+/// `active`.
 #[test]
 fn studies_are_refused(rt: HostRuntime) {
     let files = FeedBytes {
@@ -336,6 +341,7 @@ fn lists_many(alloc: Global, feed: &Feed) -> bool {
     }
 }
 
+/// `active`.
 #[test]
 fn many_departures_are_listed(rt: HostRuntime) {
     let files = FeedBytes {

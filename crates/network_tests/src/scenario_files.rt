@@ -43,6 +43,7 @@ fn cuts_second_trip(alloc: Global, feed: &Feed) -> bool {
     }
 }
 
+/// `read_scenario`, `FeedBytes::fits`.
 #[test]
 fn a_removed_route_loses_its_trips(rt: HostRuntime) {
     assert!(rt; gives(rt.alloc(), mondays(), Expected::Cut));
@@ -65,6 +66,7 @@ fn delays_first_trip(alloc: Global, feed: &Feed) -> bool {
     }
 }
 
+/// `read_scenario`.
 #[test]
 fn a_shifted_trip_runs_later(rt: HostRuntime) {
     assert!(rt; gives(rt.alloc(), mondays(), Expected::Delay));
@@ -86,6 +88,7 @@ x,T0,remove_trip
 20,T1,shift_trip
 ";
 
+/// `read_scenario`.
 #[test]
 fn shifts_of_a_trip_add_up(rt: HostRuntime) {
     expect_shift_of(&rt, rt.alloc(), SHIFTS, 0, 220);
@@ -153,6 +156,7 @@ fn expect_refusal_of_departures(
     assert!(rt; gives(alloc, with_departures(), Expected::Fault(bytes, fault)));
 }
 
+/// `read_scenario`.
 #[test]
 fn the_first_bad_record_is_told(rt: HostRuntime) {
     expect_refusal(&rt, rt.alloc(), b"", 1, ScenarioWhat::MissingColumn);
@@ -193,6 +197,7 @@ fn the_first_bad_record_is_told(rt: HostRuntime) {
     );
 }
 
+/// `read_scenario`.
 #[test]
 fn the_checks_of_a_record_go_in_order(rt: HostRuntime) {
     expect_refusal(
@@ -232,6 +237,7 @@ fn the_checks_of_a_record_go_in_order(rt: HostRuntime) {
     );
 }
 
+/// `read_scenario`.
 #[test]
 fn a_trip_is_not_shifted_out_of_its_times(rt: HostRuntime) {
     expect_refusal(
@@ -271,6 +277,7 @@ fn a_trip_is_not_shifted_out_of_its_times(rt: HostRuntime) {
     );
 }
 
+/// `read_scenario`.
 #[test]
 fn a_trip_may_be_shifted_to_the_ends_of_its_times(rt: HostRuntime) {
     expect_shift_of(
@@ -296,6 +303,7 @@ fn a_trip_may_be_shifted_to_the_ends_of_its_times(rt: HostRuntime) {
     );
 }
 
+/// `read_scenario`.
 #[test]
 fn departures_are_not_shifted_out_of_their_times(rt: HostRuntime) {
     let first = b"action,id,seconds\nshift_trip,T1,-600\n";
@@ -329,6 +337,7 @@ fn many_records(alloc: Global, rest: &[u8]) -> Result<Vec<u8>, AllocError> {
     Ok(bytes)
 }
 
+/// `read_scenario`.
 #[test]
 fn a_hundred_thousand_records_are_read(rt: HostRuntime) -> Result<(), Fail> {
     let most = many_records(rt.alloc(), b"")?;

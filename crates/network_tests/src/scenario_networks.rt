@@ -173,12 +173,14 @@ fn base_is_named(alloc: Global) -> bool {
     base(alloc).name() == b"base".as_slice()
 }
 
+/// `network_of`.
 #[test]
 fn base_keeps_every_trip_as_it_is(rt: HostRuntime) {
     assert!(rt; base_is_named(rt.alloc()));
     assert!(rt; gives(rt.alloc(), mondays(), Expected::EveryTripKept));
 }
 
+/// `network_of`.
 #[test]
 fn trips_run_on_the_axis(rt: HostRuntime) {
     let trips = [
@@ -189,6 +191,7 @@ fn trips_run_on_the_axis(rt: HostRuntime) {
     assert!(rt; gives(rt.alloc(), mondays(), Expected::Trips(&trips)));
 }
 
+/// `network_of`.
 #[test]
 fn departures_arrive_first_when_they_depart(rt: HostRuntime) {
     let files = FeedBytes {
@@ -207,6 +210,7 @@ fn departures_arrive_first_when_they_depart(rt: HostRuntime) {
 }
 
 // 194 days are 16,761,600 seconds: Monday at 08:00:00 is then past 16,777,216, the end of the axis.
+/// `network_of`.
 #[test]
 fn days_past_the_axis_are_refused(rt: HostRuntime) {
     assert!(rt; gives(rt.alloc(), mondays(), Expected::TooLarge { back: 194 }));

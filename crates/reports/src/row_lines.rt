@@ -22,15 +22,15 @@ pub(crate) fn row_count(study: &Study<'_>) -> u64 {
 /// How many cells a study has.
 fn cell_count(study: &Study<'_>) -> u64 {
     row_count(study)
-        .saturating_mul(study.asked.destinations.len() as u64)
-        .saturating_mul(study.asked.shares.len() as u64)
+        .saturating_mul(study.destinations.len() as u64)
+        .saturating_mul(study.shares.len() as u64)
 }
 
 /// How many sums of access a study has.
 fn sum_count(study: &Study<'_>) -> u64 {
     row_count(study)
-        .saturating_mul(study.asked.limits.len() as u64)
-        .saturating_mul(study.asked.shares.len() as u64)
+        .saturating_mul(study.withins.len() as u64)
+        .saturating_mul(study.shares.len() as u64)
 }
 
 /// Tells how large the matrix is.

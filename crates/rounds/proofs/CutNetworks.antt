@@ -1,11 +1,9 @@
 -- A network with its times cut is a network, and its lines are those of the network.
 use Rattle.std.proofs.Common.{◌≡◌, ℕ, zero, suc, ◌+◌, ◌*◌, ◌<◌, ◌≤◌, List, [], ◌∷◌, map, length, slice_get, Some, All}
 use Rattle.std.proofs.Common.{IsTrue, sum, sum_by, refl, sym, ◌∙◌, ap, subst, arith}
-use Rattle.std.proofs.lemmas.Option.{same_Some, slice_get_within, slice_get-map}
 use Rattle.std.proofs.lemmas.List.{length-map}
 use Rattle.std.proofs.lemmas.List.Elements.{All-map}
 use Rattle.std.proofs.lemmas.List.Sums.{sum-map}
-use Rattle.std.specs.Option.{option_map}
 use Rattle.timetable.specs.declared.trips.Event.{Event}
 use Rattle.timetable.specs.declared.trips.Trip.{Trip}
 use Rattle.timetable.specs.declared.views.Call.{Call}
@@ -13,23 +11,13 @@ use Rattle.timetable.specs.declared.views.Times.{Times}
 use Rattle.timetable.specs.declared.limits.TheConstants.{END_OF_AXIS}
 use Rattle.timetable.specs.Trips.{EventsRise}
 use Rattle.timetable.specs.Networks.{Net, IsNet, IsEvent}
+use Rattle.timetable.proofs.Mapped.{map_got, map_put}
 use Rattle.timetable.specs.Lines.{Line, LineTable, Follows, IsLine, AreLines, IsPosition, AreBoarded, AreLinesOf}
 use Rattle.timetable.specs.LineViews.{events_of, rows_of_line, IsAt, IsViewOf}
 use Rattle.trip_lanes.specs.Cut.{cut}
 use Rattle.trip_lanes.specs.Rows.{NoneOvertakes, IsCutViewOf}
 use Rattle.rounds.specs.Cut.{cut_event, cut_trip, cut_net}
 use Rattle.rounds.proofs.Lined.{none_overtakes}
-
--- what stands in a mapped list comes from what stands there in the list
-pub map_got : {A B : Type 0} (f : A → B) (xs : List A) (k : ℕ) (y : B) → slice_get (map f xs) k ≡ Some y →
-    (x : A) × (slice_get xs k ≡ Some x) × (f x ≡ y)
-map_got f [] k y h = absurd (let w = slice_get_within [] k y h in omega (arith, w))
-map_got f (x ∷ xs) zero y h = (x, refl, same_Some (f x) y h)
-map_got f (x ∷ xs) (suc k) y h = map_got f xs k y h
-
-pub map_put : {A B : Type 0} (f : A → B) (xs : List A) (k : ℕ) (x : A) → slice_get xs k ≡ Some x →
-    slice_get (map f xs) k ≡ Some (f x)
-map_put f xs k x h = slice_get-map f xs k ∙ ap (option_map f) h
 
 -- cutting keeps the order of times
 pub cut_rises : (base cap s t : ℕ) → s ≤ t → cut base cap s ≤ cut base cap t

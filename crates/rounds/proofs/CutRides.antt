@@ -7,7 +7,7 @@ use Rattle.timetable.specs.Networks.{Net, IsNet}
 use Rattle.timetable.specs.Journeys.{IsRide, Whereabouts, Rides}
 use Rattle.trip_lanes.specs.Cut.{cut}
 use Rattle.rounds.specs.Cut.{cut_event, cut_trip}
-use Rattle.rounds.proofs.CutNetworks.{map_got, map_put}
+use Rattle.timetable.proofs.Mapped.{map_got, map_put}
 use Rattle.rounds.proofs.Journeying.{rises}
 
 -- a ride on a trip, of which the times are told cut

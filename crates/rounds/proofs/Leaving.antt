@@ -1,11 +1,14 @@
 -- Trips that a round may leave out.
-use Rattle.std.proofs.Common.{◌≡◌, ◌∙◌, inl, inr, slice_index, slice_get, get_or, Some, IsTrue, refl, sym, subst, arith}
+use Rattle.std.proofs.Common.{◌≡◌, ℕ, ◌-◌, ◌≤◌, ◌∙◌, ap, inl, inr, slice_index, slice_get, get_or, Some, IsTrue, refl, sym, subst, arith}
 use Rattle.std.proofs.lemmas.Bool.{cases_lt}
 use Rattle.std.proofs.lemmas.Option.{slice_get_within, slice_get-get_or}
-use Rattle.timetable.specs.Networks.{IsEvent}
+use Rattle.timetable.specs.declared.trips.Event.{Event}
 use Rattle.timetable.specs.Journeys.{IsRide}
-use Rattle.timetable.proofs.Known.{event_axis}
+use Rattle.trip_lanes.specs.Cut.{cut}
+use Rattle.rounds.specs.Cut.{cut_event}
 use Rattle.rounds.specs.Laws.{FallenStopsSuffice, FallenRoundsAreFull, EarlierTripsServe, DeadLanesRideNothing}
+use Rattle.timetable.proofs.Mapped.{map_got}
+use Rattle.rounds.proofs.Journeying.{rises}
 
 pub fallen_suffice : FallenStopsSuffice
 fallen_suffice t before ready ride none still p x l c =
@@ -100,9 +103,15 @@ earlier_serve u t ready p end e behind c from soon =
       omega (arith, off_pair.arrive, c.time),
     )
 
-pub dead_ride_nothing : DeadLanesRideNothing
-dead_ride_nothing n trip t ready p end ok runs never c =
-    let event : IsEvent n.trips trip c.j c.on = (t, runs, c.ride.from) in
-    let axis = event_axis n ok trip c.j c.on event in
-    let none = never c.j c.on c.ride.from in
-    omega (arith, c.in_time)
+pub dead_ride_nothing : (never : ℕ) → DeadLanesRideNothing never
+dead_ride_nothing never n base trip t ready ok runs dead p end c =
+    let on = map_got (cut_event base never) t.events c.j c.on c.ride.from in
+    let off = map_got (cut_event base never) t.events c.i c.off c.ride.to in
+    let label = dead c.j on.0 on.1 in
+    let stop : on.0.stop.0 ≡ c.on.stop.0 = ap (λ (e : Event). e.stop.0) on.2 in
+    let late : never ≤ c.on.depart = subst (λ (s : ℕ). slice_index ready s ≡ never → never ≤ c.on.depart) (sym stop)
+    (λ l. omega (arith, l, c.in_time)) label in
+    let rise = rises n ok trip t runs (c.i - c.j - 1) c.j c.i on.0 off.0 (omega (arith, c.ride.later)) on.1 off.1 in
+    let departs : cut base never on.0.depart ≡ c.on.depart = ap (λ (e : Event). e.depart) on.2 in
+    let arrives : cut base never off.0.arrive ≡ c.off.arrive = ap (λ (e : Event). e.arrive) off.2 in
+    omega (arith, late, rise, departs, arrives, c.time)

@@ -2,7 +2,6 @@ pub mod Batch
 pub mod BatchRows
 pub mod Batching
 pub mod Bounding
-pub mod Carrying
 pub mod CutDurations
 pub mod CutJourneys
 pub mod CutNetworks
@@ -23,6 +22,7 @@ pub mod NoneReached
 pub mod Ranked
 pub mod Rebasing
 pub mod Reaching
+pub mod Searched
+pub mod Skipping
 pub mod Tabled
 pub mod Unique
-pub mod Walking

@@ -5,7 +5,7 @@ use Rattle.std.proofs.lemmas.Bool.{cases_lt}
 use Rattle.std.proofs.lemmas.Option.{same_Some}
 use Rattle.timetable.specs.declared.trips.Trip.{Trip}
 use Rattle.timetable.specs.Steps.{Lowers, CarriesAny}
-use Rattle.timetable.proofs.Lowering.{lowers_alike, lowers_both, lowers_none}
+use Rattle.timetable.proofs.Lowering.{lowers_alike, lowers_both}
 use Rattle.trip_lanes.specs.Scan.{NothingLower}
 use Rattle.rounds.specs.Scan.{CarriesLine}
 
@@ -16,10 +16,6 @@ pub record CarriesBelow (ready : List ℕ) (trips : List Trip) (lines : List (Li
   pub at : slice_get lines i ≡ Some line
   pub below : i < x
   pub carries : CarriesLine ready trips line p end
-
-pub no_lines : (ready : List ℕ) (trips : List Trip) (lines : List (List ℕ)) (old : List ℕ) →
-    Lowers (CarriesBelow ready trips lines 0) old old
-no_lines ready trips lines old = lowers_none old (λ p x c. absurd (omega (arith, c.below)))
 
 pub one_line : (ready : List ℕ) (trips : List Trip) (lines : List (List ℕ)) (x : ℕ) (line : List ℕ)
     {old mid new : List ℕ} → slice_get lines x ≡ Some line → Lowers (CarriesBelow ready trips lines x) old mid →

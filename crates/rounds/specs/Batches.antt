@@ -25,6 +25,26 @@ pub record AreLabels (n : Net) (origin : ℕ) (w : Window) (k : ℕ) (labels : L
   pub dead : (p m : ℕ) → p < n.stops → w.minutes ≤ m → m < LANES * batches_of w.minutes →
       label_of w.minutes labels p m ≡ NEVER
 
+-- stop by stop, the least duration for each of the minutes that are searched, side by side, or NEVER where there is
+-- none; the lanes after these are dead
+pub record ArePacked (n : Net) (origin : ℕ) (w : Window) (k : ℕ) (searched : List ℕ) (labels : List (List ℕ)) :
+    Type 0 where
+  pub size : length labels ≡ n.stops * batches_of w.minutes
+  pub each : (p j : ℕ) → p < n.stops → j < length searched →
+      IsLeastOrNever (IsDuration n origin (departure w (slice_index searched j)) k p) (label_of w.minutes labels p j)
+  pub dead : (p j : ℕ) → p < n.stops → length searched ≤ j → j < LANES * batches_of w.minutes →
+      label_of w.minutes labels p j ≡ NEVER
+
+-- the lanes after these minutes are dead
+abbrev pub AreDeadFrom : ℕ → ℕ → ℕ → List (List ℕ) → Type 0
+AreDeadFrom stops count minutes labels = (p j : ℕ) → p < stops → count ≤ j → j < LANES * batches_of minutes →
+    label_of minutes labels p j ≡ NEVER
+
+-- the time counts from a base to the departure of the searched minute at a position, and is never past the last
+pub record IsSearchedAt (w : Window) (searched : List ℕ) (base never j time : ℕ) : Type 0 where
+  pub live : j < length searched → time + base ≡ departure w (slice_index searched j)
+  pub dead : length searched ≤ j → time ≡ never
+
 -- the labels that are kept as times
 abbrev pub bounds_in : ℕ → ℕ → List ℕ → List ℕ
 bounds_in base cap kept = map (cut base cap) kept

@@ -10,3 +10,4 @@ pub mod Query
 pub mod Cut
 pub mod Labels
 pub mod Last
+pub mod Useful

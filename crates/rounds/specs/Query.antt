@@ -1,16 +1,18 @@
 -- What is asked of a search, and the tables that it takes.
 use Rattle.std.specs.Prelude.{◌≡◌, ℕ, ◌<◌, ◌≤◌, length}
 use Rattle.timetable.specs.Lines.{LineTable, AreLinesOf}
+use Rattle.useful_minutes.specs.Plan.{AreMinutes}
 use Rattle.rounds.specs.declared.query.Query.{Query}
 use Rattle.rounds.specs.declared.tables.Tables.{Tables}
 use Rattle.rounds.specs.Window.{Fits}
 use Rattle.rounds.specs.declared.window.TheConstants.{MOST_RIDES}
 
--- a stop, a window and the lines of a network, and so many rides
+-- a stop, a window and the minutes of it to search, the lines of a network, and so many rides
 pub record IsAsked (q : Query) : Type 0 where
   pub origin : q.origin.0 < q.network.now.stops
   pub fits : Fits q.window
   pub rides : q.rides ≤ MOST_RIDES
+  pub searched : AreMinutes q.window.minutes q.searched.now
   pub lines : AreLinesOf q.network.now.stops q.network.now.trips q.lines.now
 
 -- the tables have a position for each stop and line

@@ -1,11 +1,12 @@
-//! The minutes of a window, batch by batch and from the last to the first.
+//! The searched minutes of a window, batch by batch and from the last to the first.
 ghost use Rattle.std.specs.Prelude.{◌≡◌, ◌≢◌, ℕ, ◌+◌, ◌-◌, ◌*◌, ◌/◌, ◌<◌, ◌≤◌, ◌⊎◌, ◌↔◌, IsTrue, [], length};
 ghost use Rattle.std.specs.Prelude.{slice_index, slice_index_or, All, IfOk, OnOk};
 ghost use Rattle.timetable.specs.declared.limits.TheConstants.{END_OF_AXIS, MOST_FOOT_SECONDS};
 ghost use Rattle.timetable.specs.declared.least.TheConstants.{NEVER as NEVER_VALUE};
 ghost use Rattle.trip_lanes.specs.Lane.{lane, labels_in};
 ghost use Rattle.trip_lanes.specs.Since.{IsSinceTo};
-ghost use Rattle.rounds.specs.Batches.{AreLabels};
+ghost use Rattle.rounds.specs.Batches.{ArePacked, AreDeadFrom, IsSearchedAt};
+ghost use Rattle.rounds.specs.Window.{departure};
 ghost use Rattle.rounds.specs.declared.window.TheConstants.{MOST_MINUTES};
 ghost use Rattle.rounds.specs.State.{arrival};
 ghost use Rattle.rounds.specs.Last.{AreLastFrom};
@@ -25,11 +26,12 @@ use trip_lanes::{LANES, Lanes, Row};
 /// is 0, and who is reached at all boards nothing that departed before. Labels that reach as far as times go count
 /// from 0.
 fn base_of<R: Row>(first: u32) -> u32
-    requires { first < END_OF_AXIS }
+    requires first { first < END_OF_AXIS }
+    requires room { 480 * R.LANES + MOST_FOOT_SECONDS + 1 < R.NEVER }
     ensures within { result ≤ first }
     ensures before { (result ≡ 0) ⊎ (result < first) }
     ensures fits { result + R.NEVER ≤ NEVER_VALUE }
-    ensures near { first - result + 60 * R.LANES + MOST_FOOT_SECONDS < R.NEVER }
+    ensures near { first - result + 480 * R.LANES + MOST_FOOT_SECONDS < R.NEVER }
     ensures short { R.NEVER + END_OF_AXIS < NEVER_VALUE → first ≤ result + 1 }
     ensures long { NEVER_VALUE ≤ R.NEVER + END_OF_AXIS → result ≡ 0 }
 {
@@ -38,6 +40,29 @@ fn base_of<R: Row>(first: u32) -> u32
     } else {
         0
     }
+}
+
+/// The departures of a batch, which are those of the searched minutes from a position on; `NEVER` in the lanes past the
+/// last. They count from a base.
+fn departs_of<R: Row>(query: Query<'_>, from: usize, base: u32) -> R
+    requires asked { IsAsked query }
+    requires from { from < length query.searched.now }
+    requires base { base ≤ departure query.window (slice_index query.searched.now from) }
+    requires near { departure query.window (slice_index query.searched.now from) - base + 480 * R.LANES < R.NEVER }
+    ensures { (l : ℕ) → l < R.LANES → IsSearchedAt query.entry.window query.entry.searched.now base R.NEVER (from + l)
+        (slice_index (R.labels result) l) }
+{
+    // A row in which each lane has another label picks one lane at a time.
+    let lanes = R::LANES;
+    let numbers = R::minutely(0, lanes as u32);
+    let mut departs = R::all(R::NEVER);
+    for l in 0..lanes {
+        if from + l < query.searched.len() {
+            let time = query.window.first + 60 * query.searched[from + l];
+            departs = departs.alight(numbers, 60 * l as u32, time - base);
+        }
+    }
+    departs
 }
 
 /// Whether a label can tell a time.
@@ -181,8 +206,8 @@ fn are_told_of_reached<R: Row>(
     Ok(are_told(ride, ready, batch.departs, batch.base, last))
 }
 
-/// Writes the least durations for each minute of a window, batch by batch from the last, each bounded by the one after
-/// it. Where labels can't tell all of them it gives up, and says so: what is written is then of no use.
+/// Writes the least durations for each searched minute of a window, batch by batch from the last, each bounded by the
+/// one after it. Where labels can't tell all of them it gives up, and says so: what is written is then of no use.
 ///
 /// `last` bounds how late somebody may be at each stop. Stops that no journey reaches are left out of it, by the tables
 /// `beside`, only where labels need it. Out of memory is the only error.
@@ -200,26 +225,30 @@ pub(crate) fn run_window<R: Row>(
     requires last { AreLastFrom query.network.now query.origin.0 query.window.first query.rides last.old }
     requires few { (p : ℕ) → slice_index last.old p ≤ END_OF_AXIS + MOST_FOOT_SECONDS }
     requires labels { length labels.old ≡ query.network.now.stops * batches_of query.window.minutes }
+    requires dead { AreDeadFrom query.network.now.stops (length query.searched.now) query.window.minutes labels.old }
+    requires room { 480 * R.LANES + MOST_FOOT_SECONDS + 1 < R.NEVER }
     ensures same { length labels.new ≡ length labels.old }
+    ensures dead { AreDeadFrom query.entry.network.now.stops (length query.entry.searched.now)
+        query.entry.window.minutes labels.new }
     ensures last { OnOk result (AreLastFrom query.entry.network.now query.entry.origin.0 query.entry.window.first
         query.entry.rides last.new) }
     ensures few { (p : ℕ) → slice_index last.new p ≤ END_OF_AXIS + MOST_FOOT_SECONDS }
     ensures told { IfOk result (λ told. IsTrue told →
-        AreLabels query.entry.network.now query.entry.origin.0 query.entry.window query.entry.rides labels.new) }
+        ArePacked query.entry.network.now query.entry.origin.0 query.entry.window query.entry.rides
+        query.entry.searched.now labels.new) }
     ensures early { END_OF_AXIS + MOST_FOOT_SECONDS < R.NEVER → IfOk result (λ told. IsTrue told) }
 {
     query.network.known();
-    let lanes = R::LANES as u32;
-    let minutes = query.window.minutes;
-    let batches = (minutes + (lanes - 1)) / lanes;
+    let lanes = R::LANES;
+    let batches = (query.searched.len() + (lanes - 1)) / lanes;
     let mut bounds = no_kept(alloc, query.network.stops() as usize, query.rides)?;
     let kept = bounds.as_mut_slice();
     let mut later = NEVER;
     for i in 0..batches {
         let at = batches - 1 - i;
-        let first = query.window.first + 60 * (lanes * at);
+        let first = query.window.first + 60 * query.searched[lanes * at];
         let base = base_of::<R>(first);
-        let departs = R::minutely(first - base, minutes - lanes * at);
+        let departs = departs_of::<R>(query, lanes * at, base);
         let batch = Batch {
             base,
             departs,
@@ -230,7 +259,7 @@ pub(crate) fn run_window<R: Row>(
         if !are_told_of_reached(alloc, query, batch, tables, beside, last)? {
             return Ok(false);
         }
-        write_batch(labels, tables, departs, at as usize, minutes as usize);
+        write_batch(labels, tables, departs, at, query.window.minutes as usize);
     }
     Ok(true)
 }

@@ -5,7 +5,8 @@
 //! - `minutes`: [`one_minute`], which alternates rides with changes and walks.
 //! - `window`: [`Window`], and [`durations`] for each of its minutes.
 //! - `search`: [`Search`], which serves one origin after another. `query`: what is asked of it. `tables`: its tables.
-//! - `batches`: the minutes of a window, so many at a time, from the last to the first.
+//! - `skipped`: which minutes of a window are searched, and the durations of the others.
+//! - `batches`: the searched minutes, so many at a time, from the last to the first.
 //! - `bounded`: the rounds of departures side by side, within the labels of a later one.
 //! - `unreached`: which stops no journey reaches, however late, where a network's last arrivals leave it open whether
 //!   narrow labels tell all.
@@ -26,6 +27,7 @@ mod minutes;
 mod query;
 mod scan;
 mod search;
+mod skipped;
 mod steps;
 mod table;
 mod tables;
@@ -34,7 +36,7 @@ mod window;
 
 pub use laws::{
     dead_lanes_ride_nothing, durations_are_unique, earlier_trips_serve, fallen_stops_suffice,
-    later_departures_bound_labels,
+    later_departures_bound_labels, skipped_departures_end_alike,
 };
 pub use minutes::one_minute;
 pub use search::Search;

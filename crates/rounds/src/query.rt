@@ -10,5 +10,7 @@ pub(crate) struct Query<'a> {
     pub lines: &'a Lines,
     pub origin: StopNo,
     pub window: Window,
+    /// The minutes of the window that are searched.
+    pub searched: &'a [u32],
     pub rides: u32,
 }

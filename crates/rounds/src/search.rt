@@ -2,7 +2,9 @@
 ghost use Rattle.std.specs.Prelude.{◌≡◌, ℕ, ◌+◌, ◌*◌, ◌<◌, ◌≤◌, ◌↔◌, IsTrue, length, slice_index, All, IfOk, OnOk};
 ghost use Rattle.timetable.specs.declared.limits.TheConstants.{END_OF_AXIS, MOST_FOOT_SECONDS};
 ghost use Rattle.timetable.specs.declared.least.TheConstants.{NEVER as NEVER_VALUE};
-ghost use Rattle.rounds.specs.Batches.{AreLabels};
+ghost use Rattle.trip_lanes.specs.declared.lanes.TheConstants.{LANES as LANES_VALUE};
+ghost use Rattle.useful_minutes.specs.Plan.{IsPlan, SkipsNothing};
+ghost use Rattle.rounds.specs.Batches.{AreLabels, ArePacked, AreDeadFrom};
 ghost use Rattle.rounds.specs.Last.{AreLastFrom};
 ghost use Rattle.rounds.specs.Query.{IsAsked};
 ghost use Rattle.rounds.specs.Table.{batches_of};
@@ -11,6 +13,7 @@ ghost use Rattle.rounds.specs.declared.window.TheConstants.{MOST_RIDES};
 
 use crate::batches::run_window;
 use crate::query::Query;
+use crate::skipped::{fill_skipped, plan_of};
 use crate::table::Durations;
 use crate::tables::Tables;
 use crate::window::{Window, longest};
@@ -63,23 +66,49 @@ impl Search {
         ensures { IfOk result (λ durations. AreDurations network.now origin.0 window rides durations) }
     {
         network.known();
+        let plan = plan_of(alloc, network, origin, window)?;
+        let searched = plan.minutes.as_slice();
+        let positions = plan.positions.as_slice();
+        let waits = plan.waits.as_slice();
         let query = Query {
             network,
             lines: network.lines(),
             origin,
             window,
+            searched,
             rides,
         };
-        let labels = self.labels_of(alloc, query)?;
+        let labels = self.all_labels(alloc, query, positions, waits)?;
         Ok(Durations::new(network.stops(), window.minutes, labels))
     }
 
-    /// The least durations of a window, sixteen minutes side by side for each stop: by narrow labels where these are
-    /// tried and tell all, and else by wide ones.
-    fn labels_of(&mut self, alloc: Global, query: Query<'_>) -> Result<Vec<Lanes>, AllocError>
-        requires { IsAsked query }
+    /// The least durations of all minutes of a window, sixteen minutes side by side for each stop.
+    fn all_labels(
+        &mut self,
+        alloc: Global,
+        query: Query<'_>,
+        positions: &[u32],
+        waits: &[u32],
+    ) -> Result<Vec<Lanes>, AllocError>
+        requires asked { IsAsked query }
+        requires plan { IsPlan query.window.minutes (LANES_VALUE * batches_of query.window.minutes) query.searched.now
+            positions.now waits.now }
+        requires skips { SkipsNothing query.network.now query.origin.0 query.window.first query.window.minutes
+            query.searched.now positions.now }
         ensures { IfOk result (λ labels. AreLabels query.entry.network.now query.entry.origin.0 query.entry.window
             query.entry.rides labels.items) }
+    {
+        let mut labels = self.labels_of(alloc, query)?;
+        fill_skipped(alloc, query, positions, waits, &mut labels)?;
+        Ok(labels)
+    }
+
+    /// The least durations of the searched minutes of a window, side by side for each stop, in rows that have room for
+    /// all minutes: by narrow labels where these are tried and tell all, and else by wide ones.
+    fn labels_of(&mut self, alloc: Global, query: Query<'_>) -> Result<Vec<Lanes>, AllocError>
+        requires { IsAsked query }
+        ensures { IfOk result (λ labels. ArePacked query.entry.network.now query.entry.origin.0 query.entry.window
+            query.entry.rides query.entry.searched.now labels.items) }
     {
         query.network.known();
         let stops = query.network.stops() as usize;
@@ -91,8 +120,8 @@ impl Search {
         Ok(labels)
     }
 
-    /// Writes the least durations of a window: by narrow labels where these are tried and tell all, and else by wide
-    /// ones.
+    /// Writes the least durations of the searched minutes: by narrow labels where these are tried and tell all, and else
+    /// by wide ones.
     fn write(
         &mut self,
         alloc: Global,
@@ -107,8 +136,10 @@ impl Search {
         requires last { AreLastFrom query.network.now query.origin.0 query.window.first query.rides last.old }
         requires few { (p : ℕ) → slice_index last.old p ≤ END_OF_AXIS + MOST_FOOT_SECONDS }
         requires labels { length labels.old ≡ query.network.now.stops * batches_of query.window.minutes }
-        ensures { OnOk result (AreLabels query.entry.network.now query.entry.origin.0 query.entry.window
-            query.entry.rides labels.new) }
+        requires dead { AreDeadFrom query.network.now.stops (length query.searched.now) query.window.minutes
+            labels.old }
+        ensures { OnOk result (ArePacked query.entry.network.now query.entry.origin.0 query.entry.window
+            query.entry.rides query.entry.searched.now labels.new) }
     {
         if are_ranked::<Narrow>(most) && is_narrow_turn(&mut self.wide_left) {
             if by_narrow(alloc, query, &mut self.narrow, &mut self.wide, last, labels)? {
@@ -136,7 +167,7 @@ fn is_narrow_turn(wide_left: &mut u32) -> bool {
     true
 }
 
-/// Writes the least durations of a window by narrow labels, unless these can't tell all of them.
+/// Writes the least durations of the searched minutes by narrow labels, unless these can't tell all of them.
 fn by_narrow(
     alloc: Global,
     query: Query<'_>,
@@ -150,18 +181,23 @@ fn by_narrow(
     requires last { AreLastFrom query.network.now query.origin.0 query.window.first query.rides last.old }
     requires few { (p : ℕ) → slice_index last.old p ≤ END_OF_AXIS + MOST_FOOT_SECONDS }
     requires labels { length labels.old ≡ query.network.now.stops * batches_of query.window.minutes }
+    requires dead { AreDeadFrom query.network.now.stops (length query.searched.now) query.window.minutes labels.old }
+    ensures same { length labels.new ≡ length labels.old }
+    ensures dead { AreDeadFrom query.entry.network.now.stops (length query.entry.searched.now)
+        query.entry.window.minutes labels.new }
     ensures last { OnOk result (AreLastFrom query.entry.network.now query.entry.origin.0 query.entry.window.first
         query.entry.rides last.new) }
     ensures few { (p : ℕ) → slice_index last.new p ≤ END_OF_AXIS + MOST_FOOT_SECONDS }
     ensures told { IfOk result (λ told. IsTrue told →
-        AreLabels query.entry.network.now query.entry.origin.0 query.entry.window query.entry.rides labels.new) }
+        ArePacked query.entry.network.now query.entry.origin.0 query.entry.window query.entry.rides
+        query.entry.searched.now labels.new) }
 {
     query.network.known();
     tables.fit(alloc, query.network.stops() as usize, query.lines)?;
     run_window(alloc, query, tables, beside, last, labels)
 }
 
-/// Writes the least durations of a window by wide labels, which tell all of them.
+/// Writes the least durations of the searched minutes by wide labels, which tell all of them.
 fn by_wide(
     alloc: Global,
     query: Query<'_>,
@@ -174,8 +210,9 @@ fn by_wide(
     requires last { AreLastFrom query.network.now query.origin.0 query.window.first query.rides last.old }
     requires few { (p : ℕ) → slice_index last.old p ≤ END_OF_AXIS + MOST_FOOT_SECONDS }
     requires labels { length labels.old ≡ query.network.now.stops * batches_of query.window.minutes }
-    ensures { OnOk result (AreLabels query.entry.network.now query.entry.origin.0 query.entry.window query.entry.rides
-        labels.new) }
+    requires dead { AreDeadFrom query.network.now.stops (length query.searched.now) query.window.minutes labels.old }
+    ensures { OnOk result (ArePacked query.entry.network.now query.entry.origin.0 query.entry.window query.entry.rides
+        query.entry.searched.now labels.new) }
 {
     query.network.known();
     tables.fit(alloc, query.network.stops() as usize, query.lines)?;

@@ -3,11 +3,11 @@ use Rattle.std.proofs.Common.{◌≡◌, ◌∙◌, ◌<◌, ◌≤◌, ◌+◌,
 use Rattle.std.proofs.Common.{if◌then◌else◌, List, [], ◌∷◌, Option, Some, None, length, map, get_or, ap, sym, subst}
 use Rattle.std.proofs.Common.{refl, arith}
 use Rattle.std.specs.Prelude.{All, int_lt, nat_le, option_map, slice_get, sum_by, unsigned_abs}
-use Rattle.std.specs.List.{flat_map, list_all}
+use Rattle.std.specs.List.{list_all}
 use Rattle.std.proofs.lemmas.Bool.Decides.{nat_tests}
 use Rattle.std.proofs.lemmas.Int.{ints}
 use Rattle.std.proofs.lemmas.List.{length-map}
-use Rattle.std.proofs.lemmas.List.Elements.{All-append, All-cons, All-head, All-map, All-nil, All-tail, All-weaker}
+use Rattle.std.proofs.lemmas.List.Elements.{All-cons, All-head, All-map, All-nil, All-tail, All-weaker}
 use Rattle.std.proofs.lemmas.Option.{same_Some, slice_get-get_or, slice_get-map, slice_get_within}
 use Rattle.std.proofs.lemmas.Option.{get_or_from_slice_get}
 use Rattle.timetable.specs.Trips.{EventsRise}
@@ -23,6 +23,7 @@ use Rattle.gtfs_tables.specs.declared.trip.FeedTrip.{FeedTrip}
 use Rattle.gtfs_tables.specs.Feed.{FeedData, IsFeed}
 use Rattle.service_days.specs.Instances.{has_rows, instance_events}
 use Rattle.service_days.specs.declared.run.Run.{Run}
+use Rattle.service_days.proofs.Running.{all_parts}
 use Rattle.scenarios.specs.Edits.{keeps_of}
 use Rattle.scenarios.specs.Networks.{are_few, are_on_axis, fits, is_event_on_axis, is_on_axis, kept_trip, moved_event}
 use Rattle.scenarios.specs.Networks.{moved_time, moved_trip, stays, sum_of, trips_of}
@@ -151,12 +152,6 @@ fit_trip feed is scenario run t at on =
           (λ e h. (on_axis z e.depart (both (is_on_axis z e.arrive) (is_on_axis z e.depart) h).1).1) events
           (all_true (is_event_on_axis z) events on));
     }
-
-all_parts : {A B : Type 0} (P : B → Type 0) (f : A → List B) (xs : List A) → All (λ x. All P (f x)) xs →
-    All P (flat_map f xs)
-all_parts P f [] h = All-nil P
-all_parts P f (x ∷ xs) h = All-append P (f x) (flat_map f xs) (All-head (λ x. All P (f x)) x xs h)
-    (all_parts P f xs (All-tail (λ x. All P (f x)) x xs h))
 
 fit_run : (feed : FeedData) → IsFeed feed → (scenario : ScenarioData) (run : Run) (o : Option FeedTrip) →
     slice_get feed.trips run.trip ≡ o → stays scenario run o ≡ true →

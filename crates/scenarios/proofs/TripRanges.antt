@@ -147,10 +147,6 @@ module _ (events : List Event) (d : Event) (rise : EventsRise events) (some : 0 
       ∙ (λ i. not (int_lt (a i) (pos 0)) && int_lt (b i) (pos END_OF_TIMES))
 
 module _ (z : ℤ) (trip : FeedTrip) where
-  -- a trip without events
-  pub by_no_events : (length trip.events == 0) ≡ true → true ≡ is_trip_in_range z trip
-  by_no_events none = rw none refl
-
   module _ (d : Event) (rise : EventsRise trip.events) (has_events : (length trip.events == 0) ≡ false) where
     some : 0 < length trip.events
     some = grind (arith, nat_tests)

@@ -1,4 +1,4 @@
 mod Marking
 mod Listing
 mod Departing
-mod Running
+pub mod Running

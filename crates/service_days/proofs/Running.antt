@@ -21,7 +21,8 @@ use Rattle.service_days.specs.Instances.{has_rows, runs_if, runs_of_day, runs_of
 use Rattle.service_days.specs.declared.day.TheConstants.{LAST_DAY, LAST_START}
 use Rattle.service_days.proofs.Listing.{all_at}
 
-all_parts : {A B : Type 0} (P : B → Type 0) (f : A → List B) (xs : List A) → All (λ x. All P (f x)) xs →
+-- what holds of each part holds of all
+pub all_parts : {A B : Type 0} (P : B → Type 0) (f : A → List B) (xs : List A) → All (λ x. All P (f x)) xs →
     All P (flat_map f xs)
 all_parts P f [] h = All-nil P
 all_parts P f (x ∷ xs) h = All-append P (f x) (flat_map f xs) (All-head (λ x. All P (f x)) x xs h)

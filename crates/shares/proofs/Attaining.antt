@@ -4,7 +4,7 @@ use Rattle.std.proofs.Math.Seq.{get_or-append_seam}
 use Rattle.std.proofs.lemmas.Bool.{cases_lt, cases_eq}
 use Rattle.rounds.specs.Table.{Times}
 use Rattle.std.proofs.Common.{List, [], ◌∷◌, ◌++◌, get_or, length, sym, subst, inl, inr, ◌≡◌, ◌≤◌, ◌<◌, ◌+◌, ℕ, zero}
-use Rattle.std.proofs.Common.{suc, Bool, false, Option, Some, None, nat_le, arith, refl, if◌then◌else◌, ◌==◌, unwrap_or}
+use Rattle.std.proofs.Common.{suc, false, Option, Some, None, nat_le, arith, refl, if◌then◌else◌, ◌==◌}
 use Rattle.std.proofs.Common.{ap, ◌∙◌}
 use Rattle.timetable.specs.declared.least.TheConstants.{NEVER}
 use Rattle.rounds.specs.Table.{known_of, IsLeastOrNone}
@@ -111,16 +111,6 @@ cell_alike some others n share (Some c) h is =
       holds = rw (← count_alike some others c n h) is.holds;
       least = λ d a. is.least d (rw (count_alike some others d n h) a);
     }
-
--- a duration that is known lies below NEVER
-pub known_below : (x s : ℕ) → x ≤ NEVER → known_of x ≡ Some s → s ≤ 4294967294
-known_below x s h is = elim (cases_eq x NEVER) [
-  | inl e ↦ let none : None ≡ Some s = subst (λ (y : ℕ). known_of y ≡ Some s) e is in absurd (grind (arith, none))
-  | inr d ↦
-      let some : Some x ≡ Some s = subst (λ (b : Bool). (if b then None else Some x) ≡ Some s) (differs x d) is in
-      let same : x ≡ s = ap (λ (o : Option ℕ). unwrap_or o 0) some in
-      grind (arith, same, d, h)
-]
 
 -- ---- limits of reach
 

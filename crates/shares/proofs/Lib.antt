@@ -1,3 +1,4 @@
+mod AllStops
 mod Attaining
 mod Counting
 mod Masks

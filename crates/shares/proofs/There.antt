@@ -1,5 +1,5 @@
 -- Each stop has a cell for each share: the least duration that attains it lies at or below the greatest of its minutes.
-use Rattle.std.proofs.Common.{◌≡◌, ◌⊎◌, ◌≤◌, ◌<◌, ◌+◌, ◌*◌, ◌++◌, ◌∷◌, [], ℕ, zero, suc, List, Option, Some, None}
+use Rattle.std.proofs.Common.{◌≡◌, ◌⊎◌, ◌≤◌, ◌<◌, ◌*◌, ◌++◌, ◌∷◌, [], ℕ, zero, suc, List, Option, Some, None}
 use Rattle.std.proofs.Common.{length, get_or, max, refl, ap, sym, subst, ◌∙◌, unwrap_or, inl, inr, arith}
 use Rattle.std.proofs.lemmas.Bool.{cases_lt}
 use Rattle.std.proofs.lemmas.List.{length-append}

@@ -38,8 +38,15 @@ pub record AreCellsAt (t : Times) (destinations : List StopNo) (share : ℕ) (ce
   pub each : (k : ℕ) (stop : StopNo) → slice_get destinations k ≡ Some stop →
       IsCell t share stop.0 (slice_index_or cells k None)
 
--- one list of cells per share, in the shares' order
-pub record AreCellsOf (t : Times) (destinations : List StopNo) (shares : List ℕ)
+-- one list of cells per share, in the shares' order: the cells of all stops
+pub record AreCellsOf (t : Times) (shares : List ℕ) (lists : List (Vec (Option ℕ) Global)) : Type 0 where
+  pub count : length lists ≡ length shares
+  pub each : (k share : ℕ) (cells : Vec (Option ℕ) Global) → slice_get shares k ≡ Some share →
+      slice_get lists k ≡ Some cells →
+      AreCells t share cells.items
+
+-- the same with the cells of the destinations
+pub record AreCellsOfAt (t : Times) (destinations : List StopNo) (shares : List ℕ)
     (lists : List (Vec (Option ℕ) Global)) : Type 0 where
   pub count : length lists ≡ length shares
   pub each : (k share : ℕ) (cells : Vec (Option ℕ) Global) → slice_get shares k ≡ Some share →

@@ -1,10 +1,11 @@
 //! Cells: the least duration that a share of a window's minutes attains.
 ghost use Rattle.std.specs.Prelude.{◌≡◌, ◌≢◌, ◌<◌, ◌≤◌, ◌*◌, ℕ, All, Some, length, max, slice_index, IfOk, IsTrue, ◌↔◌};
 ghost use Rattle.rounds.specs.Table.{at, known_of, label_in, IsLeastOrNone};
-ghost use Rattle.shares.specs.Percentiles.{minutes_within, Attains, IsCell, AreCellsAt, HoldMinutes, IsTop};
+ghost use Rattle.shares.specs.Percentiles.{minutes_within, Attains, IsCell, AreCells, AreCellsAt, HoldMinutes, IsTop};
 ghost use Rattle.shares.specs.Percentiles.{known_label};
 ghost use Rattle.trip_lanes.specs.declared.lanes.TheConstants.{LANES};
 
+use crate::stops::all_stops;
 use rounds::Durations;
 use std::alloc::{AllocError, Global};
 use std::simd::prelude::*;
@@ -23,8 +24,21 @@ pub fn cell(durations: &Durations, stop: StopNo, share: u32) -> Option<u32>
     least_attained(durations.lanes_of(stop), durations.minutes(), share)
 }
 
-/// The cell of each destination, in their order. The only error is out of memory.
+/// The cell of each stop, in order. The only error is out of memory.
 pub fn cells(
+    alloc: Global,
+    durations: &Durations,
+    share: u32,
+) -> Result<Vec<Option<u32>>, AllocError>
+    requires { share ≤ 100 }
+    ensures { IfOk result (λ cells. AreCells durations.now share cells.items) }
+{
+    let all = all_stops(alloc, durations.stops())?;
+    cells_at(alloc, durations, &all, share)
+}
+
+/// The cell of each destination, in their order. The only error is out of memory.
+pub fn cells_at(
     alloc: Global,
     durations: &Durations,
     destinations: &[StopNo],

@@ -2,23 +2,38 @@
 //! there. A single share is quicker by halving.
 ghost use Rattle.std.specs.Prelude.{◌≡◌, ◌<◌, ◌≤◌, ◌+◌, ◌^◌, ◌∷◌, [], ℕ, All, length, IfOk, OnOk};
 ghost use Rattle.rounds.specs.Table.{known_of, label_in, IsLeastOrNone};
-ghost use Rattle.shares.specs.Percentiles.{Attains, AreCellsOf, HoldMinutes, IsTop};
+ghost use Rattle.shares.specs.Percentiles.{Attains, AreCellsOf, AreCellsOfAt, HoldMinutes, IsTop};
 ghost use Rattle.shares.specs.Planes.{ArePlanes};
 ghost use Rattle.shares.specs.Ranks.{AreEmpty, AreLonger};
 
-use crate::percentiles::{cells, greatest};
+use crate::percentiles::{cells_at, greatest};
 use crate::planes::{PLANES, Plane, bits_of, fill_planes, value_at};
+use crate::stops::all_stops;
 use rounds::Durations;
 use std::alloc::{AllocError, Global};
 use timetable::{NEVER, StopNo};
 use trip_lanes::Lanes;
 
+/// The cells of all stops for each of some shares, in the shares' order: one list per share, with one cell per stop, in
+/// order. The only error is out of memory.
+pub fn cells_of(
+    alloc: Global,
+    durations: &Durations,
+    shares: &[u32],
+) -> Result<Vec<Vec<Option<u32>>>, AllocError>
+    requires { All (λ share. share ≤ 100) shares.now }
+    ensures { IfOk result (λ lists. AreCellsOf durations.now shares.now lists.items) }
+{
+    let all = all_stops(alloc, durations.stops())?;
+    cells_of_at(alloc, durations, &all, shares)
+}
+
 /// The cells of the destinations for each of some shares, in the shares' order: one list per share, with one cell per
 /// destination.
 ///
-/// Of several shares each destination's labels are laid out bit by bit once, whatever their number. The only error is
-/// out of memory.
-pub fn cells_of(
+/// If there are several shares, each destination's labels are laid out bit by bit once for all of them. The only error
+/// is out of memory.
+pub fn cells_of_at(
     alloc: Global,
     durations: &Durations,
     destinations: &[StopNo],
@@ -26,7 +41,7 @@ pub fn cells_of(
 ) -> Result<Vec<Vec<Option<u32>>>, AllocError>
     requires stops { All (λ stop. stop.0 < durations.now.stops) destinations.now }
     requires shares { All (λ share. share ≤ 100) shares.now }
-    ensures { IfOk result (λ lists. AreCellsOf durations.now destinations.now shares.now lists.items) }
+    ensures { IfOk result (λ lists. AreCellsOfAt durations.now destinations.now shares.now lists.items) }
 {
     match shares {
         [share] => cells_of_one(alloc, durations, destinations, *share),
@@ -43,10 +58,10 @@ fn cells_of_one(
 ) -> Result<Vec<Vec<Option<u32>>>, AllocError>
     requires stops { All (λ stop. stop.0 < durations.now.stops) destinations.now }
     requires share { share ≤ 100 }
-    ensures { IfOk result (λ lists. AreCellsOf durations.now destinations.now (share ∷ []) lists.items) }
+    ensures { IfOk result (λ lists. AreCellsOfAt durations.now destinations.now (share ∷ []) lists.items) }
 {
     let mut lists = Vec::with_capacity(alloc, 1)?;
-    lists.push(cells(alloc, durations, destinations, share)?)?;
+    lists.push(cells_at(alloc, durations, destinations, share)?)?;
     Ok(lists)
 }
 
@@ -59,7 +74,7 @@ fn cells_of_many(
 ) -> Result<Vec<Vec<Option<u32>>>, AllocError>
     requires stops { All (λ stop. stop.0 < durations.now.stops) destinations.now }
     requires shares { All (λ share. share ≤ 100) shares.now }
-    ensures { IfOk result (λ lists. AreCellsOf durations.now destinations.now shares.now lists.items) }
+    ensures { IfOk result (λ lists. AreCellsOfAt durations.now destinations.now shares.now lists.items) }
 {
     durations.known();
     let minutes = durations.minutes();

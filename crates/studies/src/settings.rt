@@ -10,7 +10,7 @@ use rounds::{MOST_MINUTES, MOST_RIDES, Window};
 use std::marker::Model;
 use timetable::StopNo;
 use work_book::MOST_TRIES;
-use workers::{Asked, limits_fit, shares_fit};
+use workers::{Study, limits_fit, shares_fit};
 
 /// The seconds of a service day, on the axis of a study's times.
 const DAY: u32 = 86_400;
@@ -85,16 +85,21 @@ impl Settings {
             && self.tries <= MOST_TRIES
     }
 
-    /// What is asked of every network, with these destinations.
-    pub fn asked<'a>(&'a self, destinations: &'a [StopNo]) -> Asked<'a>
+    /// What a study with these settings and destinations asks of every network, as a study that has no networks, origins
+    /// and opportunities yet.
+    pub fn asked<'a>(&'a self, destinations: &'a [StopNo]) -> Study<'a>
         requires { SettingsFit self.now }
         ensures { study.query_of result ≡ query_of self.now destinations.now }
     {
-        Asked {
+        Study {
+            number: 0,
+            networks: &[],
+            origins: &[],
+            opportunities: &[],
             window: self.window(),
             rides: self.rides,
             shares: self.shares.as_slice(),
-            limits: self.withins.as_slice(),
+            withins: self.withins.as_slice(),
             destinations,
         }
     }

@@ -90,7 +90,7 @@ pub fn watch_study<G: Gate + Sync, W: Watch, R: Threads + Wait + Sync>(
         networks: networks.as_slice(),
         origins: tables.origins.as_slice(),
         opportunities: tables.opportunities.as_slice(),
-        asked: settings.asked(tables.destinations.as_slice()),
+        ..settings.asked(tables.destinations.as_slice())
     };
     let matrix = matrix_of(rt, alloc, &study, settings, gate, watch)?;
     text_of_matrix(alloc, inputs, settings, feed, tables, matrix.as_ref())

@@ -86,9 +86,6 @@ pub number_old : (ids more : List (List ℕ)) (id : List ℕ) → list_any (byte
     number_in (ids ++ more) id ≡ number_in ids id
 number_old ids more id old = ap (λ (o : Option ℕ). unwrap_or o 0) (position-append (bytes_eq id) ids more old)
 
-or_left : (a b : Bool) → a ≡ true → (a || b) ≡ true
-or_left a b h = rw h refl
-
 -- rows whose identifiers are all known keep their values
 module _ {R D : Type 0} (key : R → List ℕ) (make : ℕ → R → D) where
   pub values_stay : (ids more : List (List ℕ)) (rows : List R) →
@@ -149,10 +146,6 @@ lost p xs h = by (list_any p xs) refl
 pub named_again : (known : List (List ℕ)) (id : List ℕ) → list_any (bytes_eq id) known ≡ true →
     named known (id ∷ []) ≡ known
 named_again known id h = rw h refl
-
-pub named_first : (known : List (List ℕ)) (id : List ℕ) → list_any (bytes_eq id) known ≡ false →
-    named known (id ∷ []) ≡ known ++ id ∷ []
-named_first known id h = rw h refl
 
 pub named-append : (known xs ys : List (List ℕ)) → named known (xs ++ ys) ≡ named (named known xs) ys
 named-append known [] ys = refl

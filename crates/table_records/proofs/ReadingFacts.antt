@@ -62,11 +62,6 @@ pub opened : (rows rest : List (List (List ℕ))) (found : Bool) (fields : List 
 opened [] rest found fields t g = cc (t, g.0)
 opened (r ∷ rs) rest found fields t g = λ k. sym g.1 k ∷ sym g.2 k
 
-pub ended : (rows rest : List (List (List ℕ))) (found : Bool) (fields : List (List ℕ)) → found ≡ false →
-    Gives rows found fields rest → rows ≡ []
-ended [] rest found fields t g = refl
-ended (r ∷ rs) rest found fields t g = cc (t, g.0)
-
 -- whether a header lacks a column, by the names as they were handed over
 pub lacks_here : (required : List (Bor (List ℕ))) (rows rest : List (List (List ℕ))) (header : List (List ℕ))
     (b : Bool) → rows ≡ header ∷ rest

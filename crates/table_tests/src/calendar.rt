@@ -46,6 +46,7 @@ SUN, 0,0,0,0,0,0,01,20260503,20260531
     Ok(has_monday_and_sunday(&calendar))
 }
 
+/// `read_calendar`.
 #[test]
 fn a_week_from_monday_on(rt: HostRuntime) -> Result<(), Fail> {
     assert!(rt; reads_monday_and_sunday(rt.alloc())?);

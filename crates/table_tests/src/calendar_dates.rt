@@ -43,6 +43,7 @@ fn reads_christmas(alloc: Global) -> Result<bool, FeedFault> {
     Ok(has_christmas(&dates))
 }
 
+/// `read_calendar_dates`.
 #[test]
 fn services_are_numbered_on(rt: HostRuntime) -> Result<(), Fail> {
     assert!(rt; reads_christmas(rt.alloc())?);

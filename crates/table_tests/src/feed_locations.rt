@@ -66,6 +66,7 @@ fn has_locations(feed: &Feed) -> bool {
         && feed.location(b"Z") == None
 }
 
+/// `read_feed`.
 #[test]
 fn a_location_is_a_stop_a_station_or_another(rt: HostRuntime) {
     assert!(rt; reads(rt.alloc(), Expected::Locations, station_feed()));
@@ -78,6 +79,7 @@ fn has_stations(feed: &Feed) -> bool {
         && !has_children(feed, b"A", &[])
 }
 
+/// `read_feed`.
 #[test]
 fn a_station_between_its_children_has_both(rt: HostRuntime) {
     assert!(rt; reads(rt.alloc(), Expected::Stations, station_feed()));
@@ -90,6 +92,7 @@ fn has_stops_of_locations(feed: &Feed) -> bool {
         && stands_for(feed, b"E", &[])
 }
 
+/// `read_feed`.
 #[test]
 fn a_location_stands_for_its_stops(rt: HostRuntime) {
     assert!(rt; reads(rt.alloc(), Expected::StopsOfLocations, station_feed()));
@@ -114,6 +117,7 @@ fn has_two_links(feed: &Feed) -> bool {
     feed.links() == [walk, change].as_slice()
 }
 
+/// `read_feed`.
 #[test]
 fn links_are_the_rows_that_give_a_walk(rt: HostRuntime) {
     assert!(rt; reads(rt.alloc(), Expected::TwoLinks, station_feed()));
@@ -124,6 +128,7 @@ fn has_three_unused(feed: &Feed) -> bool {
     feed.unused_transfers() == 3
 }
 
+/// `read_feed`.
 #[test]
 fn rows_without_a_walk_are_counted(rt: HostRuntime) {
     assert!(rt; reads(rt.alloc(), Expected::ThreeUnused, station_feed()));
@@ -134,11 +139,13 @@ fn has_no_transfers(feed: &Feed) -> bool {
     feed.links().is_empty() && feed.unused_transfers() == 0
 }
 
+/// `read_feed`.
 #[test]
 fn a_feed_without_transfers_has_no_links(rt: HostRuntime) {
     assert!(rt; reads(rt.alloc(), Expected::NoTransfers, small_feed()));
 }
 
+/// `read_feed`.
 #[test]
 fn an_unknown_stop_of_transfers_is_refused_at_its_record(rt: HostRuntime) {
     let files = FeedBytes {
@@ -155,6 +162,7 @@ fn an_unknown_stop_of_transfers_is_refused_at_its_record(rt: HostRuntime) {
     );
 }
 
+/// `read_feed`.
 #[test]
 fn a_fault_of_frequencies_comes_before_one_of_transfers(rt: HostRuntime) {
     let files = FeedBytes {

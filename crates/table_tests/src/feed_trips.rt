@@ -41,6 +41,7 @@ fn reads_three_trips(alloc: Global) -> Result<bool, FeedFault> {
     Ok(has_three_trips(&trips))
 }
 
+/// `read_feed_trips`.
 #[test]
 fn trips_have_routes_and_services(rt: HostRuntime) -> Result<(), Fail> {
     assert!(rt; reads_three_trips(rt.alloc())?);

@@ -123,6 +123,7 @@ fn is_small_on_mondays(feed: &Feed) -> bool {
     is_small(feed) && runs_on_mondays(feed)
 }
 
+/// `read_feed`.
 #[test]
 fn reads_a_feed(rt: HostRuntime) {
     assert!(rt; reads(rt.alloc(), Expected::SmallOnMondays, small_feed()));
@@ -137,6 +138,7 @@ fn has_calendars_and_departures(feed: &Feed) -> bool {
         && feed.trip(1).departures.as_slice().len() == 1
 }
 
+/// `read_feed`.
 #[test]
 fn takes_byte_order_marks_and_carriage_returns(rt: HostRuntime) {
     let files = FeedBytes {
@@ -163,6 +165,7 @@ fn takes_byte_order_marks_and_carriage_returns(rt: HostRuntime) {
     assert!(rt; reads(rt.alloc(), Expected::CalendarsAndDepartures, files));
 }
 
+/// `read_feed`.
 #[test]
 fn puts_records_in_order_of_sequence(rt: HostRuntime) {
     let times = b"stop_sequence,stop_id,departure_time,arrival_time,trip_id
@@ -174,6 +177,7 @@ fn puts_records_in_order_of_sequence(rt: HostRuntime) {
     assert!(rt; reads(rt.alloc(), Expected::Small, feed_of(STOPS, TRIPS, times)));
 }
 
+/// `read_feed`.
 #[test]
 fn counts_stops_alone(rt: HostRuntime) {
     let stops = b"location_type,stop_id\n1,S\n,A\n0,B\n2,E\n00,C\n";
@@ -196,6 +200,7 @@ fn has_three_services(feed: &Feed) -> bool {
         && feed.service_no(b"NEW") == Some(2)
 }
 
+/// `read_feed`.
 #[test]
 fn services_are_numbered_as_first_named(rt: HostRuntime) {
     assert!(rt; reads(rt.alloc(), Expected::ThreeServices, three_services()));
@@ -215,6 +220,7 @@ fn runs_on(feed: &Feed, trip: u32, route: u32, service: u32) -> bool {
     trip.route == route && trip.service == service
 }
 
+/// `read_feed`.
 #[test]
 fn trips_have_routes_and_services(rt: HostRuntime) {
     assert!(rt; reads(rt.alloc(), Expected::TripsOfServices, three_services()));
@@ -231,6 +237,7 @@ fn is_exception(row: &ExceptionRow, service: u32, adds: bool) -> bool {
     row.service == service && row.adds == adds
 }
 
+/// `read_feed`.
 #[test]
 fn exceptions_have_services(rt: HostRuntime) {
     assert!(rt; reads(rt.alloc(), Expected::TwoExceptions, three_services()));
@@ -241,6 +248,7 @@ fn has_one_exception(feed: &Feed) -> bool {
     is_small(feed) && feed.calendar().is_empty() && feed.exceptions().len() == 1
 }
 
+/// `read_feed`.
 #[test]
 fn one_calendar_is_enough(rt: HostRuntime) {
     let files = FeedBytes {
@@ -272,6 +280,7 @@ fn departs(feed: &Feed, trip: u32, rows: &[Departures]) -> bool {
     trip < feed.trip_count() && feed.trip(trip).departures.as_slice() == rows
 }
 
+/// `read_feed`.
 #[test]
 fn departures_of_each_trip(rt: HostRuntime) {
     let files = FeedBytes {
@@ -290,6 +299,7 @@ fn is_empty(feed: &Feed) -> bool {
     feed.stop_count() == 0 && feed.service_count() == 0 && feed.trip_count() == 0
 }
 
+/// `read_feed`.
 #[test]
 fn an_empty_feed(rt: HostRuntime) {
     let files = FeedBytes {
@@ -306,6 +316,7 @@ fn an_empty_feed(rt: HostRuntime) {
     assert!(rt; reads(rt.alloc(), Expected::Empty, files));
 }
 
+/// `read_feed`.
 #[test]
 fn times_and_dates_of_texts(rt: HostRuntime) {
     assert!(rt; read_time(b" 167:59:59 ") == Some(604_799));
@@ -325,6 +336,7 @@ fn has_events(feed: &Feed, trip: u32, events: &[Event]) -> bool {
     trip < feed.trip_count() && feed.trip(trip).events.as_slice() == events
 }
 
+/// `read_feed`.
 #[test]
 fn trips_with_a_record_of_no_stop_are_set_aside(rt: HostRuntime) {
     let times = b"trip_id,arrival_time,departure_time,stop_id,stop_sequence
@@ -347,6 +359,7 @@ fn has_open_times(feed: &Feed) -> bool {
     feed.trip_count() == 2 && has_events(feed, 0, &[first, second, third])
 }
 
+/// `read_feed`.
 #[test]
 fn open_times_and_pickups(rt: HostRuntime) {
     let times =

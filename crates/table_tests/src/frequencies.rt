@@ -23,6 +23,7 @@ fn gives(alloc: Global, bytes: &[u8], second: &[Departures]) -> Result<bool, Fee
     Ok(has_departures(rows.as_slice(), second))
 }
 
+/// `read_frequencies`.
 #[test]
 fn rows_of_each_trip(rt: HostRuntime) -> Result<(), Fail> {
     let early = Departures {

@@ -5,7 +5,7 @@
 //! - `calendar`, `calendar_dates`, `feed_trips`, `frequencies`, `locations`, `routes`, `stop_times`, `transfers`: one
 //!   file each.
 //! - `feeds`, `feed_locations`, `origins`: whole feeds (`test_feeds`), and an analyst's own files.
-//! Files that are refused are data (`.ci/fault_cases.py`), and so are those past a limit (`.ci/size_runs.py`).
+//! Files that are refused are data (`tests/program/fault_cases.py`), and so are those past a limit (`test_sizes.py`).
 //!
 //! - `test_identifiers`: identifiers of trips, stops, routes and services, which several of these are read beside.
 #![tactic(auto)]

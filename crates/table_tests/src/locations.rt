@@ -39,6 +39,7 @@ fn locations_of(alloc: Global, bytes: &[u8]) -> Result<Box<Locations>, Fail>
     }
 }
 
+/// `read_locations`, `Locations::names`.
 #[test]
 fn stops_and_stations_are_numbered_apart(rt: HostRuntime) -> Result<(), Fail> {
     let locations = locations_of(
@@ -58,6 +59,7 @@ fn has_two_stations(locations: &Locations) -> bool {
         && stands_for(locations, b"E", &[])
 }
 
+/// `read_locations`.
 #[test]
 fn a_station_stands_for_its_stops(rt: HostRuntime) -> Result<(), Fail> {
     // B's parent comes later in the file, D's is a stop, C's is nowhere, and the entrance E is no stop
@@ -95,6 +97,7 @@ fn fault_of_many(alloc: Global, stops: u32) -> Result<Option<FeedFault>, AllocEr
     Ok(fault_of(alloc, &bytes))
 }
 
+/// `read_locations`.
 #[test]
 fn at_most_65_535_locations(rt: HostRuntime) -> Result<(), Fail> {
     let many = fault_of_many(rt.alloc(), 65_536)?;

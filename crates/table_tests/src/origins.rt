@@ -59,6 +59,7 @@ fn expect_opportunities(rt: &impl Abort, alloc: Global, file: Option<&[u8]>, wan
     assert!(rt; gives(alloc, Expected::Opportunities(file, want)));
 }
 
+/// `read_origins`.
 #[test]
 fn origins_in_file_order(rt: HostRuntime) {
     let alloc = rt.alloc();
@@ -78,6 +79,7 @@ fn origins_in_file_order(rt: HostRuntime) {
     expect_origins(&rt, alloc, Some(b"stop_id\n"), &[]);
 }
 
+/// `read_origins`.
 #[test]
 fn opportunities_at_each_stop(rt: HostRuntime) {
     let alloc = rt.alloc();

@@ -43,6 +43,7 @@ fn show(row: &ByteRecord, text: &mut Vec<u8>) -> Result<(), AllocError> {
     Ok(())
 }
 
+/// `Rows::new`, `field`.
 #[test]
 fn reads_records(rt: HostRuntime) -> Result<(), Fail> {
     let cases: [(&[u8], &[u8]); 15] = [
@@ -69,6 +70,7 @@ fn reads_records(rt: HostRuntime) -> Result<(), Fail> {
     Ok(())
 }
 
+/// `column`.
 #[test]
 fn finds_columns_by_name(rt: HostRuntime) -> Result<(), Fail> {
     let mut rows = reader(rt.alloc(), b"id, name ,id,\tzone\nA,Alpha,B,1\nC\n")?;
@@ -97,6 +99,7 @@ fn has_fields(row: &ByteRecord, first: &[u8], second: &[u8]) -> bool {
     field(row, Some(0)) == first && field(row, Some(1)) == second && field(row, None).is_empty()
 }
 
+/// `Identifiers::id`, `Identifiers::push`.
 #[test]
 fn numbers_identifiers(rt: HostRuntime) -> Result<(), Fail> {
     let mut ids = identifiers(rt.alloc(), &[])?;
@@ -119,6 +122,7 @@ fn numbers_identifiers(rt: HostRuntime) -> Result<(), Fail> {
     Ok(())
 }
 
+/// `trim`.
 #[test]
 fn trims_spaces(rt: HostRuntime) {
     let cases: [(&[u8], &[u8]); 4] = [
@@ -132,6 +136,7 @@ fn trims_spaces(rt: HostRuntime) {
     }
 }
 
+/// `trim`.
 #[test]
 fn reads_numbers(rt: HostRuntime) {
     let cases: [(&[u8], Option<u32>); 10] = [
@@ -151,6 +156,7 @@ fn reads_numbers(rt: HostRuntime) {
     }
 }
 
+/// `read_time`.
 #[test]
 fn reads_times(rt: HostRuntime) {
     let cases: [(&[u8], Option<u32>); 16] = [
@@ -176,6 +182,7 @@ fn reads_times(rt: HostRuntime) {
     }
 }
 
+/// `read_date`.
 #[test]
 fn reads_dates(rt: HostRuntime) {
     let cases: [(&[u8], Option<(i16, i8, i8)>); 12] = [
@@ -201,6 +208,7 @@ fn reads_dates(rt: HostRuntime) {
     }
 }
 
+/// `FeedFault::from`, `FeedFault::at`.
 #[test]
 fn tells_out_of_memory(rt: HostRuntime) {
     let fault = FeedFault::at(FileName::Trips, 7, What::BadDate);

@@ -19,12 +19,14 @@ fn reads_two_routes(alloc: Global) -> Result<bool, FeedFault> {
     Ok(has_two_routes(&ids))
 }
 
+/// `read_routes`, `read_records`, `open_table`.
 #[test]
 fn routes_are_numbered_in_file_order(rt: HostRuntime) -> Result<(), Fail> {
     assert!(rt; reads_two_routes(rt.alloc())?);
     Ok(())
 }
 
+/// `read_routes`.
 #[test]
 fn a_header_alone_names_no_route(rt: HostRuntime) -> Result<(), Fail> {
     let ids = read_routes(rt.alloc(), b"route_id\n")?;

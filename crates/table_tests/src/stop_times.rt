@@ -78,6 +78,7 @@ fn expect_fault(rt: &impl Abort, alloc: Global, bytes: &'static [u8], at: u64, w
     assert_eq!(rt; fault, Some(FeedFault::at(FileName::StopTimes, at, what)));
 }
 
+/// `read_stop_times`.
 #[test]
 fn times_between_timed_events(rt: HostRuntime) -> Result<(), Fail> {
     let expected = [
@@ -100,6 +101,7 @@ T1,C,3,09:10:00,09:10:00
     Ok(())
 }
 
+/// `read_stop_times`.
 #[test]
 fn times_between_are_rounded_down(rt: HostRuntime) -> Result<(), Fail> {
     let expected = [
@@ -124,6 +126,7 @@ T2,B,20,  ,
     Ok(())
 }
 
+/// `read_stop_times`.
 #[test]
 fn one_time_gives_the_other(rt: HostRuntime) -> Result<(), Fail> {
     let expected = [
@@ -154,6 +157,7 @@ T1,C,3, 9:02:00 ,09:03:00
     Ok(())
 }
 
+/// `read_stop_times`.
 #[test]
 fn one_forbids_boarding_and_alighting(rt: HostRuntime) -> Result<(), Fail> {
     let mut expected = [event(0, NINE, NINE); 5];
@@ -178,6 +182,7 @@ T1,A,5,09:00:00, ,4294967295
     Ok(())
 }
 
+/// `read_stop_times`.
 #[test]
 fn trips_set_aside(rt: HostRuntime) -> Result<(), Fail> {
     let alloc = rt.alloc();
@@ -206,6 +211,7 @@ fn trips_set_aside(rt: HostRuntime) -> Result<(), Fail> {
     Ok(())
 }
 
+/// `read_stop_times`.
 #[test]
 fn leading_zeros(rt: HostRuntime) -> Result<(), Fail> {
     let alloc = rt.alloc();

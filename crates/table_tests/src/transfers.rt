@@ -37,6 +37,7 @@ fn gives(alloc: Global, bytes: &[u8], links: &[Link], unused: u32) -> Result<boo
     Ok(has_links(&transfers, links, unused))
 }
 
+/// `read_transfers`.
 #[test]
 fn stops_and_stations_are_linked(rt: HostRuntime) -> Result<(), Fail> {
     let walk = Link {
@@ -70,6 +71,7 @@ fn stops_and_stations_are_linked(rt: HostRuntime) -> Result<(), Fail> {
     Ok(())
 }
 
+/// `read_transfers`.
 #[test]
 fn rows_without_a_walk_are_counted(rt: HostRuntime) -> Result<(), Fail> {
     let walk = Link {
@@ -92,6 +94,7 @@ A,B,3,60,,\nA,B,2,60,R1,\nA,Z,2,x,,T1\nA,B,2,  ,,\nA,,2,60,,\nA,A,0,60,,\nS,T,2,
     Ok(())
 }
 
+/// `read_transfers`.
 #[test]
 fn change_times_are_stated(rt: HostRuntime) -> Result<(), Fail> {
     let stop = Link {
@@ -127,6 +130,7 @@ A,A,2,60,\nS,S,02,4294967295,\nS,S,1,30,\nT,T,2,60,\nE,E,2,60,\nA,A,,60,\nA,A,2,
     Ok(())
 }
 
+/// `read_transfers`.
 #[test]
 fn no_column_and_no_record_is_needed(rt: HostRuntime) -> Result<(), Fail> {
     let alloc = rt.alloc();

@@ -1,5 +1,6 @@
 pub mod Known
 pub mod Lowering
+pub mod Mapped
 pub mod Adding
 pub mod Ascending
 pub mod Boarding
@@ -9,3 +10,4 @@ pub mod Rows
 pub mod Searching
 pub mod Unique
 pub mod Viewing
+pub mod Renumbering

@@ -1,6 +1,6 @@
 -- Facts of the events of lines, as they are laid out.
 use Rattle.std.proofs.Common.{◌≡◌, inl, inr, ℕ, ◌+◌, ◌*◌, ◌<◌, ◌≤◌, List, [], ◌∷◌, ◌++◌, map, false, length, slice_get}
-use Rattle.std.proofs.Common.{slice_index, get_or, Some, All, refl, sym, ◌∙◌, ap, subst, arith}
+use Rattle.std.proofs.Common.{slice_index, get_or, Some, All, sym, ◌∙◌, ap, subst, arith}
 use Rattle.std.proofs.Math.Nat.{mul-le-mul_right}
 use Rattle.std.proofs.lemmas.Bool.{cases_lt}
 use Rattle.std.proofs.lemmas.Option.{same_Some, slice_get-get_or, slice_get_within, get_or_from_slice_get}
@@ -56,13 +56,6 @@ for_more {X} Fits n lines made line x ok at fits =
             subst (λ (z : X). Fits other z) (sym new.1) (subst (λ (l : List ℕ). Fits l x) same fits)
       ];
     }
-
-pub for_none : {X : Type 0} (Fits : List ℕ → X → Type 0) (lines : List (List ℕ)) → AreFor Fits 0 lines []
-for_none Fits lines = record {
-  size = refl;
-  each = λ k line x h g. absurd (let w = slice_get_within [] k x g in
-      omega (arith, w));
-}
 
 -- the events of a trip
 pub events_at : (trips : List Trip) (i : ℕ) (t : Trip) → slice_get trips i ≡ Some t → events_of trips i ≡ t.events

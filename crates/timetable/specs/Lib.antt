@@ -11,4 +11,5 @@ pub mod Faults
 pub mod Least
 pub mod Journeys
 pub mod Steps
+pub mod Renumbering
 pub mod FaultWords

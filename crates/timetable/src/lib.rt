@@ -8,7 +8,8 @@
 //!   one piece of memory.
 //! - `faults`: [`NetFault`], why footpaths or a network were refused.
 //! - `limits`: how large all of these may be.
-//! - `least`: [`NEVER`], the label of a stop that isn't reached, and the law that least durations are unique.
+//! - `least`: [`NEVER`], the label of a stop that isn't reached, the law that least durations are unique, and
+//!   that they stay when stops are numbered anew.
 //! - [`Network::serving`], [`Feet::seconds`] and [`are_stops`]: doors for other programs.
 //!
 //! `specs/` has the words of every layer above: what a ride, a journey and a least duration are (`Journeys`, `Least`),
@@ -30,7 +31,7 @@ mod views;
 pub use faults::NetFault;
 pub use flat_lists::FlatLists;
 pub use footpaths::Feet;
-pub use least::{NEVER, least_durations_are_unique};
+pub use least::{NEVER, least_durations_are_unique, renumbered_stops_keep_durations};
 pub use limits::{
     END_OF_AXIS, MOST_CHANGE_SECONDS, MOST_EVENTS, MOST_FOOT_SECONDS, MOST_FOOTPATHS, MOST_STOPS,
     MOST_TRIPS, limits_are_as_stated,

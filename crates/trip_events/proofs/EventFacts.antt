@@ -27,11 +27,11 @@ pub none_first : {X : Type 0} (xs : List X) → None ≡ slice_get xs 0 → xs �
 none_first [] h = refl
 none_first (x ∷ xs) h = cc h
 
-no_parts : {X : Type 0} (xs ys : List X) → xs ++ ys ≡ [] → (xs ≡ []) × (ys ≡ [])
+pub no_parts : {X : Type 0} (xs ys : List X) → xs ++ ys ≡ [] → (xs ≡ []) × (ys ≡ [])
 no_parts [] ys h = (refl, h)
 no_parts (x ∷ xs) ys h = cc h
 
-none_mapped : {X Y : Type 0} (f : X → Y) (xs : List X) → map f xs ≡ [] → xs ≡ []
+pub none_mapped : {X Y : Type 0} (f : X → Y) (xs : List X) → map f xs ≡ [] → xs ≡ []
 none_mapped f [] h = refl
 none_mapped f (x ∷ xs) h = cc h
 
@@ -184,7 +184,7 @@ in_time n before (s ∷ rest) early all =
     (filled_on (nearer s.times before) rest) (times.arrive, times.depart)
     (in_time n (nearer s.times before) rest (nearer_timely s.times before sound.times early) more)
 
-neither : (a b : Bool) → (a || b) ≡ false → (a ≡ false) × (b ≡ false)
+pub neither : (a b : Bool) → (a || b) ≡ false → (a ≡ false) × (b ≡ false)
 neither true b h = cc h
 neither false b h = (refl, h)
 

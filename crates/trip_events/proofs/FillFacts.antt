@@ -46,10 +46,6 @@ later_gap d a i j n some le =
     let part = le-div ((a - d) * i / n) ((a - d) * j) n some (omega (arith, low, more)) in
     omega (arith, part)
 
--- the last gap ends at the arrival
-last_gap : (d a n : ℕ) → 0 < n → d ≤ a → time_at_gap d a n n ≡ a
-last_gap d a n some le = let whole = mul-div_left (a - d) some in omega (arith, whole, le)
-
 -- no gap has passed
 no_gap : (d a n : ℕ) → 0 < n → time_at_gap d a 0 n ≡ d
 no_gap d a n some =

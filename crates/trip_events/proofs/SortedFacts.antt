@@ -17,7 +17,7 @@ differs : (m n : ℕ) → m ≢ n → (m == n) ≡ false
 differs m n h = grind (arith, nat_tests)
 
 -- a record of a trip, and of another
-more_same : (t : ℕ) (rows : List (ℕ × StopTime)) (s : StopTime) →
+pub more_same : (t : ℕ) (rows : List (ℕ × StopTime)) (s : StopTime) →
     of_trip t (rows ++ (t, s) ∷ []) ≡ of_trip t rows ++ s ∷ []
 more_same t rows s =
     rw (
@@ -26,7 +26,7 @@ more_same t rows s =
       map-append (λ (r : ℕ × StopTime). r.1) (filter (λ (r : ℕ × StopTime). r.0 == t) rows) ((t, s) ∷ []),
     ) refl
 
-more_other : (t u : ℕ) (rows : List (ℕ × StopTime)) (s : StopTime) → t ≢ u →
+pub more_other : (t u : ℕ) (rows : List (ℕ × StopTime)) (s : StopTime) → t ≢ u →
     of_trip u (rows ++ (t, s) ∷ []) ≡ of_trip u rows
 more_other t u rows s ne =
     rw (
@@ -36,7 +36,7 @@ more_other t u rows s ne =
     ) refl
 
 -- a record that comes last is put among those before it
-insert_all_push : (sorted trip_times : List StopTime) (s : StopTime) →
+pub insert_all_push : (sorted trip_times : List StopTime) (s : StopTime) →
     insert_all sorted (trip_times ++ s ∷ []) ≡ insert_in_order s (insert_all sorted trip_times)
 insert_all_push sorted [] s = refl
 insert_all_push sorted (t ∷ trip_times) s = insert_all_push (insert_in_order t sorted) trip_times s
@@ -83,11 +83,6 @@ any_in_order p trip_times = any_all p [] trip_times ∙ any_or (list_any p trip_
 pub number_in_order : (n : ℕ) (trip_times : List StopTime) →
     has_number n (in_order trip_times) ≡ has_number n trip_times
 number_in_order n trip_times = any_in_order (λ (s : StopTime). s.sequence == n) trip_times
-
-pub sorted_length : (rows : List (ℕ × StopTime)) (first : ℕ) (ids : List (List ℕ)) →
-    length (sorted_from rows first ids) ≡ length ids
-sorted_length rows first [] = refl
-sorted_length rows first (id ∷ ids) = omega (arith, sorted_length rows (first + 1) ids)
 
 pub sorted_none : (first : ℕ) (ids : List (List ℕ)) → sorted_from [] first ids ≡ replicate (length ids) []
 sorted_none first [] = refl

@@ -30,7 +30,7 @@ use Rattle.trip_events.proofs.SortedFacts.{All-insert_in_order, any_in_order, le
 use Rattle.trip_events.proofs.SortedFacts.{sorted_at, sorted_more, sorted_none}
 
 -- the records with one more
-stop_times_push : (trips stops : List (List ℕ)) (at : ℕ) (rows : List TimeRow) (r : TimeRow)
+pub stop_times_push : (trips stops : List (List ℕ)) (at : ℕ) (rows : List TimeRow) (r : TimeRow)
     → stop_times_from trips stops at (rows ++ r ∷ [])
     ≡ stop_times_from trips stops at rows ++ (trip_of trips r, stop_time_of stops (length rows + at) r) ∷ []
 stop_times_push trips stops at [] r =

@@ -1,5 +1,5 @@
 -- Ascending records.
-use Rattle.std.proofs.Common.{◌≡◌, ◌≢◌, ◌<◌, ◌≤◌, ◌+◌, ◌==◌, ◌||◌, ℕ, zero, suc, Bool, true, false, List, [], ◌∷◌}
+use Rattle.std.proofs.Common.{◌≡◌, ◌≢◌, ◌<◌, ◌≤◌, ◌+◌, ◌==◌, ℕ, zero, suc, Bool, true, false, List, [], ◌∷◌}
 use Rattle.std.proofs.Common.{length, get_or, insert, arith, refl}
 use Rattle.std.proofs.lemmas.Bool.Decides.{nat_tests}
 use Rattle.std.specs.Prelude.{None, nat_lt}
@@ -91,23 +91,6 @@ fits_at (suc (suc p)) low (s ∷ rest) x up le within below beyond =
       ascending = (up.0, more.ascending);
       placed = rw (not_below x.sequence s.sequence (omega arith), more.placed) refl;
     }
-
--- a record with that number
-pub present : (k n : ℕ) (xs : List StopTime) (d : StopTime) → k < length xs → (get_or xs k d).sequence ≡ n →
-    list_any (has n) xs ≡ true
-present zero n [] d lt e = absurd (omega arith)
-present (suc k) n [] d lt e = absurd (omega arith)
-present zero n (s ∷ rest) d lt e =
-    let here : (s.sequence == n) ≡ true = rw e (same n) in
-    rw here refl
-  where
-    same : (m : ℕ) → (m == m) ≡ true
-    same m = grind (arith, nat_tests)
-present (suc k) n (s ∷ rest) d lt e = rw (present k n rest d (omega arith) e) (either (s.sequence == n))
-  where
-    either : (b : Bool) → (b || true) ≡ true
-    either true = refl
-    either false = refl
 
 -- a default makes no difference
 pub any_default : (xs : List StopTime) (k : ℕ) (d e : StopTime) → k < length xs → get_or xs k d ≡ get_or xs k e

@@ -8,7 +8,7 @@ use Rattle.timetable.specs.declared.trips.Event.{Event}
 use Rattle.timetable.specs.declared.trips.Trip.{Trip}
 use Rattle.timetable.specs.declared.least.TheConstants.{NEVER}
 use Rattle.timetable.specs.Steps.{Lowers}
-use Rattle.timetable.proofs.Lowering.{lowers_alike, lowers_both, lowers_none}
+use Rattle.timetable.proofs.Lowering.{lowers_alike, lowers_both}
 use Rattle.trip_lanes.proofs.Carrying.{BoardsBelow, CarriesBelow, carry_alight, carry_pass, boards_still, boards_here}
 use Rattle.trip_lanes.proofs.Carrying.{boards_not}
 use Rattle.trip_lanes.specs.Lane.{lane, MarksFallenOf}
@@ -19,16 +19,6 @@ pub record LaneAt (ready : List ℕ) (t : Trip) (x : ℕ) (old now : List ℕ) (
   pub either : (bar ≡ 0) ⊎ (bar ≡ NEVER)
   pub aboard : bar ≡ 0 → BoardsBelow ready t x
   pub waiting : bar ≡ NEVER → BoardsBelow ready t x → ⊥
-
--- no lane is at any event before the first
-pub lane_start : (ready : List ℕ) (t : Trip) (old : List ℕ) → LaneAt ready t 0 old old NEVER
-lane_start ready t old =
-    record {
-      lowered = lowers_none old (λ p y c. omega (arith, c.1));
-      either = inr refl;
-      aboard = λ z. absurd (omega (arith, z));
-      waiting = λ n b. omega (arith, b.below);
-    }
 
 module _ (ready : List ℕ) (t : Trip) (x : ℕ) (here : Event) (at_x : slice_get t.events x ≡ Some here) where
   -- who is aboard gets off

@@ -1,13 +1,10 @@
 -- Labels that fall to what is offered.
-use Rattle.std.proofs.Common.{ℕ, ◌<◌, inl, inr, List, length, slice_index, refl, sym, ◌∙◌, arith, subst}
+use Rattle.std.proofs.Common.{ℕ, ◌<◌, inl, inr, List, length, slice_index, sym, ◌∙◌, arith, subst}
 use Rattle.timetable.specs.Steps.{Lowers}
 use Rattle.trip_lanes.specs.Scan.{NothingLower, FallsTo}
 use Rattle.trip_lanes.specs.Falls.{AreFalls}
 use Rattle.trip_lanes.specs.declared.falls.Fall.{Fall}
 use Rattle.trip_lanes.proofs.Carry.{lane_falls}
-
-pub falls_none : {C : ℕ → ℕ → Type 0} (a : List ℕ) → FallsTo C a a
-falls_none a = record { same_length = refl; falls = λ p. omega arith; offered = λ p l. inl refl }
 
 -- one change after another
 pub falls_then : {C D : ℕ → ℕ → Type 0} {a b c : List ℕ} → FallsTo C a b → Lowers D b c → ((p x : ℕ) → D p x → C p x) →
@@ -22,27 +19,6 @@ falls_then {C} {D} {a} {b} {c} h k into =
             | inl s ↦ elim (h.offered p l) [ inl e ↦ inl (s ∙ e) | inr o ↦ inr (subst (C p) (sym s) o) ]
             | inr d ↦ inr (into p (slice_index c p) d)
           ];
-    }
-
-pub falls_both : {C : ℕ → ℕ → Type 0} {a b c : List ℕ} → FallsTo C a b → FallsTo C b c → FallsTo C a c
-falls_both {C} {a} {b} {c} h k =
-    record {
-      same_length = k.same_length ∙ h.same_length;
-      falls = λ p. let f = h.falls p in let g = k.falls p in omega arith;
-      offered = λ p l.
-          let m : p < length b = omega (arith, h.same_length) in
-          elim (k.offered p m) [
-            | inl s ↦ elim (h.offered p l) [ inl e ↦ inl (s ∙ e) | inr o ↦ inr (subst (C p) (sym s) o) ]
-            | inr d ↦ inr d
-          ];
-    }
-
-pub falls_alike : {C D : ℕ → ℕ → Type 0} {a b : List ℕ} → ((p x : ℕ) → C p x → D p x) → FallsTo C a b → FallsTo D a b
-falls_alike into h =
-    record {
-      same_length = h.same_length;
-      falls = h.falls;
-      offered = λ p l. elim (h.offered p l) [ inl e ↦ inl e | inr o ↦ inr (into p _ o) ];
     }
 
 -- labels that fell as far as anything is offered

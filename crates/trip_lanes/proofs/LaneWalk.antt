@@ -7,17 +7,13 @@ use Rattle.timetable.specs.declared.trips.StopNo.{StopNo}
 use Rattle.timetable.specs.declared.least.TheConstants.{NEVER}
 use Rattle.timetable.specs.Footpaths.{FeetData}
 use Rattle.timetable.specs.Steps.{Lowers, Leaves}
-use Rattle.timetable.proofs.Lowering.{lowers_alike, lowers_both, lowers_none}
+use Rattle.timetable.proofs.Lowering.{lowers_alike, lowers_both}
 use Rattle.trip_lanes.specs.Lane.{LeavesLaterTo}
 use Rattle.trip_lanes.proofs.Walking.{ChangedAt}
 
 -- one of the first x walks of the list
 abbrev pub LaterBelow : ℕ → List (StopNo × ℕ) → ℕ → ℕ → ℕ → ℕ → Type 0
 LaterBelow never row time x p end = (o : LeavesLaterTo never row time p end) × (o.0 < x)
-
-pub later_none : (never : ℕ) (row : List (StopNo × ℕ)) (time : ℕ) (labels : List ℕ) →
-    Lowers (LaterBelow never row time 0) labels labels
-later_none never row time labels = lowers_none labels (λ p x o. omega (arith, o.1))
 
 pub later_one : (never : ℕ) (row : List (StopNo × ℕ)) (time x stop seconds late : ℕ) {old mid new : List ℕ} →
     slice_get row x ≡ Some (record { 0 = stop }, seconds) → late ≡ min (time + seconds) never →

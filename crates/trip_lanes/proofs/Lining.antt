@@ -2,7 +2,7 @@
 use Rattle.std.proofs.Common.{◌≡◌, ℕ, ◌+◌, ◌<◌, ◌≤◌, ◌⊎◌, inl, inr, false, List, [], length, get_or, slice_index}
 use Rattle.std.proofs.Common.{slice_get, Some, IsTrue, refl, sym, ◌∙◌, arith}
 use Rattle.std.proofs.lemmas.Bool.{cases_lt}
-use Rattle.std.proofs.lemmas.Option.{same_Some, slice_get_within, slice_get-get_or}
+use Rattle.std.proofs.lemmas.Option.{slice_get_within, slice_get-get_or}
 use Rattle.timetable.specs.declared.trips.Event.{Event}
 use Rattle.timetable.specs.declared.trips.Trip.{Trip}
 use Rattle.timetable.specs.LineViews.{IsAt}
@@ -13,14 +13,7 @@ use Rattle.trip_lanes.specs.Scan.{NothingLower, FallsTo}
 use Rattle.trip_lanes.specs.Rows.{NoneOvertakes, IsCutViewOf, CarriesRow, IsCaught, IsPast, NoneCaughtBefore}
 use Rattle.trip_lanes.proofs.Again.{nothing_changes}
 use Rattle.trip_lanes.proofs.Carry.{lane_falls}
-use Rattle.trip_lanes.proofs.Falling.{falls_none, falls_then, lowers_of}
-
--- a trip makes one event at a position
-pub one_event : (rows : List (List Event)) (r i j : ℕ) (e f : Event) → i ≡ j → IsAt rows r i e → IsAt rows r j f → e ≡ f
-one_event rows r i j e f same a b =
-    let row = same_Some _ _ (sym a.trip ∙ b.trip) in
-    let event = rw (row, same) at a.event in
-    same_Some _ _ (sym event ∙ b.event)
+use Rattle.trip_lanes.proofs.Falling.{falls_then, lowers_of}
 
 -- there is such a trip
 pub slice_get_row : (rows : List (List Event)) (r j : ℕ) (e : Event) → IsAt rows r j e → r < length rows
@@ -60,16 +53,6 @@ pub record LineAt (before ready : List ℕ) (rows : List (List Event)) (from x y
   pub rides : (r j : ℕ) → from ≤ j → j < x → IsCaught before ready rows r j → (q : ℕ) × (q ≤ r) × On q
 
 module _ (before ready : List ℕ) (rows : List (List Event)) (from : ℕ) where
-  pub line_start : {On : ℕ → Type 0} (old : List ℕ) → ((r : ℕ) → On r → ⊥) →
-      LineAt before ready rows from from from old old On
-  line_start old none =
-      record {
-        falls = falls_none old;
-        aboard = λ r on. absurd (none r on);
-        past = λ r j low below c. absurd (omega arith);
-        rides = λ r j low below c. absurd (omega arith);
-      }
-
   -- who is aboard gets off
   pub line_alight : {On : ℕ → Type 0} (never x stop best : ℕ) {old mid new : List ℕ} → NoneOvertakes rows →
       ((r : ℕ) (e : Event) → IsAt rows r x e → e.stop.0 ≡ stop) →
@@ -225,24 +208,7 @@ module _ (before ready : List ℕ) (rows : List (List Event)) (from : ℕ) where
             omega arith
       ])
 
--- a ride on one of the trips is a ride on that trip
-pub row_carries : (ready : List ℕ) (rows : List (List Event)) (p end : ℕ) (c : CarriesRow ready rows p end) (t : Trip) →
-    slice_get rows c.r ≡ Some t.events → Carries ready t p end
-row_carries ready rows p end c t at =
-    let from : slice_get t.events c.j ≡ Some c.on = rw (same_Some _ _ (sym c.from.trip ∙ at)) at c.from.event in
-    let to : slice_get t.events c.i ≡ Some c.off = rw (same_Some _ _ (sym c.to.trip ∙ at)) at c.to.event in
-    record {
-      j = c.j;
-      i = c.i;
-      on = c.on;
-      off = c.off;
-      ride = record { from = from; to = to; later = c.later; may_board = c.may_board; may_alight = c.may_alight };
-      in_time = c.in_time;
-      stop = c.stop;
-      time = c.time;
-    }
-
--- and the other way round
+-- a ride on a trip of the line is a ride on the line
 pub carries_row : (ready : List ℕ) (rows : List (List Event)) (r p end : ℕ) (t : Trip) →
     slice_get rows r ≡ Some t.events → Carries ready t p end → CarriesRow ready rows p end
 carries_row ready rows r p end t at c =

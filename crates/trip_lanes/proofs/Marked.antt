@@ -1,9 +1,9 @@
 -- Stops from which nobody walks to a lower label.
 use Rattle.std.proofs.Common.{◌≡◌, ℕ, ◌+◌, ◌<◌, ◌≤◌, inl, inr, List, length, slice_index, slice_get, Some, Bool, true}
-use Rattle.std.proofs.Common.{refl, sym, ◌∙◌, ap, arith}
+use Rattle.std.proofs.Common.{refl, arith}
 use Rattle.std.proofs.lemmas.Bool.{cases_lt}
 use Rattle.timetable.specs.Footpaths.{FootLists, FeetData}
-use Rattle.timetable.specs.Steps.{Lowers, WalkedOrStayed}
+use Rattle.timetable.specs.Steps.{Lowers}
 use Rattle.timetable.proofs.Lowering.{lowers_alike, lowers_both}
 use Rattle.trip_lanes.proofs.Walking.{OfferedBelow, TransferredBelow}
 use Rattle.trip_lanes.specs.Scan.{NothingLower}
@@ -40,24 +40,6 @@ offer_skip feet ride x old mid h none =
       ]
     ])
     (lowers_both h (nothing_lowers mid still))
-
--- what a stop offers is offered by the same label elsewhere
-pub offer_as : (feet : FootLists) (ridden ride : List ℕ) (x p y : ℕ) → slice_index ridden x ≡ slice_index ride x →
-    OfferedFrom feet ridden x p y → WalkedOrStayed feet ride p y
-offer_as feet ridden ride x p y same o =
-    elim o [
-      | inl stay ↦ inl (stay.1 ∙ (ap (slice_index ridden) stay.0 ∙ (same ∙ sym (ap (slice_index ride) stay.0))))
-      | inr w ↦
-          let e : slice_index ridden w.0.from ≡ slice_index ride w.0.from =
-          ap (slice_index ridden) w.1 ∙ (same ∙ sym (ap (slice_index ride) w.1)) in
-          inr (record {
-            from = w.0.from;
-            seconds = w.0.seconds;
-            foot = w.0.foot;
-            reached = λ z. w.0.reached (e ∙ z);
-            time = ap (λ (t : ℕ). t + w.0.seconds) (sym e) ∙ w.0.time;
-          })
-    ]
 
 -- where a stop is not marked, no lane fell
 pub unmarked_still : {lanes : ℕ} (old new : List (List ℕ)) (was is : List Bool) (x l : ℕ) →

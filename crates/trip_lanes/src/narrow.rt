@@ -1,6 +1,6 @@
 //! Narrow rows: thirty-two labels of 16 bits, which tell 65,534 seconds, some eighteen hours, from where they count.
-ghost use Rattle.std.specs.Prelude.{◌≡◌, ◌≢◌, ℕ, ◌+◌, ◌*◌, ◌<◌, ◌≤◌, ◌⊎◌, min, max, slice_index};
-ghost use Rattle.std.proofs.Common.{rules};
+ghost use Rattle.std.specs.Prelude.{◌≡◌, ◌≢◌, ℕ, ◌+◌, ◌*◌, ◌<◌, ◌≤◌, ◌⊎◌, min, max, refl, slice_index};
+ghost use Rattle.std.proofs.lemmas.Bool.{leb-true};
 ghost use Rattle.trip_lanes.specs.declared.lanes.TheConstants.{LANES as SIXTEEN};
 
 use crate::falls::Fall;
@@ -131,15 +131,15 @@ impl Row for Narrow {
             .to_array()
     }
 
-    ghost some = { Prim.search rules };
+    ghost some = { leb-true SIXTEEN 32 refl };
 
-    ghost sixteens = { Prim.search rules };
+    ghost sixteens = { refl };
 
-    ghost few = { Prim.search rules };
+    ghost few = { leb-true 32 64 refl };
 
-    ghost room = { Prim.search rules };
+    ghost room = { leb-true (60 * 32 + 7203) 65535 refl };
 
-    ghost never_fits = { Prim.search rules };
+    ghost never_fits = { leb-true 65535 4294967295 refl };
 }
 
 /// The ranks of the lanes that ride a trip, and 0 in the others.

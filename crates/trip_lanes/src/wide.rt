@@ -1,6 +1,6 @@
 //! Wide rows: sixteen labels of 32 bits, which reach as far as times go.
-ghost use Rattle.std.specs.Prelude.{◌≡◌, ◌≢◌, ℕ, ◌<◌, ◌≤◌, ◌⊎◌, slice_index};
-ghost use Rattle.std.proofs.Common.{rules};
+ghost use Rattle.std.specs.Prelude.{◌≡◌, ◌≢◌, ℕ, ◌+◌, ◌*◌, ◌<◌, ◌≤◌, ◌⊎◌, refl, slice_index};
+ghost use Rattle.std.proofs.lemmas.Bool.{leb-true};
 ghost use Rattle.trip_lanes.specs.declared.lanes.TheConstants.{LANES as SIXTEEN};
 
 use crate::falls::Fall;
@@ -110,15 +110,15 @@ impl Row for Lanes {
             .to_array()
     }
 
-    ghost some = { Prim.search rules };
+    ghost some = { leb-true SIXTEEN 16 refl };
 
-    ghost sixteens = { Prim.search rules };
+    ghost sixteens = { refl };
 
-    ghost few = { Prim.search rules };
+    ghost few = { leb-true 16 64 refl };
 
-    ghost room = { Prim.search rules };
+    ghost room = { leb-true (60 * 16 + 7203) 4294967295 refl };
 
-    ghost never_fits = { Prim.search rules };
+    ghost never_fits = { leb-true 4294967295 4294967295 refl };
 }
 
 /// The ranks of the lanes that ride a trip, and 0 in the others.

@@ -76,10 +76,6 @@ one_back before steps rest told now d h = record {
   led = taken_back_is _ _ told now (last_step before steps rest told now d h);
 }
 
--- a run that made no step
-pub none_back : (before : BookState) (steps : List Step) (now : BookState) → HasRun before steps [] now → now ≡ before
-none_back before steps now h = h.led
-
 -- a run that goes on
 pub one_more : (before : BookState) (steps : List Step) (answers : List Answer) (now : BookState) (d : Step) →
     length answers < length steps → HasRun before steps answers now

@@ -212,11 +212,6 @@ pub taken_back_is : (before : BookState) (step : Step) (told : Answer) (now : Bo
     HasStepped before step told now → taken_back now step told ≡ before
 taken_back_is before step told now h = (λ i. taken_back (h.led i) step (h.told i)) ∙ step_back before step
 
-pub taken_back_book : (before : BookState) (step : Step) (told : Answer) (now : BookState) →
-    HasStepped before step told now → IsBook (taken_back now step told)
-taken_back_book before step told now h =
-    subst (λ (b : BookState). IsBook b) (sym (taken_back_is before step told now h)) h.book
-
 -- a seat that was written is the seat changed
 pub written_seat : (book : BookState) (seat : ℕ) (f : SeatState → SeatState) (v w : SeatState) →
     seat < length book.seats → v ≡ get_or book.seats seat v → w ≡ f v

@@ -29,7 +29,7 @@ use Rattle.workers.specs.Held.{times, HaveSameJobs, job_of_row, jobs_of_rows, Ar
 use Rattle.workers.specs.Filling.{IsFilledAs, AreFilledAs}
 use Rattle.workers.specs.Outcomes.{KeptEachJob, IsFirstUnkept}
 use Rattle.workers.proofs.Wide.{is_whole_row}
-use Rattle.workers.proofs.NextJob.{none_at}
+use Rattle.collector.proofs.Placed.{none_at}
 use Rattle.workers.proofs.Times.{times_append, times_cons, same, same_true}
 
 lt_true : (a b : ℕ) → a < b → nat_lt a b ≡ true
@@ -235,14 +235,3 @@ first_unkept s v places scenario origin was first once =
           (was.filled job (omega arith)) in
           let most = once.kept job in omega arith;
     }
-
--- a study with an empty place has a job
-pub some_job : (s : StudyData) (kept : List ℕ) (places : PlacesData) (scenario origin : ℕ) → AreFilledAs s kept places →
-    IsFirstEmpty places scenario origin → 0 < jobs_of s
-some_job s kept places scenario origin was first =
-    let are = was.places_are in
-    let low : scenario < length s.networks = subst (λ n. scenario < n) are.scenarios first.scenario_in in
-    let right : origin < length s.origins = subst (λ n. origin < n) are.origins first.origin_in in
-    let below : scenario * length s.origins + origin < jobs_of s =
-    in_range scenario origin (length s.networks) (length s.origins) low right in
-    omega arith

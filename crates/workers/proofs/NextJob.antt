@@ -15,6 +15,7 @@ use Rattle.collector.specs.Row.{RowData}
 use Rattle.collector.specs.Places.{PlacesData, place_of, row_at}
 use Rattle.collector.specs.Offers.{belongs, has_all_cells, is_open, after_offer}
 use Rattle.collector.proofs.Divide.{scenario_below, origin_below, joined}
+use Rattle.collector.proofs.Placed.{none_at}
 use Rattle.workers.specs.Study.{StudyData, StudyFits}
 use Rattle.workers.specs.Jobs.{jobs_of, IsRowOfJob, DoesJob, HasNoJob, places_without_rows, ArePlaces, AreFilledBelow}
 use Rattle.workers.specs.Jobs.{IsUnderWay, AreFilled}
@@ -153,11 +154,6 @@ all_done s book new places after_it way none =
   where
     one : (n : ℕ) → n * 1 ≡ n
     one n = omega arith
-
-pub none_at : (n k : ℕ) → get_or (replicate {A = Option RowData} n None) k None ≡ None
-none_at zero k = refl
-none_at (suc n) zero = refl
-none_at (suc n) (suc k) = none_at n k
 
 open_at : (n k : ℕ) → unwrap_or (slice_get (replicate {A = Bool} n false) k) false ≡ false
 open_at zero k = refl

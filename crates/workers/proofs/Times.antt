@@ -1,6 +1,6 @@
 -- How often a job stands in a list.
-use Rattle.std.proofs.Common.{◌≡◌, ◌==◌, ℕ, ◌+◌, ◌<◌, ◌≤◌, List, [], ◌∷◌, ◌++◌, ◌⊎◌, inl, inr, true, refl, arith}
-use Rattle.std.proofs.Common.{if◌then◌else◌}
+use Rattle.std.proofs.Common.{◌≡◌, ◌==◌, ℕ, ◌+◌, ◌<◌, ◌≤◌, List, [], ◌∷◌, ◌++◌, ◌⊎◌, inl, inr, true, refl, ap}
+use Rattle.std.proofs.Common.{arith, if◌then◌else◌}
 use Rattle.std.specs.List.{All}
 use Rattle.std.proofs.lemmas.List.Elements.{All-head, All-tail}
 use Rattle.std.proofs.lemmas.List.Sums.{sum_by-cons, sum_by-append}
@@ -21,6 +21,16 @@ times_cons job x xs = sum_by-cons (λ y. if y == job then 1 else 0) x xs
 pub same_true : (x job : ℕ) → (x == job) ≡ true → x ≡ job
 same_true x job h = grind (arith, nat_tests)
 
+same_self : (job : ℕ) → same job job ≡ 1
+same_self job = grind (arith, nat_tests)
+
+same_some : (x job : ℕ) → 0 < same x job → x ≡ job
+same_some x job h = grind (arith, nat_tests)
+
+-- the only job of a list
+pub times_one : (job x : ℕ) → 0 < times job (x ∷ []) → x ≡ job
+times_one job x h = let a = times_cons job x [] in same_some x job (omega arith)
+
 pub some_in : (job : ℕ) (xs ys : List ℕ) → 0 < times job (xs ++ ys) → (0 < times job xs) ⊎ (0 < times job ys)
 some_in job xs ys h = let e = times_append job xs ys in go (dec_lt 0 (times job xs)) e
   where
@@ -34,6 +44,15 @@ times_more job xs ys h = let a = times_append job xs ys in omega arith
 
 pub times_last : (job : ℕ) (xs ys : List ℕ) → 0 < times job ys → 0 < times job (xs ++ ys)
 times_last job xs ys h = let a = times_append job xs ys in omega arith
+
+-- a job that was put last stands in a list
+pub last_in : (job : ℕ) (xs now : List ℕ) → now ≡ xs ++ job ∷ [] → 0 < times job now
+last_in job xs now e =
+    let all = ap (times job) e in
+    let parts = times_append job xs (job ∷ []) in
+    let one = times_cons job job [] in
+    let same_job = same_self job in
+    omega arith
 
 -- one more than the last number of a list, and 0 where there is none
 abbrev pub past_last : List ℕ → ℕ

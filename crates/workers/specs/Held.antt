@@ -1,5 +1,5 @@
 -- The rows that a worker holds, beside the jobs that its seat kept, and why it ended.
-use Rattle.std.specs.Prelude.{◌≡◌, ◌⊎◌, ℕ, ◌==◌, ◌+◌, ◌*◌, ◌<◌, true, false, List, length, map, count_by, All, ⊤}
+use Rattle.std.specs.Prelude.{◌≡◌, ◌⊎◌, ℕ, ◌==◌, ◌+◌, ◌*◌, ◌<◌, ◌++◌, true, false, List, length, map, count_by, All, ⊤}
 use Rattle.work_book.specs.Board.{seen_by, IsOf, HasDrawn, SettledAs}
 use Rattle.work_book.specs.Steps.{lease_among}
 use Rattle.work_book.specs.Views.{knows}
@@ -11,6 +11,7 @@ use Rattle.work_book.specs.declared.shared.Board.{Board}
 use Rattle.collector.specs.Row.{RowData}
 use Rattle.workers.specs.Study.{StudyData}
 use Rattle.workers.specs.Rows.{IsRowOf}
+use Rattle.workers.specs.Jobs.{IsRowOfJob}
 use Rattle.workers.specs.declared.gates.Verdict.{Verdict}
 use Rattle.workers.specs.declared.gates.Verdict.TheVariants.{Lose, Vanish}
 use Rattle.workers.specs.declared.worker.Ending.{Ending}
@@ -39,10 +40,17 @@ jobs_of_rows s rows = map (job_of_row s) rows
 abbrev pub AreRowsOf : StudyData → List RowData → Type 0
 AreRowsOf s rows = All (λ (row : RowData). IsRowOf s row.scenario row.origin row) rows
 
--- the rows are the study's, and of exactly these jobs
+-- the rows are the study's, and of exactly these jobs; a job may have its row twice
 pub record HoldsRows (s : StudyData) (rows : List RowData) (kept : List ℕ) : Type 0 where
   pub are_rows : AreRowsOf s rows
   pub jobs : HaveSameJobs (jobs_of_rows s rows) kept
+
+-- the worker holds so many more rows of a job if its seat kept it, and else no more
+pub record HoldsMore (s : StudyData) (copies job : ℕ) (v w : View) (rows more : List RowData) : Type 0 where
+  pub added : List RowData
+  pub more_is : more ≡ rows ++ added
+  pub are_rows : All (λ row. IsRowOfJob s job row) added
+  pub count : length added + copies * length v.kept ≡ copies * length w.kept
 
 -- what a gate may decide of a lease
 abbrev pub Decides : Type 1

@@ -6,7 +6,6 @@ use Rattle.timetable.specs.declared.limits.TheConstants.{MOST_STOPS}
 use Rattle.timetable.specs.Networks.{Net}
 use Rattle.rounds.specs.declared.window.Window.{Window}
 use Rattle.rounds.specs.Window.{Fits}
-use Rattle.workers.specs.declared.study.Asked.{Asked}
 use Rattle.workers.specs.declared.study.Study.{Study}
 use Rattle.rounds.specs.declared.window.TheConstants.{MOST_RIDES}
 use Rattle.workers.specs.declared.study.TheConstants.{MOST_SCENARIOS, MOST_SHARES, MOST_LIMITS}
@@ -28,14 +27,14 @@ pub record StudyData : Type 0 where
   pub opportunities : List ℕ
   pub query : Query
 
--- the data of what is asked
-abbrev pub query_of : Asked → Query
-query_of a = record {
-  window = a.window;
-  rides = a.rides;
-  shares = a.shares.now;
-  limits = a.limits.now;
-  destinations = a.destinations.now;
+-- what a study asks of every network
+abbrev pub query_of : Study → Query
+query_of s = record {
+  window = s.window;
+  rides = s.rides;
+  shares = s.shares.now;
+  limits = s.withins.now;
+  destinations = s.destinations.now;
 }
 
 -- the data of a study
@@ -45,7 +44,7 @@ study_of s = record {
   networks = s.networks.now;
   origins = s.origins.now;
   opportunities = s.opportunities.now;
-  query = query_of s.asked;
+  query = query_of s;
 }
 
 -- a share is of a hundred minutes

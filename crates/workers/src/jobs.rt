@@ -59,9 +59,9 @@ pub(crate) fn empty_places(alloc: Global, study: &Study) -> Result<Collector, Al
 {
     let scenarios = study.networks.len() as u32;
     let origins = study.origins.len() as u32;
-    let width = study.asked.destinations.len() as u32;
-    let shares = study.asked.shares.len() as u32;
-    let limits = study.asked.limits.len() as u32;
+    let width = study.destinations.len() as u32;
+    let shares = study.shares.len() as u32;
+    let limits = study.withins.len() as u32;
     Collector::new(
         alloc,
         study.number,

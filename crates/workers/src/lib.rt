@@ -1,7 +1,7 @@
 //! A study's rows, and the matrix that they make: threads draw jobs from a `work_book`, and a `collector` takes their
 //! rows. A study asks for one row per scenario and origin; each row depends on its own scenario's network alone.
 //!
-//! - `study`: [`Study`], what is asked for, and [`Asked`], what of it is asked of every network.
+//! - `study`: [`Study`], what is asked for, and the limits within which it fits.
 //! - `rows`: the row of one scenario and origin.
 //! - `run`: [`run_workers`], the matrix, by workers in threads of their own that share a board of jobs.
 //! - `worker`, `task`, `threads`: what one worker does, what it promises of its rows, and how workers start and end.
@@ -39,6 +39,6 @@ pub use laws::{
 pub use rows::row_of;
 pub use run::run_workers;
 pub use study::{
-    Asked, MOST_LIMITS, MOST_SCENARIOS, MOST_SHARES, Study, are_rising, are_shares,
-    limits_are_as_stated, limits_fit, shares_fit,
+    MOST_LIMITS, MOST_SCENARIOS, MOST_SHARES, Study, are_rising, are_shares, limits_are_as_stated,
+    limits_fit, shares_fit,
 };

@@ -1,13 +1,13 @@
 //! Rows: what one scenario gives for one origin.
 ghost use Rattle.std.specs.Prelude.{◌≡◌, ◌<◌, ◌≤◌, length, IfOk};
-ghost use Rattle.shares.specs.Percentiles.{AreCellsAt, AreCellsOf};
+ghost use Rattle.shares.specs.Percentiles.{AreCellsAt, AreCellsOfAt};
 ghost use Rattle.workers.specs.Study.{study_of, StudyFits};
 ghost use Rattle.workers.specs.Rows.{AreDurationsOf, AreOfShares, AreSums, IsOfShare, IsRowOf};
 
 use crate::study::Study;
 use collector::{Cells, Row};
 use rounds::{Durations, Search};
-use shares::{access, cells_of};
+use shares::{access_at, cells_of_at};
 use std::alloc::{AllocError, Global};
 
 /// A door for other programs: the row of a scenario and an origin, by their positions from 0. For each share it has the
@@ -39,12 +39,7 @@ pub(crate) fn row_with(
     ensures { IfOk result (λ row. IsRowOf (study_of study.now) scenario origin row) }
 {
     let durations = durations_of(alloc, search, study, scenario, origin)?;
-    let lists = cells_of(
-        alloc,
-        &durations,
-        study.asked.destinations,
-        study.asked.shares,
-    )?;
+    let lists = cells_of_at(alloc, &durations, study.destinations, study.shares)?;
     let shares = with_access(alloc, &durations, study, lists)?;
     Ok(Row {
         study: study.number,
@@ -69,7 +64,7 @@ fn durations_of(
 {
     let network = &study.networks[scenario as usize];
     let stop = study.origins[origin as usize];
-    search.durations(alloc, network, stop, study.asked.window, study.asked.rides)
+    search.durations(alloc, network, stop, study.window, study.rides)
 }
 
 /// What each share gives: the cells of the destinations, which these are, and the access for each limit.
@@ -81,12 +76,12 @@ fn with_access(
 ) -> Result<Vec<Cells>, AllocError>
     requires fits { StudyFits (study_of study.now) }
     requires stops { durations.now.stops ≡ length study.now.opportunities.now }
-    requires lists { AreCellsOf durations.now study.now.asked.destinations.now study.now.asked.shares.now lists.items }
+    requires lists { AreCellsOfAt durations.now study.now.destinations.now study.now.shares.now lists.items }
     ensures { IfOk result (λ shares. AreOfShares durations.now (study_of study.now) shares.items) }
 {
     let mut shares = Vec::with_capacity(alloc, lists.len())?;
     for cells in lists {
-        let share = study.asked.shares[shares.len()];
+        let share = study.shares[shares.len()];
         shares.push(given_of(alloc, durations, study, share, cells)?)?;
     }
     Ok(shares)
@@ -103,18 +98,12 @@ fn given_of(
     requires fits { StudyFits (study_of study.now) }
     requires stops { durations.now.stops ≡ length study.now.opportunities.now }
     requires share { share ≤ 100 }
-    requires cells { AreCellsAt durations.now study.now.asked.destinations.now share cells.items }
+    requires cells { AreCellsAt durations.now study.now.destinations.now share cells.items }
     ensures { IfOk result (λ given.
-        IsOfShare durations.now study.now.opportunities.now study.now.asked.limits.now study.now.asked.destinations.now
+        IsOfShare durations.now study.now.opportunities.now study.now.withins.now study.now.destinations.now
         share given) }
 {
-    let access = sums_of(
-        alloc,
-        durations,
-        study.opportunities,
-        share,
-        study.asked.limits,
-    )?;
+    let access = sums_of(alloc, durations, study.opportunities, share, study.withins)?;
     Ok(Cells { cells, access })
 }
 
@@ -132,7 +121,7 @@ fn sums_of(
 {
     let mut sums = Vec::with_capacity(alloc, limits.len())?;
     for limit in limits {
-        sums.push(access(durations, opportunities, share, *limit))?;
+        sums.push(access_at(durations, opportunities, share, *limit))?;
     }
     Ok(sums)
 }

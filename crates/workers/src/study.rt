@@ -24,21 +24,6 @@ pub fn limits_are_as_stated()
     ensures limits { limit.MOST_LIMITS ≡ 8 }
 {}
 
-/// What is asked of every network.
-#[derive(Clone, Copy)]
-pub struct Asked<'a> {
-    /// The departures.
-    pub window: Window,
-    /// The most rides of a journey.
-    pub rides: u32,
-    /// Of a hundred minutes, how many a cell's duration must suffice for; each share has its own cells.
-    pub shares: &'a [u32],
-    /// The longest travel times, in seconds, at which a stop counts for access; each limit has its own sum.
-    pub limits: &'a [u32],
-    /// The stops that a row has cells for, in the order of its cells. Access counts all stops, whichever these are.
-    pub destinations: &'a [StopNo],
-}
-
 /// What is asked for: one row per scenario and origin, with, for each share, one cell per destination and one access
 /// sum per limit.
 #[derive(Clone, Copy)]
@@ -49,10 +34,19 @@ pub struct Study<'a> {
     pub networks: &'a [Network],
     /// The stops that journeys begin at.
     pub origins: &'a [StopNo],
-    /// What each stop counts for in the access of a row.
+    /// The opportunities at each stop.
     pub opportunities: &'a [u32],
-    /// What is asked of every network.
-    pub asked: Asked<'a>,
+    /// The departures.
+    pub window: Window,
+    /// The most rides of a journey, 1 to 8.
+    pub rides: u32,
+    /// The percentiles: a cell is the least duration that at least this percentage of the minutes attains. Each share
+    /// has its own cells.
+    pub shares: &'a [u32],
+    /// The limits of access: the longest travel times, in seconds, at which a stop counts. Each limit has its own sum.
+    pub withins: &'a [u32],
+    /// The stops that a row has cells for, in the order of its cells. Access counts all stops, whichever these are.
+    pub destinations: &'a [StopNo],
 }
 
 impl Study<'_> {
@@ -68,13 +62,13 @@ impl Study<'_> {
             && have_stops(self.networks, self.opportunities.len())
             && self.origins.len() <= MOST_STOPS
             && are_stops(self.origins, self.opportunities.len())
-            && self.asked.destinations.len() <= MOST_STOPS
-            && are_stops(self.asked.destinations, self.opportunities.len())
-            && self.asked.window.fits()
-            && 1 <= self.asked.rides
-            && self.asked.rides <= MOST_RIDES
-            && shares_fit(self.asked.shares)
-            && limits_fit(self.asked.limits)
+            && self.destinations.len() <= MOST_STOPS
+            && are_stops(self.destinations, self.opportunities.len())
+            && self.window.fits()
+            && 1 <= self.rides
+            && self.rides <= MOST_RIDES
+            && shares_fit(self.shares)
+            && limits_fit(self.withins)
     }
 }
 

@@ -5,7 +5,7 @@ ghost use Rattle.work_book.specs.Views.{knows};
 ghost use Rattle.work_book.specs.declared.rule.View.{View};
 ghost use Rattle.workers.specs.Study.{study_of, StudyFits};
 ghost use Rattle.workers.specs.Jobs.{jobs_of};
-ghost use Rattle.workers.specs.Held.{AreTold, HoldsRows, IsHeard, KnowsAsMuch, LeavesAs, WorkedFor};
+ghost use Rattle.workers.specs.Held.{AreTold, HoldsMore, HoldsRows, IsHeard, KnowsAsMuch, LeavesAs, WorkedFor};
 
 use crate::gates::{Gate, Verdict};
 use crate::jobs::row_of_job;
@@ -172,6 +172,8 @@ fn settle_once<G: Gate>(
     ensures drawn { ((seen_by hands.new.seat).drawn ≡ (seen_by hands.old.seat).drawn)
         × ((seen_by hands.new.seat).told ≡ (seen_by hands.old.seat).told) }
     ensures rows { HoldsRows (study_of study.now) hands.new.rows.items (seen_by hands.new.seat).kept }
+    ensures held { IfOk result (λ _. HoldsMore (study_of study.now) 1 lease.job (seen_by hands.old.seat)
+        (seen_by hands.new.seat) hands.old.rows.items hands.new.rows.items) }
     ensures heard { IfOk result (λ _. IsHeard (G.was_told gate.now) lease (seen_by hands.old.seat)
         (seen_by hands.new.seat)) }
     ensures told { AreTold (G.was_told gate.now) (seen_by hands.old.seat).kept →
@@ -189,7 +191,10 @@ fn settle_once<G: Gate>(
     Ok(())
 }
 
-/// The same twice, one after the other. At most the first settle keeps the job.
+/// Computes the row of a lease twice, and settles the lease twice. If the first settle keeps the job, both rows are
+/// held: the collector then keeps the first, and answers `Double` to the second.
+///
+/// All memory is taken before the first settle. The second settle keeps nothing, since the seat knows the job.
 fn settle_twice<G: Gate>(
     alloc: Global,
     study: &Study,
@@ -208,6 +213,8 @@ fn settle_twice<G: Gate>(
     ensures drawn { ((seen_by hands.new.seat).drawn ≡ (seen_by hands.old.seat).drawn)
         × ((seen_by hands.new.seat).told ≡ (seen_by hands.old.seat).told) }
     ensures rows { HoldsRows (study_of study.now) hands.new.rows.items (seen_by hands.new.seat).kept }
+    ensures held { IfOk result (λ _. HoldsMore (study_of study.now) 2 lease.job (seen_by hands.old.seat)
+        (seen_by hands.new.seat) hands.old.rows.items hands.new.rows.items) }
     ensures heard { IfOk result (λ _.
         (between : View) × IsHeard (G.was_told gate.now) lease (seen_by hands.old.seat) between
         × IsHeard (G.was_told gate.now) lease between (seen_by hands.new.seat)) }
@@ -216,6 +223,19 @@ fn settle_twice<G: Gate>(
     ensures known { KnowsAsMuch (seen_by hands.old.seat) (seen_by hands.new.seat) }
     ensures settled { IfOk result (λ _. knows (seen_by hands.new.seat) lease.job ≡ true) }
 {
-    settle_once(alloc, study, board, gate, hands, lease)?;
-    settle_once(alloc, study, board, gate, hands, lease)
+    let row = row_of_job(alloc, &mut hands.search, study, lease.job)?;
+    let again = row_of_job(alloc, &mut hands.search, study, lease.job)?;
+    hands.rows.reserve(2)?;
+    let first = board.settle(&mut hands.seat, lease);
+    gate.after(&lease, first);
+    let second = board.settle(&mut hands.seat, lease);
+    gate.after(&lease, second);
+    match first {
+        Settled::Kept => {
+            hands.rows.push_reserved(row);
+            hands.rows.push_reserved(again);
+        }
+        Settled::Double => {}
+    }
+    Ok(())
 }

@@ -6,10 +6,10 @@ from typing import TYPE_CHECKING
 
 if TYPE_CHECKING:
     from .engine import EngineFault, Result, Run, matrix
-    from .faults import BadInput
+    from .faults import BadInput, WrongWords
 
 __version__ = "0.1.0"
-__all__ = ["BadInput", "EngineFault", "Result", "Run", "matrix"]
+__all__ = ["BadInput", "EngineFault", "Result", "Run", "WrongWords", "matrix"]
 
 
 def __getattr__(name: str) -> object:
@@ -17,5 +17,10 @@ def __getattr__(name: str) -> object:
     from importlib import import_module
 
     if name in __all__:
-        return getattr(import_module(".faults" if name == "BadInput" else ".engine", __name__), name)
+        return getattr(import_module(".faults" if name in ("BadInput", "WrongWords") else ".engine", __name__), name)
     raise AttributeError(name)
+
+
+def __dir__() -> list[str]:
+    """All public names, also those that weren't asked for yet."""
+    return sorted({*globals(), *__all__})

@@ -1,35 +1,70 @@
 """One run of `ttm` from Python: its arguments from one dataclass, its faults as exceptions, its matrix as arrays."""
 
+import datetime
 import os
 import re
 import shutil
 import subprocess
-import tempfile
+import sysconfig
 from dataclasses import dataclass, field
 from pathlib import Path
 from typing import Any, Iterable, Mapping, Sequence
 
 import numpy as np
 
+from .dates import as_ttm_reads
 from .faults import BadInput, Lacking, WrongWords
-from .files import output
-from .matrices import Matrix, Seconds, Sums, open_matrix
+from .files import output, scratch
+from .matrices import BASE, TODAY, Matrix, Seconds, Sums, open_matrix
 from .records import Rounded, write_rows
 
 FAULT = re.compile(r"ttm: (?:(?P<file>.+?): )?(?:record (?P<record>[0-9]+): )?(?P<what>[^:]*)")
+INSTALLED = Path(sysconfig.get_path("scripts")) / "ttm"  # where pip puts the wheel's
+# what explains a refusal: a column or an option, its value, and what is allowed
+EXPLAINED = re.compile(
+    r'ttm: (?:column (?P<column>\S+)|(?P<option>--[a-z]+)) is "(?P<value>.*)"; (?P<allowed>.*)', re.DOTALL
+)
+# what a report tells ahead of a refusal: a fact by its number or its dates, or a warning
+AHEAD = re.compile(
+    r"ttm: (?:warning: .*|(?!scenario name: )[^:\"]+(?:: [^:\"]+)?: [0-9].*"
+    r"|[^:]+ calendars: none|nearest date [^:]+: none.*)"
+)
 BUILT = Path(__file__).resolve().parents[3] / "crates" / "ttm" / "out" / "ttm"  # in a clone
 Pathlike = str | os.PathLike[str]
 
 
 class EngineFault(BadInput):
-    """What `ttm` told where it ended without a matrix; `ended` is its exit status, `line` what it said."""
+    """What `ttm` told where it ended without a matrix: `line` is its refusal, `explanation` the lines behind it,
+    `ended` its exit status; file, record, column or option, value, and what is allowed as far as it says them.
+    """
 
-    def __init__(self, line: str, ended: int) -> None:
-        self.line, self.ended = line, ended
-        found = FAULT.fullmatch(line.split("\n")[0])
+    def __init__(self, told: str, ended: int) -> None:
+        lines = [line for line in told.split("\n") if line] or [told]
+        self.line, self.explanation, self.ended = lines[0], lines[1:], ended
+        found, more = FAULT.fullmatch(self.line), EXPLAINED.fullmatch(lines[1]) if len(lines) > 1 else None
         record = found["record"] if found else None
-        what = found["what"] if found else line
-        super().__init__((found and found["file"]) or "ttm", what, record=int(record) if record else None)
+        what = found["what"] if found else self.line
+        place: dict[str, Any] = {"record": int(record)} if record else {}
+        if more:
+            place["column"] = more["column"] or more["option"]
+            place |= {"value": more["value"], "allowed": more["allowed"]}
+        elif len(lines) > 1:
+            what = "; ".join([what, *(line.removeprefix("ttm: ") for line in lines[1:])])
+        super().__init__((found and found["file"]) or "ttm", what, **place)
+
+    @property
+    def option(self) -> str | None:
+        """The option of `ttm` whose value is refused, such as --date."""
+        return self.column if self.column and self.column.startswith("--") else None
+
+
+def refusal_of(told: bytes, status: int) -> list[str]:
+    """The line that tells why a run ended, and those that explain it, behind those of its report."""
+    lines = [line for line in told.decode("utf-8", "replace").splitlines() if line]
+    if not lines:
+        return [f"ttm ended with status {status} and said nothing"]
+    ahead = max((place for place, line in enumerate(lines, 1) if AHEAD.fullmatch(line)), default=0)
+    return lines[ahead:] or lines[-1:]
 
 
 @dataclass(frozen=True)
@@ -37,7 +72,7 @@ class Run:
     """What is asked of `ttm`; docs/ANALYSTS.md says what each argument means."""
 
     feed: Pathlike  # the folder of an unpacked feed
-    date: str  # YYYYMMDD
+    date: str | datetime.date  # as a text YYYYMMDD or YYYY-MM-DD
     window: tuple[str, str]  # the first and the last departure, HH:MM
     trips: int = 4  # 1 to 8
     walk: int = 600  # seconds, 0 to 7200
@@ -54,7 +89,12 @@ class Run:
         """The arguments, without the program."""
         numbers = {"trips": self.trips, "walk": self.walk, "workers": self.workers, "tries": self.tries}
         lists = {"share": ",".join(map(str, self.shares)), "within": ",".join(map(str, self.limits))}
-        named: dict[str, object] = {"feed": self.feed, "date": self.date, "from": self.window[0], "to": self.window[1]}
+        named: dict[str, object] = {
+            "feed": self.feed,
+            "date": as_ttm_reads(self.date),
+            "from": self.window[0],
+            "to": self.window[1],
+        }
         days = {"back": self.back, "ahead": self.ahead}
         every = {**named, **numbers, **lists, **days, **self.files}
         words = [word for name, value in every.items() for word in (f"--{name}", str(value))]
@@ -62,8 +102,11 @@ class Run:
 
 
 def program_at(path: Pathlike | None) -> str:
-    """The program that is named, that of TTM_PROGRAM, the one on the PATH, or the one that a clone has built."""
-    named = path or os.environ.get("TTM_PROGRAM") or shutil.which("ttm")
+    """The program that is named, that of TTM_PROGRAM, the one that pip installed with this package, the one on the
+    PATH, or the one that a clone has built.
+    """
+    installed = str(INSTALLED) if INSTALLED.is_file() else None
+    named = path or os.environ.get("TTM_PROGRAM") or installed or shutil.which("ttm")
     if named is None and BUILT.is_file():
         named = BUILT
     if named is None or shutil.which(str(named)) is None:
@@ -74,12 +117,14 @@ def program_at(path: Pathlike | None) -> str:
 
 
 def run(asked: Run, out: Pathlike, program: Pathlike | None = None) -> None:
-    """Runs `ttm`; the matrix gets its name when it is whole, and a fault leaves none."""
+    """Runs `ttm`; the matrix gets its name when it is whole, and a fault leaves none. The report is asked for, as it
+    explains a refusal.
+    """
     with output(str(out)) as file:
-        words = [program_at(program), *asked.words()]
+        words = [program_at(program), *asked.words(), "--report"]
         ran = subprocess.run(words, stdout=file, stderr=subprocess.PIPE)
         if ran.returncode != 0:
-            raise EngineFault(ran.stderr.decode("utf-8", "replace").strip(), ran.returncode)
+            raise EngineFault("\n".join(refusal_of(ran.stderr, ran.returncode)), ran.returncode)
 
 
 @dataclass(frozen=True)
@@ -95,13 +140,13 @@ class Result:
     sums: Mapping[tuple[str, int], Sums]  # by scenario and share: rows of origins, columns of limits
     rounded: int  # how many numbers with decimals were made whole for `ttm`
 
-    def array(self, scenario: str = "base", share: int | None = None) -> Seconds:
+    def array(self, scenario: str | None = None, share: int | None = None) -> Seconds:
         """Travel times in seconds as an array: a row for each origin, a column for each stop, NaN where one isn't
-        reached.
+        reached. Without a name the scenario is today, where scenarios are those of a plan, else base.
         """
         return self.seconds[self.key(scenario, share)]
 
-    def times(self, scenario: str = "base", share: int | None = None) -> Any:
+    def times(self, scenario: str | None = None, share: int | None = None) -> Any:
         """The same as a frame of pandas, with origins as its index and stops as its columns."""
         import pandas
 
@@ -118,8 +163,14 @@ class Result:
             frames.append(pandas.DataFrame({"scenario": scenario, "share": share, "origin": origins, **columns}))
         return pandas.concat(frames, ignore_index=True)
 
-    def key(self, scenario: str, share: int | None) -> tuple[str, int]:
+    @property
+    def base(self) -> str:
+        """The scenario that others are compared with: today, where scenarios are those of a plan."""
+        return TODAY if TODAY in self.scenarios else BASE
+
+    def key(self, named: str | None, share: int | None) -> tuple[str, int]:
         """A scenario and a share that are there; the share needs to be named only where there are several."""
+        scenario = self.base if named is None else named
         if share is None and len(self.shares) > 1:
             raise WrongWords(f"the matrix has the shares {', '.join(map(str, self.shares))}: name one")
         key = (scenario, self.shares[0] if share is None else share)
@@ -186,7 +237,7 @@ def footpaths_file(folder: Path, given: Pathlike | Iterable[tuple[str, str, floa
 
 def matrix(
     feed: Pathlike,
-    date: str,
+    date: str | datetime.date,
     window: tuple[str, str],
     *,
     trips: int = 4,
@@ -212,8 +263,8 @@ def matrix(
     raised as `EngineFault`, with file and record.
     """
     rounded = Rounded()
-    with tempfile.TemporaryDirectory(prefix="ttm-matrix-") as made:
-        folder, files = Path(made), dict[str, Pathlike]()
+    files = dict[str, Pathlike]()
+    with scratch("matrix") as folder:
         if origins is not None:
             files["origins"] = origins_file(folder, origins)
         if opportunities is not None:

@@ -2,7 +2,6 @@
 
 import datetime
 import math
-import tempfile
 from dataclasses import replace
 from pathlib import Path
 from typing import Sequence
@@ -10,6 +9,7 @@ from typing import Sequence
 from .engine import Pathlike, Run, origins_file, run
 from .faults import BadInput
 from .feed import read_stops
+from .files import scratch
 from .matrices import BASE, TODAY, Matrix, open_matrix
 from .measures.journeys import Search, cell, durations, journey, network_of
 from .records import shown
@@ -72,9 +72,9 @@ Cells = dict[str, int | None]  # a travel time for each scenario, seconds; None 
 
 def cells_of_ttm(asked: Run, names: Sequence[str], origin: str, destination: str, program: Pathlike | None) -> Cells:
     """The cells as `ttm` computes them."""
-    with tempfile.TemporaryDirectory(prefix="ttm-explain-") as made:
-        path = Path(made) / "matrix.csv"
-        files = {**asked.files, "origins": origins_file(Path(made), [origin])}
+    with scratch("explain") as made:
+        path = made / "matrix.csv"
+        files = {**asked.files, "origins": origins_file(made, [origin])}
         run(replace(asked, files=files), path, program)
         return cells_of(open_matrix(str(path)), names, asked.shares[0], origin, destination)
 

@@ -7,6 +7,8 @@ import shutil
 import sys
 from typing import Sequence
 
+from .escaping import printed
+
 
 class BadInput(Exception):
     """What is wrong with an input. The header of a file is record 1."""
@@ -24,6 +26,7 @@ class BadInput(Exception):
         allowed: str | None = None,
     ) -> None:
         self.file, self.record, self.column, self.value, self.allowed = str(file), record, column, value, allowed
+        self.what = what
         place = self.file if record is None else f"{self.file}: record {record}"
         found = " ".join([*([column] if column else []), *([repr(value)] if value is not None else []), what])
         super().__init__(f"{place}: {found}" + (f"; allowed: {allowed}" if allowed else ""))
@@ -43,7 +46,19 @@ class WrongWords(Exception):
 
 def one_line(told: object) -> str:
     """A fault's text as one line that any terminal shows."""
-    return " ".join(str(told).split()).encode("utf-8", "backslashreplace").decode("utf-8")
+    return printed(" ".join(str(told).split())).encode("utf-8", "backslashreplace").decode("utf-8")
+
+
+def as_line(told: object) -> str:
+    """The same behind the spaces with which it begins."""
+    line = str(told)
+    return line[: len(line) - len(line.lstrip(" "))] + one_line(line)
+
+
+def say(*lines: object) -> None:
+    """Says something on standard error, each line by itself."""
+    for line in lines:
+        print(as_line(line), file=sys.stderr, flush=True)
 
 
 DEBIAN = {"osmium": "pyosmium"}  # where Debian has another name
@@ -67,5 +82,6 @@ def needs_program(program: str, package: str) -> None:
 
 
 def some(names: Sequence[str], most: int = 4) -> str:
-    """A few of many names, for a fault's line: all where they are few, else the first and the last."""
-    return ", ".join(names) if len(names) <= most else f"{names[0]} .. {names[-1]}"
+    """A few of many names, for a fault's line, and how many there are more."""
+    more = len(names) - most
+    return ", ".join(names[:most]) + (f" and {more:,} more" if more > 0 else "")

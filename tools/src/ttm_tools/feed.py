@@ -31,7 +31,8 @@ class Stops:
     longitudes: Floats  # the same
     kinds: npt.NDArray[np.int8]  # location_type; -1 where it is none
     stations: list[str]  # parent_station, "" where none is named
-    widths: Floats | None = None  # of squares that are drawn in place of marks, metres; NaN where there is none
+    widths: Floats | None = None  # of cells that are drawn in place of marks, metres; NaN where there is none
+    heights: Floats | None = None  # of these cells, metres; NaN where one is as high as it is wide
 
     @cached_property
     def places(self) -> dict[str, int]:
@@ -46,8 +47,14 @@ class Stops:
         chosen = np.array([self.places[name] for name in identifiers], dtype=np.intp)
         names, stations = ([texts[place] for place in chosen] for texts in (self.names, self.stations))
         places = (self.latitudes[chosen], self.longitudes[chosen])
-        widths = None if self.widths is None else self.widths[chosen]
-        return Stops(self.path, list(identifiers), names, *places, self.kinds[chosen], stations, widths)
+        sides = [None if it is None else it[chosen] for it in (self.widths, self.heights)]
+        return Stops(self.path, list(identifiers), names, *places, self.kinds[chosen], stations, *sides)
+
+    def sides(self) -> Floats:
+        """How wide and how high the cell of each stop is, in metres; NaN for a stop that has none."""
+        none = np.full(len(self.identifiers), np.nan)
+        wide, high = (none if it is None else it for it in (self.widths, self.heights))
+        return np.stack([wide, np.where(np.isnan(high), wide, high)], axis=1)
 
     @property
     def placed(self) -> npt.NDArray[np.bool_]:

@@ -3,12 +3,14 @@ signal ends the run.
 """
 
 import contextlib
+import errno
 import hashlib
 import os
 import re
 import shutil
 import signal
 import sys
+import tempfile
 import threading
 from pathlib import Path
 from types import FrameType
@@ -21,6 +23,11 @@ ENDING = [
     for name in "SIGHUP SIGINT SIGQUIT SIGALRM SIGTERM SIGUSR1 SIGUSR2 SIGVTALRM SIGPROF SIGXCPU SIGIO SIGPWR".split()
     if hasattr(signal, name)
 ]
+
+
+FULL = (errno.ENOSPC, errno.EDQUOT, errno.EFBIG)
+LONGEST_NAME = 200  # bytes of a file's name that its name aside repeats
+_inputs: set[tuple[int, int]] | None = None  # device and inode of the files that a command has read
 
 
 class Interrupted(BaseException):
@@ -61,9 +68,62 @@ def no_signals() -> Iterator[None]:
         signal.pthread_sigmask(signal.SIG_SETMASK, before)
 
 
+@contextlib.contextmanager
+def inputs_noted() -> Iterator[None]:
+    """Keeps the files that are opened to read from being replaced, as long as a command runs."""
+    global _inputs
+    before, _inputs = _inputs, set()
+    try:
+        yield
+    finally:
+        _inputs = before
+
+
+def note_input(found: os.stat_result) -> None:
+    """Notes a file that is opened to read."""
+    if _inputs is not None:
+        _inputs.add((found.st_dev, found.st_ino))
+
+
+def refuse_input(path: Path) -> None:
+    """Refuses an output that the command reads as well."""
+    with contextlib.suppress(OSError):
+        found = os.stat(path)
+        if _inputs is not None and (found.st_dev, found.st_ino) in _inputs:
+            raise BadInput(path, "is an input as well: name another output")
+
+
+def is_full(fault: OSError) -> bool:
+    """Whether a disk is full, or a file may not grow."""
+    return fault.errno in FULL
+
+
+@contextlib.contextmanager
+def writing_to(path: str | Path) -> Iterator[None]:
+    """Names the file that is written where the disk is full: not the one that is copied."""
+    try:
+        yield
+    except OSError as fault:
+        if is_full(fault) and (fault.filename is None or fault.filename2 is not None):
+            fault.filename, fault.filename2 = str(path), None
+        raise
+
+
+def copy_file(source: str | Path, target: str | Path) -> None:
+    """Copies the bytes of a file."""
+    with writing_to(target):
+        shutil.copyfile(source, target)
+
+
+def short_name(name: str) -> str:
+    """A name as it stands in another one: a long one by its sum."""
+    written = os.fsencode(name)
+    return name if len(written) <= LONGEST_NAME else hashlib.sha256(written).hexdigest()
+
+
 def aside_name(path: Path) -> Path:
     """Where a file is written until it is whole: beside it, under a name with this process' number."""
-    return path.with_name(f".part.{os.getpid()}.{path.name}")
+    return path.with_name(f".part.{os.getpid()}.{short_name(path.name)}")
 
 
 def is_running(process: int) -> bool:
@@ -85,7 +145,7 @@ def remove(path: Path) -> None:
 
 def remove_leavings(path: Path) -> None:
     """Removes what runs that were killed at once (SIGKILL, a power cut) left beside a file."""
-    form = re.compile(r"\.part\.([0-9]+)\." + re.escape(path.name))
+    form = re.compile(r"\.part\.([0-9]+)\." + re.escape(short_name(path.name)))
     for other in path.parent.iterdir() if path.parent.is_dir() else ():
         found = form.fullmatch(other.name)
         if found and not is_running(int(found[1])):
@@ -98,10 +158,13 @@ def written_aside(path: str | Path) -> Iterator[Path]:
     doesn't.
     """
     whole = Path(path)
+    refuse_input(whole)
     remove_leavings(whole)
     made = aside_name(whole)
     try:
-        yield made
+        with writing_to(whole):
+            yield made
+        refuse_input(whole)
         with no_signals():
             os.replace(made, whole)
     finally:
@@ -113,17 +176,34 @@ def many_written_aside(folder: str | Path) -> Iterator[Path]:
     """Gives an empty folder to write to; its files are moved to `folder`, all at once, when the block ends well."""
     whole = Path(folder)
     found = next(parent for parent in (whole, *whole.parents) if parent.exists())
-    made = found / f".part.{os.getpid()}.{whole.name or 'files'}"
+    made = aside_name(found / (whole.name or "files"))
     remove_leavings(found / (whole.name or "files"))
     try:
         made.mkdir()
-        yield made
+        with writing_to(whole):
+            yield made
+        files = sorted(made.iterdir())
+        for file in files:
+            refuse_input(whole / file.name)
         with no_signals():
             whole.mkdir(parents=True, exist_ok=True)
-            for file in sorted(made.iterdir()):
+            for file in files:
                 os.replace(file, whole / file.name)
     finally:
         remove(made)
+
+
+@contextlib.contextmanager
+def scratch(what: str) -> Iterator[Path]:
+    """A folder of this process for a while; those that killed ones of this user left are removed."""
+    room, form = Path(tempfile.gettempdir()), re.compile(r"ttm-tools-[a-z]+\.([0-9]+)\..*")
+    for other in room.glob("ttm-tools-*.*"):
+        found = form.fullmatch(other.name)
+        with contextlib.suppress(OSError):
+            if found and other.is_dir() and other.stat().st_uid == os.getuid() and not is_running(int(found[1])):
+                remove(other)
+    with tempfile.TemporaryDirectory(prefix=f"ttm-tools-{what}.{os.getpid()}.") as made:
+        yield Path(made)
 
 
 def is_free(out: Path) -> None:

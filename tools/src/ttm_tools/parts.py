@@ -10,7 +10,8 @@ from .faults import BadInput, some
 from .feed import in_folder, kind_of
 from .files import many_written_aside
 from .matrices.layout import layout_of
-from .matrices.lines import content, count_of_fields, fields_of, head_of, read_record, records_of
+from .matrices.lines import content, count_of_fields, fields_of, head_of, read_record, records_of, refuse_wide
+from .opening.paths import as_one_line, regular
 from .records import rows, shown, write_rows
 
 Item = TypeVar("Item")
@@ -49,6 +50,10 @@ def parts_of(origins: Sequence[Item], parts: int) -> list[Sequence[Item]]:
 def write_parts(origins: Sequence[str], parts: int, folder: str) -> int:
     """Writes part_0001.csv .. and origins.csv with the origins of all, and gives the number of parts."""
     cut = parts_of(origins, parts)
+    own = {f"part_{number:04}.csv" for number in range(1, len(cut) + 1)}
+    for other in sorted(Path(folder).glob("part_[0-9]*.csv")):
+        if other.name not in own:
+            raise BadInput(other, "is of another split: name another folder, or remove it")
     with many_written_aside(folder) as made:
         for name, stops in [
             ("origins.csv", origins),
@@ -75,12 +80,11 @@ class Part:
         self.path = path
         self.scenarios: dict[str, Scenario] = {}
         self.shares: list[str] | None = None
-        try:
-            with open(path, "rb", buffering=BYTES_AT_ONCE) as file:
-                self.header = read_record(file)
-                self.read(file)
-        except OSError as fault:
-            raise BadInput(path, fault.strerror) from None
+        regular(path)
+        with as_one_line(path, "can't be read"), open(path, "rb", buffering=BYTES_AT_ONCE) as file:
+            self.header = read_record(file)
+            refuse_wide(path, self.header)
+            self.read(file)
 
     def read(self, file: BinaryIO) -> None:
         """Reads all records behind the header, the shares of each origin together."""

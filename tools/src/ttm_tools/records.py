@@ -18,23 +18,24 @@ import numpy as np
 import numpy.typing as npt
 
 from .faults import BadInput, needs
+from .opening.tables import MOST_COLUMNS, looked_at
 from .progress import told
 
 Texts = npt.NDArray[np.object_]
 ROWS_AT_ONCE = 1_000_000
 BYTES_AT_ONCE = 50 * ROWS_AT_ONCE  # of a file of so many records, about
 
-csv.field_size_limit(1 << 30)
-
 
 def records(path: str | Path) -> Iterator[tuple[int, list[str]]]:
     """Each record of a file with its number."""
     number = 0
     try:
-        with open(path, newline="", encoding="utf-8-sig", errors="surrogateescape") as file:
+        with open(looked_at(path), newline="", encoding="utf-8-sig", errors="surrogateescape") as file:
             for fields in csv.reader(file):
                 if fields:
                     number += 1
+                    if number == 1 and len(fields) > MOST_COLUMNS:
+                        raise BadInput(path, f"more than {MOST_COLUMNS:,} columns", record=1)
                     yield number, fields
     except csv.Error as fault:
         raise BadInput(path, str(fault), record=number + 1) from None

@@ -3,13 +3,20 @@ and no package before it is needed.
 """
 
 import argparse
+import contextlib
 import importlib
+import logging
 import os
+import re
 import sys
+import tempfile
+import traceback
+import warnings
 from typing import Sequence
 
+from .. import __version__
 from ..faults import BadInput, Lacking, WrongWords, one_line
-from ..files import Interrupted, unwind_on_signals
+from ..files import Interrupted, inputs_noted, is_full, unwind_on_signals
 
 COMMANDS = (
     "prepare",
@@ -27,9 +34,11 @@ COMMANDS = (
     "long",
     "omx",
     "gis",
+    "isochrones",
     "study",
 )
-NO_MEMORY = 3
+NO_MEMORY, OF_ITS_OWN = 3, 70
+NEGATIVE = re.compile(r"-[0-9.][-+0-9.,e]*")
 
 
 def parser_of() -> argparse.ArgumentParser:
@@ -42,7 +51,8 @@ def parser_of() -> argparse.ArgumentParser:
         form = argparse.RawDescriptionHelpFormatter
         command = commands.add_parser(name, help=module.TOLD, description=module.HELP, formatter_class=form)
         module.describe(command)
-        command.set_defaults(run=module.run, command=name)
+        setattr(command, "_negative_number_matcher", NEGATIVE)  # a value such as -0.1,51.5,0.1,51.6 is no option
+        command.set_defaults(run=module.run, command=name, parser=command)
     return parser
 
 
@@ -50,7 +60,8 @@ def told(words: argparse.Namespace) -> int:
     """Runs a command; what ends it is told in one line, with a status of its own."""
     begin = f"ttm-tools {words.command}: "
     try:
-        status = int(words.run(words))
+        with contextlib.nullcontext() if words.command == "study" else inputs_noted():  # it owns its folder
+            status = int(words.run(words))
         sys.stdout.flush()
         return status
     except (BadInput, Lacking, WrongWords) as fault:
@@ -61,18 +72,38 @@ def told(words: argparse.Namespace) -> int:
         os.dup2(os.open(os.devnull, os.O_WRONLY), sys.stdout.fileno())
         return 1
     except OSError as fault:
-        line, status = begin + one_line(f"{fault.filename or 'output'}: {fault.strerror or fault}"), 1
+        name = (is_full(fault) and fault.filename2) or fault.filename or "output"
+        line, status = begin + one_line(f"{name}: {fault.strerror or fault}"), 1
     except (Interrupted, KeyboardInterrupt) as end:
         line, status = begin + (one_line(end) or "interrupted"), end.status if isinstance(end, Interrupted) else 130
+    except Exception as fault:
+        line, status = begin + one_line(of_its_own(fault)), OF_ITS_OWN
     print(line, file=sys.stderr)
     return status
+
+
+def of_its_own(fault: Exception) -> str:
+    """Writes a log of an error that no input explains, and says where it is."""
+    told = f"an error of its own, {type(fault).__name__}: {one_line(fault)[:200]}"
+    try:
+        handle, path = tempfile.mkstemp(prefix="ttm-tools-", suffix=".log")
+        with open(handle, "w", encoding="utf-8", errors="backslashreplace") as file:
+            file.write(f"ttm-tools {__version__}, Python {sys.version}\n")
+            file.write("".join(traceback.format_exception(fault)))
+    except OSError as full:
+        return f"{told}; no log could be written: {full.strerror}"
+    return f"{told}; please report it with the log {path}"
 
 
 def main(words: Sequence[str] | None = None) -> int:
     """The command's exit status: 0 the whole result, 1 bad input, 2 wrong arguments, 3 out of memory, 128 and a
     signal's number where that ended it.
     """
-    asked = parser_of().parse_args(words)
+    asked, unknown = parser_of().parse_known_args(words)
+    if unknown:
+        asked.parser.error(f"unrecognized arguments: {' '.join(unknown)}")
     if words is None:
         unwind_on_signals()
+        logging.disable(logging.CRITICAL)  # libraries say in lines of their own what is told in one
+        warnings.simplefilter("ignore")
     return told(asked)

@@ -3,7 +3,17 @@
 import argparse
 from typing import TYPE_CHECKING
 
-from .options import add_matrix, add_number, add_numbers, add_out, add_points, add_share, add_text, scenarios_of
+from .options import (
+    add_cutoffs,
+    add_matrix,
+    add_number,
+    add_numbers,
+    add_out,
+    add_points,
+    add_share,
+    add_text,
+    scenarios_of,
+)
 
 if TYPE_CHECKING:
     from ..feed import Floats
@@ -34,7 +44,7 @@ def describe(parser: argparse.ArgumentParser) -> None:
     names = ("step", "linear", "exponential", "logistic")
     parser.add_argument("--decay", choices=names, default="step", help=f"{told} (default step)")
     told = "the limits, between commas; decimals are rounded to whole seconds"
-    add_numbers(parser, "--cutoffs", told, "minutes", (0, 10000), default="30")
+    add_cutoffs(parser, told, (0, 10000), "30")
     told = "how wide the linear fall is, or the standard deviation of the logistic one"
     add_number(parser, "--decay-value", told, "minutes", (0, 10000), without="none, which these two need", whole=False)
     told = "in place of access the time within which so many are reached, between commas"

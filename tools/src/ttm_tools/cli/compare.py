@@ -1,7 +1,6 @@
 """ttm-tools compare."""
 
 import argparse
-import sys
 
 from .options import add_base, add_feed, add_matrix, add_number, add_out, add_points, add_share, add_text, add_within
 
@@ -42,7 +41,7 @@ def describe(parser: argparse.ArgumentParser) -> None:
 
 
 def run(words: argparse.Namespace) -> int:
-    from ..faults import BadInput, needs
+    from ..faults import BadInput, needs, say
 
     needs("numpy")
     from ..files import output
@@ -62,6 +61,5 @@ def run(words: argparse.Namespace) -> int:
             write_pairs(file, pair, made.changes, stops)
         else:
             write_origins(file, pair, place, made, stops)
-    for line in [*([f"{pair.lacking}: left out"] if pair.lacking else []), *summary(pair, made, words.limit, place)]:
-        print(line, file=sys.stderr)
+    say(*([f"{pair.lacking}: left out"] if pair.lacking else []), *summary(pair, made, words.limit, place))
     return 0

@@ -4,11 +4,9 @@ import argparse
 import re
 from typing import TYPE_CHECKING
 
-from .options import add_number, add_out, add_text
+from .options import add_number, add_out, add_text, day
 
 if TYPE_CHECKING:
-    import datetime
-
     from ..engine import Run
 
 UNUSED = ("within", "workers", "tries", "origins", "opportunities", "destinations")
@@ -32,23 +30,14 @@ def clock(text: str) -> str:
     return text
 
 
-def date(text: str) -> "datetime.date":
-    import datetime
-
-    try:
-        return datetime.datetime.strptime(text if len(text) == 8 else "", "%Y%m%d").date()
-    except ValueError:
-        raise argparse.ArgumentTypeError(f"{text!r} is no day, YYYYMMDD") from None
-
-
 def describe(parser: argparse.ArgumentParser) -> None:
     parser.add_argument("feed", metavar="FEED", help="the folder of an unpacked feed")
     told = "scenario files, each told beside the feed as it is"
     parser.add_argument("scenarios", metavar="SCENARIO", nargs="*", help=told)
     for name, told in (("--origin", "where the journey begins"), ("--destination", "and where it ends")):
         parser.add_argument(name, metavar="STOP", required=True, help=f"the stop {told} (needed)")
-    told = "the day of the departures, 00010101 to 99991231 (needed)"
-    parser.add_argument("--date", metavar="YYYYMMDD", type=date, required=True, help=told)
+    told = "the day of the departures, YYYYMMDD or YYYY-MM-DD, of the years 1 to 9999 (needed)"
+    parser.add_argument("--date", metavar="DATE", type=day, required=True, help=told)
     for name, told in (("--from", "first"), ("--to", "last")):
         help = f"the {told} departure, one each minute, 00:00 to 23:59 (needed)"
         parser.add_argument(name, dest=told, metavar="HH:MM", type=clock, required=True, help=help)
@@ -79,8 +68,8 @@ def asked_of(words: argparse.Namespace) -> "Run":
         raise WrongWords("--to is before --from")
     files = {} if words.footpaths is None else {"footpaths": words.footpaths}
     how = {"trips": words.trips, "walk": words.walk, "back": words.back, "ahead": words.ahead}
-    window, text = (words.first, words.last), words.date.strftime("%Y%m%d")
-    return Run(words.feed, text, window, shares=[words.share], scenarios=words.scenarios, files=files, **how)
+    window = (words.first, words.last)
+    return Run(words.feed, words.date, window, shares=[words.share], scenarios=words.scenarios, files=files, **how)
 
 
 def run(words: argparse.Namespace) -> int:

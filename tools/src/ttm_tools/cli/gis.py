@@ -1,7 +1,6 @@
 """ttm-tools gis."""
 
 import argparse
-import sys
 
 from .options import add_matrix, add_points, add_share, add_text, scenarios_of
 
@@ -26,7 +25,7 @@ def describe(parser: argparse.ArgumentParser) -> None:
 
 
 def run(words: argparse.Namespace) -> int:
-    from ..faults import WrongWords, needs
+    from ..faults import WrongWords, needs, say
 
     kind = words.out.rsplit(".", 1)[-1].lower()
     if kind not in ("geojson", "json", "gpkg"):
@@ -48,5 +47,5 @@ def run(words: argparse.Namespace) -> int:
         with output(words.out) as file:
             write_geojson(file, features)
     lost = len(matrix.stops_and_origins()) - len(features.stops.identifiers)
-    print(f"{words.out}: {len(features.stops.identifiers)} stops; {lost} have no coordinates", file=sys.stderr)
+    say(f"{words.out}: {len(features.stops.identifiers)} stops; {lost} have no coordinates")
     return 0

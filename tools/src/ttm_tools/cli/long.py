@@ -1,6 +1,8 @@
 """ttm-tools long."""
 
 import argparse
+import sys
+from dataclasses import replace
 from typing import TYPE_CHECKING
 
 from .options import add_feed, add_matrix, add_out, add_points, add_share, add_text, add_within, scenarios_of
@@ -18,9 +20,12 @@ destination. With --feed come origin_name, origin_lat, origin_lon, destination_n
 where the matrix names it) and access.
 
 With --names r5py the columns are called as that library calls them: from_id, to_id, and for each share a column such as
-travel_time_p50, in minutes to the nearest hundredth. A name of --out that ends in .parquet writes Parquet (with pyarrow
-or fastparquet, where one is installed), each other a CSV. Rows are turned some at a time, so a matrix may be larger
-than the memory. Memory: some 100 MB."""
+travel_time_p25, or travel_time where the median alone is taken, in minutes to the nearest hundredth. A name of --out
+that ends in .parquet writes Parquet (with pyarrow or fastparquet, where one is installed), each other a CSV. A CSV of
+more than 1,048,576 lines is written, and told: spreadsheets show no more. With --csvt a file beside it says the type of
+each column, so that QGIS keeps leading zeros of identifiers; spreadsheets drop these unless the column is imported as
+text. A spreadsheet takes a name that begins with =, +, - or @ for a formula: --safe writes an apostrophe before it.
+Rows are turned some at a time, so a matrix may be larger than the memory. Memory: some 100 MB."""
 
 
 def describe(parser: argparse.ArgumentParser) -> None:
@@ -44,6 +49,10 @@ def describe(parser: argparse.ArgumentParser) -> None:
     parser.add_argument("--access", action="store_true", help=told)
     told = "whose names the columns bear (default ttm); r5py's have one scenario and minutes"
     parser.add_argument("--names", choices=("ttm", "r5py"), default="ttm", help=told)
+    told = "write the types of the columns to a file beside --out that ends in .csvt, for QGIS (without it, none)"
+    parser.add_argument("--csvt", action="store_true", help=told)
+    told = "write an apostrophe before names that a spreadsheet takes for formulas (without it, as they are)"
+    parser.add_argument("--safe", action="store_true", help=told)
     add_out(parser, "where the lines are written, as CSV or, where it ends in .parquet, as Parquet")
     add_matrix(parser)
 
@@ -58,6 +67,8 @@ def run(words: argparse.Namespace) -> int:
     parquet = words.out is not None and words.out.endswith(".parquet")
     if parquet and words.access:
         raise WrongWords("--access is written as CSV")
+    if words.csvt and (parquet or words.out is None):
+        raise WrongWords("--csvt needs --out, the name of a CSV")
     needs("numpy", *(["pandas"] if parquet else []))
     from ..files import output
     from ..matrices import open_matrix
@@ -65,15 +76,25 @@ def run(words: argparse.Namespace) -> int:
     from ..views import long
 
     matrix, stops = shown_of(open_matrix(words.matrix), words.feed, words.points)
+    if words.safe and stops is not None:
+        stops = replace(stops, names=list(map(long.safe, stops.names)))
     choice = choice_of(words, matrix)
     if parquet:
         long.write_parquet(words.out, long.frames_of(matrix, choice, stops))
         return 0
+    count = 0
     with output(words.out) as file:
         if words.access:
             long.write_access(file, matrix, choice, words.within, stops)
         else:
-            long.write_times(file, matrix, choice, stops)
+            count = long.write_times(file, matrix, choice, stops)
+    if words.csvt:
+        header = long.access_header(matrix, stops) if words.access else long.header_of(matrix, choice, stops)
+        with output(f"{words.out}t") as file:
+            file.write((",".join(f'"{long.type_of(name)}"' for name in header) + "\n").encode("ascii"))
+    if count > long.MOST_LINES:
+        told = f"{count:,} lines, of which a spreadsheet shows {long.MOST_LINES:,}: take some by --origins"
+        print(f"{words.out or 'standard output'}: {told}", file=sys.stderr)
     return 0
 
 

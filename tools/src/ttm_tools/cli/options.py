@@ -2,11 +2,17 @@
 
 import argparse
 import math
-import sys
 from typing import TYPE_CHECKING, Callable, Sequence
 
+from ..faults import say
+
 if TYPE_CHECKING:
+    import datetime
+
     from ..matrices import Matrix
+
+
+MOST_LIMIT = 4_294_967_295  # seconds
 
 
 def number(unit: str, least: float, most: float, whole: bool = True) -> Callable[[str], float]:
@@ -22,6 +28,16 @@ def number(unit: str, least: float, most: float, whole: bool = True) -> Callable
         return made
 
     return read
+
+
+def day(text: str) -> "datetime.date":
+    """A day, as `ttm` writes it or as ISO 8601 does."""
+    from ..dates import ALLOWED, day_of
+
+    try:
+        return day_of(text)
+    except ValueError:
+        raise argparse.ArgumentTypeError(f"{text!r} is no day, {ALLOWED}") from None
 
 
 def range_told(unit: str, least: float, most: float) -> str:
@@ -97,7 +113,30 @@ def add_share(parser: argparse.ArgumentParser, without: str = "the only one") ->
 
 
 def add_within(parser: argparse.ArgumentParser, without: str = "the only one") -> None:
-    add_number(parser, "--within", "the limit of the access that is taken", "seconds", (0, 4294967295), without=without)
+    """The limit of access, in minutes as all tools have it, or in seconds as `ttm` has it."""
+    told = f"the limit of the access that is taken: 0 to 71,582,788 minutes (without it, {without})"
+    read = number("minutes", 0, MOST_LIMIT // 60, whole=False)
+    parser.add_argument(
+        "--cutoff", "--cutoffs", dest="within", type=lambda it: round(60 * read(it)), metavar="MINUTES", help=told
+    )
+    add_number(parser, "--within", "the same in seconds, as ttm has it", "seconds", (0, MOST_LIMIT), without=without)
+
+
+def add_cutoffs(parser: argparse.ArgumentParser, told: str, bounds: tuple[float, float], default: str) -> None:
+    """Limits of access, in minutes as all tools have them, or in seconds as `ttm` has them."""
+    text = f"{told}: {range_told('minutes', *bounds)} (default {default})"
+    read = numbers("minutes", *bounds)
+    parser.add_argument("--cutoffs", "--cutoff", type=read, default=default, metavar="N,N..", help=text)
+    seconds = numbers("seconds", 60 * bounds[0], 60 * bounds[1])
+    text = f"the same in seconds, as ttm has them: {range_told('seconds', 60 * bounds[0], 60 * bounds[1])}"
+    parser.add_argument(
+        "--within",
+        dest="cutoffs",
+        type=lambda it: [second / 60 for second in seconds(it)],
+        default=argparse.SUPPRESS,
+        metavar="N,N..",
+        help=f"{text} (without it, --cutoffs)",
+    )
 
 
 def add_base(parser: argparse.ArgumentParser) -> None:
@@ -133,5 +172,5 @@ def add_pace(parser: argparse.ArgumentParser) -> None:
 def scenarios_of(matrix: "Matrix", named: Sequence[str] | None) -> list[str]:
     """The scenarios that are named, or all that are compared; one that is left out then is told."""
     if not named and matrix.left_out:
-        print(matrix.left_out, file=sys.stderr)
+        say(matrix.left_out)
     return [matrix.scenario(name) for name in named or matrix.compared]

@@ -2,7 +2,7 @@
 
 import argparse
 
-from .options import add_base, add_matrix, add_number, add_numbers, add_points, add_share, add_text, scenarios_of
+from .options import add_base, add_cutoffs, add_matrix, add_number, add_points, add_share, add_text, scenarios_of
 
 TOLD = "one file of HTML to send: travel times and access, to look at in a browser"
 HELP = """\
@@ -40,7 +40,7 @@ def describe(parser: argparse.ArgumentParser) -> None:
     parser.add_argument("--scenario", metavar="NAME", action="append", default=[], help=told + many.format("all"))
     add_base(parser)
     add_share(parser, without="all")
-    add_numbers(parser, "--cutoffs", "the limits of access", "minutes", (1, 250), default="15,30,45,60")
+    add_cutoffs(parser, "the limits of access", (1, 250), "15,30,45,60")
     told = "a file with the column stop_id: the stops whose travel times the page takes"
     add_text(parser, "--origins", "FILE", told, without="all that there is room for")
     add_number(parser, "--seed", "of the draw of stops where there is no room for all", "", (0, 4294967295), default=1)
@@ -73,7 +73,9 @@ def run(words: argparse.Namespace) -> int:
     from ..views.page.make import Wish, page_of, tell
 
     leaflet_files(words.leaflet)
-    wish = Wish(**{name: getattr(words, WORDS.get(name, name)) for name in Wish.__dataclass_fields__})
+    wish = Wish(
+        **{name: getattr(words, WORDS.get(name, name)) for name in Wish.__dataclass_fields__ if name != "within"}
+    )
     matrix = open_matrix(words.matrix)
     scenarios_of(matrix, words.scenario)  # tells which of them is left out
     page = page_of(matrix, wish)

@@ -1,9 +1,8 @@
 """ttm-tools points."""
 
 import argparse
-import sys
 
-from .options import add_number, add_pace
+from .options import add_number, add_pace, add_text
 
 TOLD = "from door to door: a feed with points as stops, and the walks to them"
 HELP = """\
@@ -11,16 +10,18 @@ Makes a folder for runs of ttm from point to point, such as cells of a grid, hom
 without trips, and walks between points and stops become footpaths. So a journey begins with a walk from a point, ends
 with a walk to a point, or is a walk from point to point, and ttm puts walks and rides together, minute by minute.
 
-A file of points is a CSV with the columns id, lat and lon (degrees), and where they are there name, width (how wide a
-cell is drawn, in metres) and columns of numbers from 0 on; each other column is a fault. With geopandas a GeoPackage or
-a GeoJSON file is taken, too, with the property id: a point inside of each area; its properties of text are left out.
-Journeys begin and end at the points of POINTS, begin at those of --origins, and end at those of --destinations.
+A file of points is a CSV with the columns id, lat and lon (degrees; --id, --lat and --lon name others), and where they
+are there name, width and height (how wide and high a cell is drawn, in metres; without height a square) and columns of
+numbers from 0 on. A column in which no field is a number has labels. With geopandas a GeoPackage or a GeoJSON file is
+taken, too, with the property id: a point inside of each area; its properties of text are labels. Journeys begin and end
+at the points of POINTS, begin at those of --origins, and end at those of --destinations.
 
 The folder has: feed, the feed with the points; footpaths.csv, the walks between points and stops, of stops and of
 points, within the limit; origins.csv and destinations.csv, the points; opportunities_NAME.csv for each column, its
-numbers made whole for ttm; and words.txt, the words that a run begins with. feed/points.csv has all points with their
-numbers, and by it the other commands show points alone. Identifiers stay as they are; where one is a stop's already, or
-a point's of a file before, those of its file begin with the file's name and a colon.
+numbers made whole for ttm; labels.csv, the labels, where there are any; and words.txt, the words that a run begins
+with. feed/points.csv has all points with their numbers, and by it the other commands show points alone. Identifiers
+stay as they are; where one is a stop's already, or a point's of a file before, those of its file begin with the file's
+name and a colon.
 
 Walks are those of ttm-tools walks, straight lines or along streets; a point has no entrances. A point without any stop
 in reach is told. ttm takes 65,535 stops, stations and points, and 4,000,000 walks: more are told before anything is
@@ -34,6 +35,8 @@ def describe(parser: argparse.ArgumentParser) -> None:
         help = f"points at which journeys only {told}; may be given more than once (without it, POINTS alone)"
         parser.add_argument(name, metavar="POINTS", action="append", default=[], help=help)
     parser.add_argument("--out", metavar="FOLDER", required=True, help="the folder, which is new or empty (needed)")
+    for name, told in (("id", "which point it is"), ("lat", "its latitude"), ("lon", "its longitude")):
+        add_text(parser, f"--{name}", "COLUMN", f"the column that says {told}", default=name)
     add_number(parser, "--limit", "the longest walk, which is the --walk of a run too", "seconds", (1, 7200), 600)
     add_pace(parser)
     told = "leave out the points without a stop in reach (without it, they are told)"
@@ -41,21 +44,22 @@ def describe(parser: argparse.ArgumentParser) -> None:
 
 
 def run(words: argparse.Namespace) -> int:
-    from ..faults import WrongWords, needs
+    from ..faults import WrongWords, needs, say
 
     needs("numpy")
     from ..points import read_points
+    from ..points.table import Columns
     from ..points.study import Asked, make
     from ..walks import Pace, walks_of
 
     files, begins, ends = files_of(words)
     if not any(begins) or not any(ends):
         raise WrongWords("points are needed at which journeys begin, and at which they end")
-    points = [read_points(path) for path in files]
+    called = Columns(words.id, words.lat, words.lon)
+    points = [read_points(path, called) for path in files]
     asked = Asked(words.feed, words.out, points, begins, ends, words.limit, words.leave_out, words.near)
     pace = Pace(words.limit, words.speed, words.detour)
-    for line in make(asked, lambda stops: walks_of(stops, pace, words.streets, words.near)):
-        print(line, file=sys.stderr)
+    say(*make(asked, lambda stops, first: walks_of(stops, pace, words.streets, words.near, first)))
     return 0
 
 

@@ -52,13 +52,13 @@ def describe(parser: argparse.ArgumentParser) -> None:
 
 
 def run(words: argparse.Namespace) -> int:
-    from ..faults import needs
+    from ..faults import needs, say
 
     needs("numpy", "pandas")
     from ..plans.make import make
 
     made = make(words.feed, words.plan, words.out, words.only)
-    print("\n".join(made.lines), file=sys.stderr)
+    say(*made.lines)
     if made.words is not None:
         sys.stdout.buffer.write(os.fsencode(made.words) + b"\n")
     return 0

@@ -1,7 +1,6 @@
 """ttm-tools split."""
 
 import argparse
-import sys
 
 from .options import add_number, add_text
 
@@ -27,12 +26,12 @@ def describe(parser: argparse.ArgumentParser) -> None:
 
 
 def run(words: argparse.Namespace) -> int:
-    from ..faults import needs
+    from ..faults import needs, say
 
     needs("numpy")
     from ..parts import origins_in, origins_of_feed, write_parts
 
     origins = origins_in(words.origins) if words.origins else origins_of_feed(words.feed)
     made = write_parts(origins, words.parts or 1, words.out)
-    print(f"{len(origins)} origins in {made} parts", file=sys.stderr)
+    say(f"{len(origins)} origins in {made} parts")
     return 0

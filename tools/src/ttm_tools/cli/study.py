@@ -74,6 +74,8 @@ def run(words: argparse.Namespace) -> int:
         one_part(Path(words.study), words.part)
         return 0
     needs("h5py")
+    from ..files import Interrupted
+
     if words.verify is not None:
         from ..study.verify import verify
 
@@ -81,5 +83,9 @@ def run(words: argparse.Namespace) -> int:
         return 0
     study = read_study(words.study)
     out = Path(words.out) if words.out else study.path.with_suffix("")
-    make_study(study, out, Means(words.workers, words.slurm, words.hosts, words.option))
+    try:
+        make_study(study, out, Means(words.workers, words.slurm, words.hosts, words.option))
+    except (Interrupted, KeyboardInterrupt):
+        print("what is done is kept: the same command goes on with what is missing", file=sys.stderr)
+        raise
     return 0

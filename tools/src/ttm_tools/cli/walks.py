@@ -2,7 +2,6 @@
 
 import argparse
 import os
-import sys
 
 from .options import add_number, add_out, add_pace, add_text
 
@@ -39,7 +38,7 @@ def describe(parser: argparse.ArgumentParser) -> None:
 
 
 def run(words: argparse.Namespace) -> int:
-    from ..faults import WrongWords, needs
+    from ..faults import WrongWords, needs, say
 
     if words.table and words.streets:
         raise WrongWords("--table and --streets are two sources of walks: one of them")
@@ -61,7 +60,5 @@ def run(words: argparse.Namespace) -> int:
         rows, told = found.rows(), what_is_told(found, "stops", words.near)
     with output(out) as file:
         write_rows(file, ["from_stop_id", "to_stop_id", "seconds"], rows)
-    print(f"{out}: {len(rows)} footpaths; {told}", file=sys.stderr)
-    for line in told_nearer(words.folder, out):
-        print(line, file=sys.stderr)
+    say(f"{out}: {len(rows)} footpaths; {told}", *told_nearer(words.folder, out))
     return 0

@@ -4,7 +4,7 @@ makes the latter.
 The room is called `matrices`, since `ttm_tools.matrix` is the function that runs `ttm`.
 """
 
-from ..faults import BadInput
+from ..opening.paths import as_one_line, regular
 from .csv_matrix import CsvMatrix
 from .layout import Layout, layout_of
 from .lines import Seconds
@@ -32,8 +32,6 @@ __all__ = [
 
 def open_matrix(path: str) -> Matrix:
     """A matrix on the disk, whichever way it is written."""
-    try:
-        opened = is_open_matrix(path)
-    except OSError as fault:
-        raise BadInput(path, fault.strerror) from None
-    return OpenMatrix(path) if opened else CsvMatrix(path)
+    regular(path)
+    with as_one_line(path, "can't be read"):
+        return OpenMatrix(path) if is_open_matrix(path) else CsvMatrix(path)

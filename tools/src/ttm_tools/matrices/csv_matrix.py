@@ -10,6 +10,7 @@ import numpy as np
 
 from .. import progress
 from ..faults import BadInput
+from ..opening.paths import as_one_line, regular
 from ..records import shown
 from .layout import Layout, layout_of
 from .lines import (
@@ -22,6 +23,7 @@ from .lines import (
     head_of,
     read_record,
     records_of,
+    refuse_wide,
     seconds_of,
 )
 from .matrix import Matrix, Share, Sums
@@ -57,17 +59,16 @@ class CsvMatrix(Matrix):
     def __init__(self, path: str) -> None:
         self.path = path
         self.index: dict[tuple[str, Share], Index] = {}
-        try:
-            with open(path, "rb", buffering=BYTES_AT_ONCE) as file:
-                self.layout = self.read_layout(file)
-                self.read_lines(file)
-        except OSError as fault:
-            raise BadInput(path, fault.strerror) from None
+        regular(path)
+        with as_one_line(path, "can't be read"), open(path, "rb", buffering=BYTES_AT_ONCE) as file:
+            self.layout = self.read_layout(file)
+            self.read_lines(file)
         if not self.index:
             raise BadInput(path, "no rows")
 
     def read_layout(self, file: BinaryIO) -> Layout:
         record = read_record(file)
+        refuse_wide(self.path, record)
         found = layout_of(fields_of(record.removeprefix(b"\xef\xbb\xbf")))
         if found is None:
             raise BadInput(self.path, NO_MATRIX, record=1)

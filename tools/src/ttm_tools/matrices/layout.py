@@ -13,7 +13,7 @@ import re
 from dataclasses import dataclass
 from typing import Sequence
 
-LIMIT = re.compile(r"access_(0|[1-9][0-9]*)")
+LIMIT = re.compile(r"access_(0|[1-9][0-9]{0,9})")  # seconds of 32 bits
 MOST_LIMITS = 8
 
 

@@ -5,6 +5,7 @@ from typing import BinaryIO, Iterator
 import numpy as np
 import numpy.typing as npt
 
+from ..faults import BadInput
 from ..records import read_text
 
 Seconds = npt.NDArray[np.float32]  # NaN where a stop isn't reached; whole seconds up to MOST are exact
@@ -12,18 +13,26 @@ Bytes = npt.NDArray[np.uint8]
 COMMA, ZERO, QUOTE = ord(","), ord("0"), b'"'
 MOST = (1 << 24) - 1  # seconds
 MOST_DIGITS = 9
+MOST_COLUMNS = 65_535 + 11  # stops that `ttm` takes, and what stands before them
+MOST_RECORD = 1 << 26  # bytes
 POWERS = [10**place for place in range(MOST_DIGITS)]
 
 
 def read_record(file: BinaryIO) -> bytes:
     """The bytes of one record: up to a line end outside of quotes."""
-    record = file.readline()
+    record = file.readline(MOST_RECORD)
     while QUOTE in record and record.count(QUOTE) % 2 == 1:  # looking is twenty times as fast as counting
-        more = file.readline()
-        if not more:
+        more = file.readline(MOST_RECORD)
+        if not more or len(record) >= MOST_RECORD:
             break
         record += more
     return record
+
+
+def refuse_wide(path: str, header: bytes) -> None:
+    """Refuses a header with more columns than a matrix has, before it is cut into fields."""
+    if len(header) >= MOST_RECORD or header.count(b",") >= MOST_COLUMNS:
+        raise BadInput(path, f"more than {MOST_COLUMNS:,} columns: not a matrix", record=1)
 
 
 def records_of(file: BinaryIO) -> Iterator[bytes]:

@@ -16,6 +16,8 @@ import numpy.typing as npt
 from .. import progress
 from ..faults import BadInput, needs
 from ..files import written_aside
+from ..opening.open_matrices import SHARES, limits_of, looked_at, refuse_shapes, refuse_twice
+from ..opening.paths import as_one_line, regular
 from ..threads import in_order, processors
 from .chunks import LEVEL, packed, rows_of
 from .layout import Layout
@@ -35,9 +37,16 @@ def decoded(names: Any) -> list[str]:
     return [name.decode("utf-8", "surrogateescape") if isinstance(name, bytes) else str(name) for name in names]
 
 
-def name_of(scenario: str, share: Share) -> str:
-    """The name of a matrix in the file."""
-    return (scenario.replace("/", "_") if share is None else f"{scenario.replace('/', '_')}_{share}").lstrip(".") or "_"
+def names_of(keys: Sequence[tuple[str, Share]]) -> dict[tuple[str, Share], str]:
+    """The names of matrices in the file, no two alike."""
+    made: dict[tuple[str, Share], str] = {}
+    for scenario, share in keys:
+        name = scenario.replace("/", "_").replace("\0", "_") + ("" if share is None else f"_{share}")
+        name = name.lstrip(".") or "_"
+        while name in made.values():
+            name += "_"
+        made[scenario, share] = name
+    return made
 
 
 def write_open_matrix(matrix: Matrix, path: str, threads: int | None = None) -> None:
@@ -47,6 +56,9 @@ def write_open_matrix(matrix: Matrix, path: str, threads: int | None = None) -> 
     needs("h5py")
     import h5py
 
+    if not matrix.stops:
+        told = "has no columns, as a run whose --destinations are a header alone: there is nothing to write"
+        raise BadInput(matrix.path, told)
     layouts = [(scenario, share) for scenario in matrix.compared for share in matrix.shares]
     first = matrix.origins(*layouts[0])
     for scenario, share in layouts:
@@ -60,27 +72,43 @@ def write_open_matrix(matrix: Matrix, path: str, threads: int | None = None) -> 
         file.attrs["SHAPE"] = np.array([len(first), len(matrix.stops)], np.int32)
         if matrix.layout.names_share:
             file.attrs["limits"] = np.array(matrix.layout.limits, np.int64)
-        write_lookups(file.create_group("lookup"), first, matrix.stops)
+        write_lookups(ordered_group(file, "lookup"), first, matrix.stops)
         data, access = file.create_group("data"), file.create_group("access")
-        for place, (scenario, share) in enumerate(layouts):
-            made_data = make_data(data, matrix, scenario, share, place)
-            fill_data(made_data, matrix, (scenario, share), threads or processors())
-            access.create_dataset(name_of(scenario, share), data=matrix.access(scenario, share))
+        for place, (key, name) in enumerate(names_of(layouts).items()):
+            made_data = make_data(data, matrix, key, name, place)
+            fill_data(made_data, matrix, key, threads or processors())
+            access.create_dataset(name, data=matrix.access(*key))
+
+
+def ordered_group(file: Any, name: str) -> Any:
+    """A group whose members are listed in the order in which they are made; it notes no time, so that the same matrix
+    gives the same bytes.
+    """
+    import h5py
+
+    how = h5py.h5p.create(h5py.h5p.GROUP_CREATE)
+    how.set_link_creation_order(h5py.h5p.CRT_ORDER_TRACKED | h5py.h5p.CRT_ORDER_INDEXED)
+    how.set_obj_track_times(False)
+    return h5py.Group(h5py.h5g.create(file.id, name.encode("ascii"), gcpl=how))
 
 
 def write_lookups(group: Any, origins: Sequence[str], stops: Sequence[str]) -> None:
-    for name, names in (("origin", origins), ("destination", stops)):
-        group.create_dataset(name, data=encoded(names))
-        group.create_dataset(f"{name}_number", data=np.arange(1, len(names) + 1, dtype=np.int32))
+    """Writes the numbers of origins (DIM 0, the rows) and destinations (DIM 1), and then their identifiers."""
+    ends = (("origin", origins), ("destination", stops))
+    numbers = [(f"{name}_number", np.arange(1, len(names) + 1, dtype=np.int32)) for name, names in ends]
+    for place, (name, data) in enumerate([*numbers, *((name, encoded(names)) for name, names in ends)]):
+        group.create_dataset(name, data=data).attrs["DIM"] = np.int32(place % 2)
 
 
-def make_data(group: Any, matrix: Matrix, scenario: str, share: Share, place: int) -> Any:
+def make_data(group: Any, matrix: Matrix, key: tuple[str, Share], name: str, place: int) -> Any:
     """Makes the room for the travel times of a scenario and a share, in chunks of whole rows."""
+    scenario, share = key
     shape = (len(matrix.origins(scenario, share)), len(matrix.stops))
     rows = max(1, min(shape[0], CELLS_OF_A_CHUNK // max(1, shape[1])))
     how = {"chunks": (rows, shape[1]), "compression": "gzip", "compression_opts": LEVEL, "shuffle": True}
-    made = group.create_dataset(name_of(scenario, share), shape=shape, dtype="<f4", **(how if all(shape) else {}))
+    made = group.create_dataset(name, shape=shape, dtype="<f4", **(how if all(shape) else {}))
     made.attrs["place"] = place
+    made.attrs["NA"] = np.float32(np.nan)
     made.attrs["scenario"] = np.bytes_(scenario.encode("utf-8", "surrogateescape"))
     if share is not None:
         made.attrs["share"] = share
@@ -119,43 +147,58 @@ class OpenMatrix(Matrix):
         import h5py
 
         self.path = path
-        try:
-            self.file: Any = h5py.File(path, "r")
-        except OSError as fault:
-            raise BadInput(path, f"no whole HDF5 file: {fault}") from None
+        regular(path)
         self.names: dict[tuple[str, Share], str] = {}
-        for group in ("data", "lookup", "access"):
-            if group not in self.file:
-                raise BadInput(path, f"no group {group}: is it an Open Matrix file that ttm-tools omx wrote?")
-        for name, data in sorted(self.file["data"].items(), key=lambda item: int(item[1].attrs.get("place", 0))):
-            scenario, share = data.attrs.get("scenario"), data.attrs.get("share")
-            if scenario is None or name not in self.file["access"]:
-                raise BadInput(
-                    path, f"matrix {name} names no scenario, or has no access: ttm-tools omx didn't write it"
-                )
-            self.names[decoded([bytes(scenario)])[0], None if share is None else int(share)] = name
-        self.read_layout()
+        with as_one_line(path, "no whole HDF5 file"):
+            self.file: Any = h5py.File(path, "r")
+            refuse_shapes(self.file, path)
+            for name, data in sorted(self.file["data"].items(), key=lambda item: int(item[1].attrs.get("place", 0))):
+                self.take(name, data.attrs["scenario"], data.attrs.get("share"))
+            self.read_layout()
+
+    def take(self, name: str, scenario: Any, share: Any) -> None:
+        """Takes a matrix of the file by its scenario and share."""
+        if not isinstance(scenario, (bytes, str)):
+            raise BadInput(self.path, f"matrix {name} names no scenario")
+        key = decoded([scenario])[0], None if share is None else int(share)
+        if not key[0] or share is not None and int(share) not in SHARES:
+            raise BadInput(self.path, f"matrix {name} names no scenario, or a share that isn't 1 to 100")
+        if key in self.names:
+            raise BadInput(self.path, f"matrix {name} is of the scenario and share of {self.names[key]}")
+        self.names[key] = name
 
     def read_layout(self) -> None:
         """Takes the layout, and the order of scenarios, from what was read."""
         if not self.names:
             raise BadInput(self.path, "no matrices")
-        lookup, limits = self.file["lookup"], self.file.attrs.get("limits")
+        lookup = self.file["lookup"]
         self.origin_names, stops = decoded(lookup["origin"][:]), decoded(lookup["destination"][:])
+        refuse_twice(self.origin_names, "origin", self.path)
+        refuse_twice(stops, "destination", self.path)
         named = None not in {share for _, share in self.names}
-        self.layout = Layout(named, (None,) if limits is None else tuple(map(int, limits)), stops)
+        self.layout = Layout(named, limits_of(self.file, self.path), stops)
         self.scenarios = list(dict.fromkeys(scenario for scenario, _ in self.names))
         self.shares = sorted({share for _, share in self.names}, key=lambda share: share or 0)
+        if len(self.names) < len(self.scenarios) * len(self.shares):
+            raise BadInput(self.path, "not all scenarios have the same shares")
+        for key in self.names:
+            self.access(*key)
 
     def origins(self, scenario: str, share: Share) -> list[str]:
         return self.origin_names if (scenario, share) in self.names else []
 
     def access(self, scenario: str, share: Share) -> Sums:
-        made: Sums = self.file["access"][self.names[scenario, share]][:].astype(np.int64)
+        name = self.names[scenario, share]
+        with as_one_line(self.path, f"access of {name} can't be read"):
+            made: Sums = self.file["access"][name][:].astype(np.int64)
+        if (made < 0).any():
+            raise BadInput(self.path, f"access of {name} has {made.min()}, which is no sum")
         return made
 
     def rows(self, scenario: str, share: Share, begin: int, end: int) -> Seconds:
-        return rows_of(self.file["data"][self.names[scenario, share]], begin, end)
+        name = self.names[scenario, share]
+        with as_one_line(self.path, f"matrix {name} can't be read"):
+            return looked_at(rows_of(self.file["data"][name], begin, end), self.path, name)
 
 
 def is_open_matrix(path: str) -> bool:

@@ -2,7 +2,7 @@
 
 A pair differs where its travel time is more than a limit away from the base's: slower or faster. `cut off` is who got
 there in the base and doesn't in the scenario, `new` who does only there: these have no change, and count whatever the
-limit is.
+limit is. An origin loses or gains by its access, as `Sides` says.
 """
 
 from dataclasses import dataclass
@@ -44,6 +44,31 @@ class Comparison:
     reached_before: npt.NDArray[np.int64]
     reached_after: npt.NDArray[np.int64]
     changes: Changes
+
+
+@dataclass(frozen=True)
+class Sides:
+    """Which origins lose access and which gain some, however little: the one definition for maps, page, report and
+    tables.
+    """
+
+    lose: npt.NDArray[np.bool_]  # less than before
+    gain: npt.NDArray[np.bool_]  # more than before
+    cut_off: npt.NDArray[np.bool_]  # of those that lose: something before, and nothing now
+    newly_reached: npt.NDArray[np.bool_]  # of those that gain: nothing before, and something now
+
+    def told(self) -> str:
+        """How many there are of each."""
+        lose, gain, cut, new = (int(it.sum()) for it in (self.lose, self.gain, self.cut_off, self.newly_reached))
+        all_of_it = f" ({cut:,} of them cut off)" if cut else ""
+        from_nothing = f" ({new:,} of them newly reached)" if new else ""
+        return f"{lose:,} lose{all_of_it}, {gain:,} gain{from_nothing}"
+
+
+def sides_of(before: Sums, after: Sums) -> Sides:
+    """The sides of origins with this access before and after."""
+    lose, gain = after < before, after > before
+    return Sides(lose, gain, lose & (after == 0), gain & (before == 0))
 
 
 def kinds_of(before: Seconds, after: Seconds, limit: float) -> npt.NDArray[np.int8]:

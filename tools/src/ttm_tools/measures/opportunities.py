@@ -19,6 +19,7 @@ NO_COUNTS = {
     "lat",
     "lon",
     "width",
+    "height",
 }  # columns that say where and what it is
 OWN_NAME = "opportunities"  # as every file of `ttm` calls its column
 

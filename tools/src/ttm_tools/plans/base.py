@@ -98,6 +98,16 @@ class Base:
         return {name: np.array(places, dtype=np.int64) for name, places in made.items()}
 
     @cached_property
+    def first_agency(self) -> str:
+        """The agency of the feed's first route, which new lines have where they name none."""
+        table = self.feed.tables["routes.txt"]
+        return table.text("agency_id", 0) if len(table) else ""
+
+    def last_stop(self, trip: int) -> int:
+        """The stop at which a trip of the feed ends."""
+        return int(self.stop[self.begins[trip + 1] - 1])
+
+    @cached_property
     def directions(self) -> list[str]:
         """The direction_id of each trip, empty where none is stated."""
         return texts(self.feed.tables["trips.txt"], "direction_id")

@@ -4,7 +4,7 @@ from dataclasses import dataclass
 
 from .actions import ACTIONS
 from .base import Base
-from .plan_file import Entry, PlannedScenario
+from .plan_file import Entry, PlannedScenario, near
 from .state import Change, Counts, State
 
 ABOUT = ("route", "trip", "stop")  # keys that say what an action is about
@@ -53,7 +53,8 @@ def carried_out(base: Base, planned: PlannedScenario) -> Finished:
     state, done = State(base, planned.name), list[Done]()
     for number, entry in enumerate(planned.actions, 1):
         what = entry.text("do")
-        entry.known("do", what, ACTIONS, "is no action")
+        if what not in ACTIONS:
+            raise entry.fault(f"is no action{near(what, ACTIONS)}", "do", what, ", ".join(ACTIONS))
         before, state.changes = state.counts(), []
         notes = ACTIONS[what](state, entry)
         if not state.changes:

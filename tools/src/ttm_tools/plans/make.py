@@ -4,6 +4,7 @@ import shlex
 from dataclasses import dataclass
 from pathlib import Path
 
+from ..escaping import as_text
 from ..faults import BadInput
 from ..files import is_free, many_written_aside
 from .base import read_base
@@ -56,7 +57,8 @@ def write_words(written: Written, folder: Path, out: str) -> str:
 def write_report(plan: Plan, finished: list[Finished], lines: list[str], folder: Path) -> None:
     """Writes what is told as a page of Markdown."""
     names = ", ".join(it.name for it in finished)
-    text = [f"# Scenarios of {Path(plan.path).name}: {names}", ""]
+    text = [f"# Scenarios of {as_text(Path(plan.path).name)}: {names}", ""]
+    lines = [as_text(line) for line in lines]
     text += [f"{line[2:]}" if line.startswith("  ") else f"- {line}" for line in lines]
     body = "\n".join(f"  {line}" if not line.startswith(("-", "#")) and line else line for line in text)
     (folder / REPORT).write_text(body + "\n", encoding="utf-8", errors="backslashreplace")

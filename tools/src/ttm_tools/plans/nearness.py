@@ -11,9 +11,10 @@ NEW_STOPS = "new_stops.csv"
 Leaving = dict[int, list[tuple[int, int]]]  # of each stop the stops that one walks to, and the seconds
 
 
-def told_nearer(folder: str, footpaths: str) -> Iterator[str]:
+def told_nearer(folder: str, footpaths: str, walk: int = 0) -> Iterator[str]:
     """A sentence where walks by way of new stops of a folder of scenarios are shorter than all others, within the
-    longest of the footpaths; nothing where they aren't, or the folder has no new stops.
+    longest of the footpaths or the walk of a run, in seconds; nothing where they aren't, or the folder has no new
+    stops.
     """
     path = os.path.join(folder, NEW_STOPS)
     names = [stop for _, (stop,) in rows(path, ["stop_id"])] if os.path.isfile(path) else []
@@ -24,7 +25,7 @@ def told_nearer(folder: str, footpaths: str) -> Iterator[str]:
     walks: Leaving = {}
     for _, (origin, target, text) in rows(footpaths, ["from_stop_id", "to_stop_id", "seconds"]):
         walks.setdefault(stops.places[origin], []).append((stops.places[target], int(text)))
-    found = nearer(walks, new)
+    found = nearer(walks, new, walk)
     if found:
         a, b, seconds, before = found[0]
         ends = f"{shown(stops.identifiers[a])} and {shown(stops.identifiers[b])}"
@@ -33,11 +34,12 @@ def told_nearer(folder: str, footpaths: str) -> Iterator[str]:
         yield f"walks to new stops bring {pairs}: {ends}, {told}"
 
 
-def nearer(walks: Leaving, new: set[int]) -> list[tuple[int, int, int, int | None]]:
+def nearer(walks: Leaving, new: set[int], walk: int = 0) -> list[tuple[int, int, int, int | None]]:
     """The pairs of old stops that are nearer by way of new ones: by how many seconds one walks with them and without.
     Walks from stops beside new ones will do, since all others go by way of these.
     """
-    limit = max((seconds for ways in walks.values() for _, seconds in ways), default=0)
+    limit = max((seconds for ways in walks.values() for _, seconds in ways), default=walk)
+    limit = max(limit, walk)
     old = {a: [(b, seconds) for b, seconds in ways if b not in new] for a, ways in walks.items() if a not in new}
     beside = [a for a, ways in walks.items() if a not in new and any(b in new for b, _ in ways)]
     made: list[tuple[int, int, int, int | None]] = []

@@ -14,6 +14,7 @@ from .naming import Names, own_routes, trips_written
 from .shapes import Shapes
 from .state import State, Trip
 
+HEADSIGN = "trip_headsign"
 NEEDED = ("trip_id", "arrival_time", "departure_time", "stop_id", "stop_sequence")
 
 
@@ -67,14 +68,16 @@ def new_routes(base: Base, states: Sequence[State], names: Names) -> Table:
     """The routes of the scenarios' own trips: new lines, and copies of the feed's."""
     table = base.feed.tables["routes.txt"]
     places = {table.text("route_id", row): row for row in range(len(table))}
-    agency = table.text("agency_id", 0) if len(table) else ""
     rows, lined = list[dict[str, str]](), False
     for state in states:
         for route in own_routes(state):
             name = names.route(state, route)
             if route in state.lines:
                 entry, lined = state.lines[route], True
-                words = {"route_short_name": entry.text("name", route), "agency_id": entry.text("agency", "") or agency}
+                words = {
+                    "route_short_name": entry.text("name", route),
+                    "agency_id": entry.text("agency", "") or base.first_agency,
+                }
                 rows.append({"route_id": name, "route_type": str(entry.whole("type", 0, 1_702, default=3)), **words})
             elif name != route:
                 rows.append({**row_of(table, places[route]), "route_id": name})
@@ -89,11 +92,19 @@ def new_trips(base: Base, own: Sequence[OwnTrip]) -> Table:
         named = {"trip_id": it.name, "route_id": it.route, "service_id": it.trip.service}
         old = row_of(table, it.trip.source) if it.trip.source >= 0 else {"direction_id": it.trip.direction}
         shape = it.shape if it.trip.redrawn else old.get("shape_id", "")
-        rows.append({**old, **named, "shape_id": shape, "block_id": ""})
+        headsign = (
+            {HEADSIGN: base.places.names[it.trip.stop[-1]]} if old.get(HEADSIGN) and ends_elsewhere(base, it) else {}
+        )
+        rows.append({**old, **named, **headsign, "shape_id": shape, "block_id": ""})
     needed = ["route_id", "service_id", "trip_id"]
     needed += ["shape_id"] if any(it.trip.redrawn and it.shape for it in own) else []
     needed += ["direction_id"] if any(it.trip.source < 0 for it in own) else []
     return table_of("trips.txt", heads(base, "trips.txt", needed if rows else ()), rows)
+
+
+def ends_elsewhere(base: Base, own: OwnTrip) -> bool:
+    """Whether a trip ends at another stop than the trip of the feed from which it comes."""
+    return own.trip.source >= 0 and int(own.trip.stop[-1]) != base.last_stop(own.trip.source)
 
 
 def new_stop_times(base: Base, own: Sequence[OwnTrip]) -> Table:
@@ -103,6 +114,8 @@ def new_stop_times(base: Base, own: Sequence[OwnTrip]) -> Table:
     number = np.repeat(np.arange(len(own)), counts)
     sequence = np.arange(len(number)) - np.repeat(np.cumsum(counts) - counts, counts)
     redrawn = np.array([it.trip.redrawn for it in own] or [False], dtype=np.bool_)[number]
+    elsewhere = np.array([ends_elsewhere(base, it) for it in own] or [False], dtype=np.bool_)[number]
+    none = np.zeros(len(number), dtype=np.bool_)
     arrive, depart = (together([timed(it.trip, name) for it in own]) for name in ("arrive", "depart"))
     row = together([it.trip.row for it in own])
     made = {
@@ -114,7 +127,8 @@ def new_stop_times(base: Base, own: Sequence[OwnTrip]) -> Table:
     }
     for name, column in table.columns.items():
         if name not in made:
-            kept = (row >= 0) & ~(redrawn & (name == "shape_dist_traveled"))
+            lost = redrawn if name == "shape_dist_traveled" else elsewhere if name == "stop_headsign" else none
+            kept = (row >= 0) & ~lost
             codes = np.where(kept, column.codes[np.maximum(row, 0)] if len(column.codes) else 0, len(column.values))
             made[name] = Column([*column.values, ""], codes.astype(np.int32))
     ordered = {name: made[name] for name in heads(base, "stop_times.txt", NEEDED if own else ())}
@@ -145,6 +159,21 @@ def new_headways(base: Base, own: Sequence[OwnTrip]) -> Table:
             times = {"start_time": clock(headway.start), "end_time": clock(headway.end)}
             rows.append({**row_of(table, headway.row), "trip_id": it.name, **times})
     return table_of("frequencies.txt", list(table.columns), rows)
+
+
+def new_route_rows(base: Base, states: Sequence[State], names: Names, table: Table) -> Table:
+    """The records of a file that name a route, again for each copy of that route."""
+    copies: dict[str, list[str]] = {}
+    for state in states:
+        for route in own_routes(state):
+            if route not in state.lines and names.route(state, route) != route:
+                copies.setdefault(route, []).append(names.route(state, route))
+    rows = [
+        {**row_of(table, row), "route_id": copy}
+        for row in range(len(table))
+        for copy in copies.get(table.text("route_id", row), ())
+    ]
+    return table_of(table.name, list(table.columns), rows)
 
 
 def new_days(base: Base, own: Sequence[OwnTrip]) -> Table:

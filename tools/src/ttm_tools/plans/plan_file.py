@@ -5,12 +5,12 @@ line, what is allowed, and the nearest right name.
 import datetime
 import difflib
 import re
-import tomllib
 from dataclasses import dataclass, field
 from decimal import Decimal
 from typing import Any, Iterable, Iterator, Mapping, Sequence
 
 from ..faults import BadInput
+from ..opening.texts import read_toml
 
 TOKENS = re.compile(
     r'"""(?:\\.|[^\\])*?"""|\'\'\'.*?\'\'\'|"(?:\\.|[^"\\\n])*"|\'[^\'\n]*\'|#[^\n]*|[\[\]{}\n]|[^\[\]{}\n#"\']+',
@@ -208,14 +208,7 @@ def heads_of(text: str) -> dict[str, Heads]:
 
 def read_plan(path: str) -> Plan:
     """Reads a plan; its actions are looked at when they are carried out."""
-    try:
-        with open(path, encoding="utf-8-sig") as file:
-            text = file.read()
-        values = tomllib.loads(text, parse_float=Decimal)
-    except OSError as fault:
-        raise BadInput(path, fault.strerror) from None
-    except (UnicodeDecodeError, tomllib.TOMLDecodeError) as fault:
-        raise BadInput(path, f"is no TOML file: {fault}") from None
+    text, values = read_toml(path)
     heads = heads_of(text)
     whole = Entry(path, 1, values, {})
     whole.only(("scenario", "stop"))

@@ -27,6 +27,7 @@ from .shapes import Shapes, read_shapes
 from .state import State
 
 BLOCK = 1 << 24
+OF_ROUTES = ("fare_rules.txt", "route_networks.txt")  # which say of a route what holds of its copies too
 OF_TRIPS = ("trip_id", "from_trip_id", "to_trip_id")  # columns that name trips
 
 
@@ -72,6 +73,10 @@ def write_all(written: Written, folder: Path) -> None:
     gone = taken_out(base, written.states[0]) if names.alone else None
     write_tables(base, made, gone, folder)
     write_others(base, shapes, gone, folder)
+    for name in OF_ROUTES:
+        if name in base.feed.others:
+            table = read_table(name, base.feed.others[name])
+            put_together(table, new.new_route_rows(base, written.states, names, table), folder / name)
 
 
 def taken_out(base: Base, state: State) -> set[str]:

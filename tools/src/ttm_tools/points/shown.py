@@ -36,9 +36,10 @@ def with_points(stops: Stops, points: Points) -> Stops:
     """The stops of a feed, of which some are points: with widths, and with those points behind them that it hasn't."""
     new = np.array([place for place, name in enumerate(points.identifiers) if name not in stops.places], dtype=np.intp)
     more = points.only(new).as_stops()
-    known = dict(zip(points.identifiers, points.widths.tolist()))
+    heights = np.full(len(points.identifiers), np.nan) if points.heights is None else points.heights
+    known = dict(zip(points.identifiers, zip(points.widths.tolist(), heights.tolist())))
     names = stops.identifiers + more.identifiers
-    widths = np.array([known.get(name, np.nan) for name in names])
+    sides = np.array([known.get(name, (np.nan, np.nan)) for name in names])
     return Stops(
         stops.path,
         names,
@@ -47,5 +48,5 @@ def with_points(stops: Stops, points: Points) -> Stops:
         np.concatenate([stops.longitudes, more.longitudes]),
         np.concatenate([stops.kinds, more.kinds]),
         stops.stations + more.stations,
-        widths,
+        *sides.T,
     )

@@ -5,9 +5,7 @@ between points and stops are footpaths, so that `ttm` itself puts walks and ride
 """
 
 import itertools
-import re
 import shlex
-import shutil
 from dataclasses import dataclass
 from pathlib import Path
 from typing import Callable, Iterator, Sequence
@@ -17,18 +15,20 @@ import numpy.typing as npt
 
 from ..faults import BadInput, some
 from ..feed import Stops, read_stops
-from ..files import is_free, many_written_aside
+from ..files import copy_file, is_free, many_written_aside
+from ..naming import file_names
+from ..opening.paths import inside
 from ..parts import write_stops
 from ..records import Rounded, places_of, records, shown, write_rows
 from ..walks import Walks, told as what_is_told
 from .table import Points, plain
 
 MOST_STOPS, MOST_PAIRS = 65_535, 4_000_000  # that `ttm` takes
-FEED, POINTS, WORDS = "feed", "points.csv", "words.txt"
+FEED, POINTS, WORDS, LABELS = "feed", "points.csv", "words.txt", "labels.csv"
 SCENARIOS, NEW_STOPS = "scenarios", "new_stops.csv"  # of a plan, beside its feed
-HELPS = "--leave-out leaves out points without a stop in reach; or take parts of the region"
+HELPS, HELPS_AFTER = "--leave-out leaves out points without a stop in reach; or ", "take parts of the region"
 PLACE = ("stop_name", "stop_lat", "stop_lon")
-Walker = Callable[[Stops], Walks]
+Walker = Callable[[Stops, int | None], Walks]  # of the first so many stops with all alone, where it is said
 Flags = npt.NDArray[np.bool_]
 
 
@@ -69,16 +69,18 @@ def make(asked: Asked, walker: Walker) -> list[str]:
     stops = read_stops(asked.feed)
     prefixes = prefixes_of(asked.files, stops)
     study = study_of(asked.files, prefixes)
+    helps = HELPS_AFTER if asked.leaves_out else HELPS + HELPS_AFTER
     if not asked.leaves_out:
-        refuse_places(len(stops.identifiers), study)
-    walks = walker(with_points(stops, study))
+        refuse_places(len(stops.identifiers), study, helps)
+    walks = walker(with_points(stops, study), len(stops.identifiers) if asked.leaves_out else None)
     near = in_reach(stops, study, walks)
     told = [*told_prefixes(asked.files, prefixes), *told_reach(study, near, asked.leaves_out)]
     told += [what_is_told(walks, "stops", asked.near)] if walks.lost or walks.far or walks.apart else []
     if asked.leaves_out:
-        study, walks = study.only(near), without(walks, len(stops.identifiers), near)
-        refuse_places(len(stops.identifiers), study)
-    refuse_pairs(walks, study)
+        study = study.only(near)
+        refuse_places(len(stops.identifiers), study, helps)
+        walks = walker(with_points(stops, study), None)
+    refuse_pairs(walks, study, helps)
     rounded = Rounded()
     with many_written_aside(asked.out) as folder:
         write_feed(folder / FEED, asked.feed, study.points)
@@ -116,8 +118,13 @@ def study_of(files: Sequence[Points], prefixes: Sequence[str]) -> Study:
     north = np.concatenate([points.latitudes for points in files])
     east = np.concatenate([points.longitudes for points in files])
     wide = np.concatenate([points.widths for points in files])
+    high = np.concatenate([points.as_stops().sides()[:, 1] for points in files])
     path = ", ".join(points.path for points in files)
-    whole = Points(path, identifiers, names, north, east, wide, columns, numbers)
+    labels = {name: list[str]() for points in files for name in points.labels}
+    for points in files:
+        for name, texts in labels.items():
+            texts.extend(points.labels.get(name, [""] * len(points.identifiers)))
+    whole = Points(path, identifiers, names, north, east, wide, columns, numbers, labels, high)
     return Study(whole, np.repeat(np.arange(len(files)), [len(points.identifiers) for points in files]))
 
 
@@ -143,29 +150,19 @@ def in_reach(stops: Stops, study: Study, walks: Walks) -> Flags:
     return near[count:]
 
 
-def without(walks: Walks, stops: int, kept: Flags) -> Walks:
-    """The walks without those from and to points that aren't kept."""
-    there = np.concatenate([np.ones(stops, dtype=np.bool_), kept])
-    place = np.cumsum(there) - 1
-    chosen = there[walks.origins] & there[walks.destinations]
-    names = [name for name, is_there in zip(walks.stops, there.tolist()) if is_there]
-    ends = (place[walks.origins[chosen]], place[walks.destinations[chosen]])
-    return Walks(names, *ends, walks.seconds[chosen], walks.lost, walks.far, walks.apart)
-
-
-def refuse_places(stops: int, study: Study) -> None:
+def refuse_places(stops: int, study: Study, helps: str) -> None:
     """Tells more stops and points than `ttm` takes."""
     count = len(study.file)
     if stops + count > MOST_STOPS:
         told = f"{stops:,} locations of the feed and {count:,} points are more than the {MOST_STOPS:,} that ttm takes"
-        raise BadInput(study.points.path, f"{told}: {HELPS}")
+        raise BadInput(study.points.path, f"{told}: {helps}")
 
 
-def refuse_pairs(walks: Walks, study: Study) -> None:
+def refuse_pairs(walks: Walks, study: Study, helps: str) -> None:
     """Tells more walks than `ttm` takes."""
     if len(walks.seconds) > MOST_PAIRS:
         told = f"{len(walks.seconds):,} walks are more than the {MOST_PAIRS:,} that ttm takes"
-        raise BadInput(study.points.path, f"{told}: a shorter --limit, or fewer points; {HELPS}")
+        raise BadInput(study.points.path, f"{told}: a shorter --limit, or fewer points; {helps}")
 
 
 def told_prefixes(files: Sequence[Points], prefixes: Sequence[str]) -> Iterator[str]:
@@ -187,13 +184,14 @@ def write_feed(folder: Path, feed: str, points: Points) -> None:
     of_plan = [NEW_STOPS, f"{SCENARIOS}/*.csv"]
     for file in sorted(path for form in ("*.txt", *of_plan) for path in Path(feed).glob(form) if path.is_file()):
         if file != Path(feed) / "stops.txt":
-            shutil.copyfile(file, folder / file.relative_to(feed))
+            copy_file(inside(Path(feed), file), folder / file.relative_to(feed))
     if not any((folder / SCENARIOS).iterdir()):
         (folder / SCENARIOS).rmdir()
     with open(folder / "stops.txt", "wb") as out:
         write_rows(out, *stops_with(Path(feed) / "stops.txt", points))
     with open(folder / POINTS, "wb") as out:
-        write_rows(out, ["id", "name", "lat", "lon", "width", *points.columns], point_lines(points))
+        sides = ["width", *(["height"] if has_heights(points) else [])]
+        write_rows(out, ["id", "name", "lat", "lon", *sides, *points.columns], point_lines(points))
 
 
 def stops_with(path: Path, points: Points) -> tuple[list[str], Iterator[list[str]]]:
@@ -228,9 +226,15 @@ def lines_of(points: Points) -> Iterator[tuple[str, str, str, str]]:
 
 
 def point_lines(points: Points) -> Iterator[list[str]]:
-    numbers = zip(points.widths.tolist(), points.numbers.tolist())
-    for line, (width, more) in zip(lines_of(points), numbers):
-        yield [*line, plain(width), *map(plain, more)]
+    sides = points.as_stops().sides()[:, : 2 if has_heights(points) else 1]
+    for line, own, more in zip(lines_of(points), sides.tolist(), points.numbers.tolist()):
+        yield [*line, *map(plain, own), *map(plain, more)]
+
+
+def has_heights(points: Points) -> bool:
+    """Whether a cell has another height than width."""
+    sides = points.as_stops().sides()
+    return bool((sides[:, 0] != sides[:, 1])[~np.isnan(sides[:, 1])].any())
 
 
 def write_files(folder: Path, asked: Asked, study: Study, walks: Walks, rounded: Rounded) -> None:
@@ -241,22 +245,14 @@ def write_files(folder: Path, asked: Asked, study: Study, walks: Walks, rounded:
     for name, stops in ends.items():
         with open(folder / name, "wb") as out:
             write_stops(out, stops)
-    for column, name in zip(study.points.columns, file_names(study.points.columns)):
-        with open(folder / name, "wb") as out:
+    for column, name in file_names(study.points.columns).items():
+        with open(folder / f"opportunities_{name}.csv", "wb") as out:
             write_rows(out, ["stop_id", "opportunities"], opportunities(asked, study, column, rounded))
+    if study.points.labels:
+        with open(folder / LABELS, "wb") as out:
+            write_rows(out, ["id", *study.points.labels], zip(study.points.identifiers, *study.points.labels.values()))
     with open(folder / WORDS, "wb") as out:
         out.write(words(asked).encode("utf-8", "surrogateescape"))
-
-
-def file_names(columns: Sequence[str]) -> list[str]:
-    """A file of opportunities for each column, by its name as far as a file may be called so."""
-    made = list[str]()
-    for column in columns:
-        name = re.sub(r"[^\w.-]", "_", shown(column))
-        while f"opportunities_{name}.csv" in made:
-            name += "_"
-        made.append(f"opportunities_{name}.csv")
-    return made
 
 
 def opportunities(asked: Asked, study: Study, column: str, rounded: Rounded) -> Iterator[tuple[str, int]]:

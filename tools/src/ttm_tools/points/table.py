@@ -1,20 +1,38 @@
 """Files of points: where each of them is, what it is called, how wide it is drawn, and numbers of what is there."""
 
 import math
-from dataclasses import dataclass
+from array import array
+from dataclasses import dataclass, field, replace
 from pathlib import Path
-from typing import Any, Sequence
+from typing import Any, Iterable, Sequence
 
 import numpy as np
 import numpy.typing as npt
 
 from ..faults import BadInput, needs
 from ..feed import Floats, Stops
+from ..opening.paths import as_one_line, sized
 from ..records import number_of, places_of, records, rows, shown
 
-NEEDED, WANTED = ("id", "lat", "lon"), ("name", "width")
-AREAS = (".gpkg", ".geojson", ".json")  # what geopandas reads
+NEEDED, WANTED = ("id", "lat", "lon"), ("name", "width", "height")
+AREAS = {".gpkg": b"SQLite format 3", ".geojson": b"{", ".json": b"{"}  # what geopandas reads, and how it begins
+BYTE_ORDER = b"\xef\xbb\xbf"
+MOST_AREAS = 1_000_000_000  # bytes
+MOST_POINTS = 1_000_000  # of a file
 WIDEST = 1_000_000.0  # metres
+
+
+@dataclass(frozen=True)
+class Columns:
+    """What the columns are called that say which point it is, and where."""
+
+    identifier: str = "id"
+    latitude: str = "lat"
+    longitude: str = "lon"
+
+    @property
+    def needed(self) -> tuple[str, str, str]:
+        return self.identifier, self.latitude, self.longitude
 
 
 @dataclass(frozen=True)
@@ -29,18 +47,22 @@ class Points:
     widths: Floats  # metres; NaN where the file says none
     columns: list[str]  # what else it says in numbers
     numbers: Floats  # a row for each point, a column for each of these
+    labels: dict[str, list[str]] = field(default_factory=dict)  # and in texts, by column
+    heights: Floats | None = None  # metres; NaN where a cell is as high as it is wide
 
     def as_stops(self) -> Stops:
         """The points as stops at which vehicles might call."""
         kinds, stations = np.zeros(len(self.identifiers), np.int8), [""] * len(self.identifiers)
         places = (self.latitudes, self.longitudes)
-        return Stops(self.path, self.identifiers, self.names, *places, kinds, stations, self.widths)
+        return Stops(self.path, self.identifiers, self.names, *places, kinds, stations, self.widths, self.heights)
 
     def only(self, kept: npt.NDArray[np.intp]) -> "Points":
         """Some of the points."""
         identifiers, names = ([texts[place] for place in kept.tolist()] for texts in (self.identifiers, self.names))
         places = (self.latitudes[kept], self.longitudes[kept], self.widths[kept])
-        return Points(self.path, identifiers, names, *places, self.columns, self.numbers[kept])
+        heights = None if self.heights is None else self.heights[kept]
+        labels = {name: [texts[place] for place in kept.tolist()] for name, texts in self.labels.items()}
+        return Points(self.path, identifiers, names, *places, self.columns, self.numbers[kept], labels, heights)
 
 
 @dataclass
@@ -71,13 +93,13 @@ class Reader:
             raise BadInput(self.path, "lat and lon are 0 and 0, which is no place", record=record)
         return made
 
-    def width(self, text: str, record: int) -> float:
+    def side(self, text: str, record: int, column: str) -> float:
         if not text.strip():
             return math.nan
         number = number_of(text.strip())
         if not 0 < number <= WIDEST:
             allowed = f"metres above 0, up to {WIDEST:,.0f}, or nothing"
-            raise BadInput(self.path, "is no such number", record=record, column="width", value=text, allowed=allowed)
+            raise BadInput(self.path, "is no such number", record=record, column=column, value=text, allowed=allowed)
         return number
 
     def number(self, text: str, record: int, column: str) -> float:
@@ -88,42 +110,82 @@ class Reader:
         return number
 
 
-def read_points(path: str) -> Points:
+def read_points(path: str, called: Columns = Columns()) -> Points:
     """The points of a table, or of a GeoPackage or a GeoJSON file."""
-    found = read_areas(path) if Path(path).suffix.lower() in AREAS else read_table(path)
+    found = read_areas(path, called) if Path(path).suffix.lower() in AREAS else read_table(path, called)
     if not found.identifiers:
         raise BadInput(path, "no points")
     return found
 
 
-def read_table(path: str) -> Points:
-    """The points of a CSV file."""
+class Taken:
+    """Points as they are read, of which only the numbers are kept as numbers are."""
+
+    def __init__(self, path: str, columns: list[str]) -> None:
+        self.path, self.columns = path, columns
+        self.identifiers, self.names = list[str](), list[str]()
+        self.places, self.numbers = array("d"), array("d")  # four, and one of each column, for each point
+
+    def take(self, identifier: str, name: str, place: Iterable[float], numbers: Iterable[float]) -> None:
+        """Takes a point with its latitude, longitude, width and height."""
+        if len(self.identifiers) >= MOST_POINTS:
+            raise BadInput(self.path, f"more than {MOST_POINTS:,} points: take parts of the region")
+        self.identifiers.append(identifier)
+        self.names.append(identifier if name == identifier else name)
+        self.places.extend(place)
+        self.numbers.extend(numbers)
+
+    def points(self) -> Points:
+        north, east, wide, high = np.array(self.places, dtype=np.float64).reshape(-1, 4).T.copy()
+        table = np.array(self.numbers, dtype=np.float64).reshape(len(self.identifiers), len(self.columns))
+        return Points(self.path, self.identifiers, self.names, north, east, wide, self.columns, table, heights=high)
+
+
+def number_columns(path: str, columns: Sequence[str]) -> list[str]:
+    """The columns that have a number in some record; and no more records than a file of points may have."""
+    found = set[str]()
+    for count, (_, fields) in enumerate(rows(path, columns)):
+        if count >= MOST_POINTS:
+            raise BadInput(path, f"more than {MOST_POINTS:,} points: take parts of the region")
+        for name, text in zip(columns, fields):
+            if name not in found and not math.isnan(number_of(text.strip())):
+                found.add(name)
+    return [name for name in columns if name in found]
+
+
+def read_table(path: str, called: Columns) -> Points:
+    """The points of a CSV file; a column in which no field is a number has labels."""
     _, header = next(records(path), (1, list[str]()))
-    columns = [name for name in places_of(header, path, NEEDED) if name and name not in NEEDED + WANTED]
-    reader, lines = Reader(path, set()), list[list[Any]]()
-    for record, (own, latitude, longitude, name, width, *fields) in rows(path, NEEDED, (*WANTED, *columns)):
-        identifier = reader.identifier(own, record)
-        place = reader.place(latitude, longitude, record)
-        numbers = [reader.number(text, record, column) for text, column in zip(fields, columns)]
-        lines.append([identifier, shown(name.strip() or own), *place, reader.width(width, record), numbers])
-    return points_of(path, lines, columns)
+    needed = called.needed
+    others = [name for name in places_of(header, path, needed) if name and name not in needed + WANTED]
+    twice = next((name for name in others if [it.strip(" ") for it in header].count(name) > 1), None)
+    if twice is not None:
+        raise BadInput(path, f"two columns {shown(twice)}", record=1)
+    columns = number_columns(path, others)
+    labels = {name: list[str]() for name in others if name not in columns}
+    reader, taken = Reader(path, set()), Taken(path, columns)
+    for record, (own, latitude, longitude, name, *fields) in rows(path, needed, (*WANTED, *others)):
+        identifier, told = reader.identifier(own, record), dict(zip(others, fields[2:]))
+        sides = [reader.side(text, record, column) for text, column in zip(fields, WANTED[1:])]
+        place = (*reader.place(latitude, longitude, record), *sides)
+        numbers = (reader.number(told[column], record, column) for column in columns)
+        taken.take(identifier, shown(name.strip() or own), place, numbers)
+        for column, texts in labels.items():
+            texts.append(shown(told[column]))
+    return replace(taken.points(), labels=labels)
 
 
-def points_of(path: str, lines: Sequence[Sequence[Any]], columns: list[str]) -> Points:
-    """Points from their lines: identifier, name, latitude, longitude, width, numbers."""
-    own, names, latitudes, longitudes, widths, numbers = zip(*lines) if lines else ((),) * 6
-    north, east, wide = (np.array(part, dtype=np.float64) for part in (latitudes, longitudes, widths))
-    table = np.array(numbers, dtype=np.float64).reshape(len(lines), len(columns))
-    return Points(path, list(own), list(names), north, east, wide, columns, table)
-
-
-def read_areas(path: str) -> Points:
+def read_areas(path: str, called: Columns) -> Points:
     """A point inside of each area of a file of a geographic information system; a point where that has points. Its
-    columns of text are left out.
+    columns of text have labels.
     """
     frame = read_frame(path)
-    if "id" not in frame.columns:
-        raise BadInput(path, "no column id")
+    twice = next((name for name in frame.columns if list(frame.columns).count(name) > 1), None)
+    if twice is not None:
+        raise BadInput(path, f"two columns {shown(str(twice))}")
+    if called.identifier not in frame.columns:
+        raise BadInput(path, f"no column {called.identifier}")
+    frame = frame.rename(columns={called.identifier: "id"})
     if frame.crs is None:
         raise BadInput(path, "it names no coordinate reference system")
     empty = np.flatnonzero((frame.geometry.isna() | frame.geometry.is_empty).to_numpy())
@@ -131,29 +193,33 @@ def read_areas(path: str) -> Points:
         raise BadInput(path, "no area", record=int(empty[0]) + 1)
     inside = frame.geometry.representative_point().to_crs(4326)
     kept = [name for name in frame.columns if frame[name].dtype.kind in "iufb" and name not in (*NEEDED, *WANTED)]
-    reader, lines = Reader(path, set()), list[list[Any]]()
+    texts = [name for name in frame.columns if frame[name].dtype.kind == "O" and name not in (*NEEDED, *WANTED)]
+    reader, taken = Reader(path, set()), Taken(path, kept)
     names = frame["name"] if "name" in frame.columns else frame["id"]
-    widths = frame["width"] if "width" in frame.columns else [None] * len(frame)
-    for place, (own, point, name, width) in enumerate(zip(frame["id"], inside, names, widths)):
+    sides = [frame[it] if it in frame.columns else [None] * len(frame) for it in WANTED[1:]]
+    for place, (own, point, name, *wide) in enumerate(zip(frame["id"], inside, names, *sides)):
         identifier = reader.identifier(text_of(own), place + 1)
         where = reader.place(repr(point.y), repr(point.x), place + 1)
         numbers = [reader.number(text_of(frame[column].iat[place]), place + 1, column) for column in kept]
-        width_there = reader.width(text_of(width), place + 1)
-        lines.append([identifier, text_of(name) or identifier, *where, width_there, numbers])
-    return points_of(path, lines, kept)
+        given = [reader.side(text_of(it), place + 1, column) for it, column in zip(wide, WANTED[1:])]
+        taken.take(identifier, text_of(name) or identifier, (*where, *given), numbers)
+    labels = {str(name): [text_of(value) for value in frame[name]] for name in texts}
+    return replace(taken.points(), labels=labels)
 
 
 def read_frame(path: str) -> Any:
     """The table of geopandas of a file."""
     needs("geopandas")
-    import geopandas
+    import geopandas  # each of the libraries by which it reads has faults of its own kinds
 
-    if not Path(path).is_file():
-        raise BadInput(path, "No such file or directory")
-    try:
-        return geopandas.read_file(path)
-    except Exception as fault:  # each of the libraries that geopandas reads by has its own kinds
-        raise BadInput(path, f"not read: {fault}") from None
+    kind = AREAS[Path(path).suffix.lower()]
+    sized(path, MOST_AREAS, "a file of areas")
+    with as_one_line(path, "not read"):
+        with open(path, "rb") as file:
+            begins_right = file.read(len(BYTE_ORDER) + 64).removeprefix(BYTE_ORDER).lstrip().startswith(kind)
+        if not begins_right:  # no other kind of file is opened, since some lead to further ones
+            raise BadInput(path, "not read: it isn't what its name says")
+        return geopandas.read_file(path, rows=MOST_POINTS + 1)
 
 
 def text_of(value: Any) -> str:

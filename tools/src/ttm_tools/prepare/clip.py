@@ -6,20 +6,21 @@ stays.
 """
 
 import datetime
-import json
 from dataclasses import dataclass
-from pathlib import Path
 from typing import Any, Iterable, Iterator, Sequence
 
 import numpy as np
 
 from ..faults import BadInput, needs
+from ..opening.paths import as_one_line
+from ..opening.texts import read_json
 from ..records import rows, shown
 from . import fields
 from .check import names_in, unlike
 from .days import texts
-from .fields import WEEKDAYS, clock, date, number, time, values_of
+from .fields import FILES, WEEKDAYS, clock, date, number, time, values_of
 from .likely import places_of
+from .references import leave_out_references, left_out_by, there
 from .tables import Feed, Mask, Table
 from .trips import Calls, calls_of
 
@@ -46,8 +47,11 @@ class Clip:
         return self.is_region or bool(self.routes or self.agencies or self.days)
 
 
-def clip(feed: Feed, asked: Clip) -> None:
-    """Leaves out what isn't asked for. The feed has no faults but limits."""
+def clip(feed: Feed, asked: Clip) -> list[str]:
+    """Leaves out what isn't asked for, and what refers to it; what of which file, a sentence a line. The feed has no
+    faults but limits.
+    """
+    before, counts = there(feed), {name: len(table) for name, table in feed.tables.items()}
     trips = feed.tables["trips.txt"]
     trips.keep(of_routes(feed, asked) & on_days(feed, asked.days))
     if asked.is_region:
@@ -63,6 +67,7 @@ def clip(feed: Feed, asked: Clip) -> None:
         named = names_in(feed, "trips.txt", "route_id") or []
         feed.tables["routes.txt"].keep(unlike(feed.tables["routes.txt"]["route_id"], named))
     keep_walks(feed)
+    return [left_out_by(feed, list(FILES), counts), *leave_out_references(feed, before)]
 
 
 def of_routes(feed: Feed, asked: Clip) -> Mask:
@@ -176,13 +181,9 @@ def in_area(x: fields.Floats, y: fields.Floats, path: str) -> Mask:
 
 
 def polygons_of(path: str) -> list[dict[str, Any]]:
-    try:
-        read = json.loads(Path(path).read_text(encoding="utf-8"))
-    except OSError as fault:
-        raise BadInput(path, fault.strerror) from None
-    except (UnicodeDecodeError, ValueError) as fault:
-        raise BadInput(path, f"no GeoJSON: {fault}") from None
-    made = list(geometries(read))
+    read = read_json(path, "GeoJSON")
+    with as_one_line(path, "is no GeoJSON"):
+        made = list(geometries(read))
     if not made:
         raise BadInput(path, "no polygon in it", allowed="a GeoJSON Polygon or MultiPolygon, or features of these")
     return made

@@ -12,7 +12,8 @@ from .tables import Feed, Mask, Table
 from .trips import trip_places
 
 ORIGIN = datetime.date(1, 1, 1).toordinal()
-MOST_DAYS = 40_000  # of a calendar's rows; a longer one states no dates
+MOST_DAYS = 40_000  # of a calendar's rows; a longer one is endless, and looked at between these days
+ENDLESS = datetime.date(1990, 1, 1).toordinal(), datetime.date(2049, 12, 31).toordinal()
 
 
 @dataclass(frozen=True)
@@ -53,7 +54,9 @@ def days_of(feed: Feed) -> Days:
     services = list(dict.fromkeys(it for table in (calendar, dates, trips) for it in texts(table, "service_id")))
     starts, ends = (ordinals(values_of(calendar[name], date)) for name in ("start_date", "end_date"))
     marked = ordinals(values_of(dates["date"], date))
-    valid = (starts >= ORIGIN) & (ends >= starts) & (ends - starts < MOST_DAYS)
+    long = (starts >= ORIGIN) & (ends - starts >= MOST_DAYS)
+    starts, ends = np.where(long, np.maximum(starts, ENDLESS[0]), starts), np.where(long, ENDLESS[1], ends)
+    valid = (starts >= ORIGIN) & (ends >= starts)
     known = np.concatenate([starts[valid], ends[valid], marked[marked >= ORIGIN]])
     if not len(known) or known.max() - known.min() > 10 * MOST_DAYS:
         return Days(ORIGIN, services, np.zeros((len(services), 0), dtype=np.bool_))

@@ -1,6 +1,7 @@
 """What isn't a fault but likely not meant: days, columns, places, speeds, transfers. Each is a sentence of its own."""
 
 import difflib
+import re
 from typing import Iterator
 
 import numpy as np
@@ -14,18 +15,21 @@ from .fields import FILES, number, values_of
 from .tables import Feed, Table
 from .trips import Calls, calls_of
 
+COMMA = re.compile(r"[+-]?[0-9]+,[0-9]+")
 FASTEST = 300  # km/h
 WEEK = ("Mondays", "Tuesdays", "Wednesdays", "Thursdays", "Fridays", "Saturdays", "Sundays")
 PLACES = ("stop_lat", "stop_lon", "stop_name")
 
 
-def told(feed: Feed) -> Iterator[str]:
-    """What is told of a feed beside its faults."""
+def told(feed: Feed, with_days: bool = True) -> Iterator[str]:
+    """What is told of a feed beside its faults; its days where it has none."""
     yield from misspelt(feed)
     if feed.has_columns("stops.txt"):
         yield from unplaced(feed.tables["stops.txt"])
+        yield from with_commas(feed.tables["stops.txt"])
+        yield from formulas(feed.tables["stops.txt"])
     if feed.has_columns("trips.txt"):
-        yield from of_days(feed)
+        yield from of_days(feed) if with_days else ()
         if feed.has_columns("stop_times.txt"):
             yield from of_trips(feed)
     if "transfers.txt" in feed.tables:
@@ -66,6 +70,27 @@ def unplaced(table: Table) -> Iterator[str]:
     if len(lost):
         first = shown(table.text("stop_id", int(lost[0])))
         yield f"stops.txt: {len(lost):,} stops have no place, or 0 and 0, such as {first}"
+
+
+def with_commas(table: Table) -> Iterator[str]:
+    """Places with a comma where a point is meant."""
+    wrong = [text for name in ("stop_lat", "stop_lon") for text in table[name].values if COMMA.fullmatch(text.strip())]
+    rows = np.zeros(len(table), dtype=np.bool_)
+    for name in ("stop_lat", "stop_lon"):
+        column = table[name]
+        rows |= np.array([text in wrong for text in column.values] or [False])[column.codes]
+    if wrong:
+        yield f"stops.txt: {int(rows.sum()):,} places have a comma where a point is meant, such as {shown(wrong[0])}"
+
+
+def formulas(table: Table) -> Iterator[str]:
+    """Names that a spreadsheet takes for formulas, in tables that have them."""
+    column = table["stop_name"]
+    wrong = np.array([text[:1] in tuple("=+-@") for text in column.values] or [False], dtype=np.bool_)
+    count = int(wrong[column.codes].sum())
+    if count:
+        first = shown(column.values[int(np.flatnonzero(wrong)[0])])
+        yield f"stops.txt: {count:,} names begin as formulas of spreadsheets do, such as {first}"
 
 
 def of_days(feed: Feed) -> Iterator[str]:

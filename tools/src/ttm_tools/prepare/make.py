@@ -15,6 +15,8 @@ from .check import check, names_in
 from .clip import Clip, clip, near, on_days
 from .days import runs_of_trips
 from .fields import FILES
+from .likely import of_days
+from .losses import counts_of, left, refuse_day, refuse_losses
 from .merge import merge
 from .report import CHANGE_COLUMNS, Change, fault_lines
 from .rules import repair
@@ -28,7 +30,7 @@ LESS = {
     name: "fewer by --box, --area, --routes, --agency" + (", --date" if name in ("trips.txt", "stop_times.txt") else "")
     for name in FILES
 }
-HELP = "--check tells all, --repair mends what rules can"
+HELP, HELP_AFTER = "--check tells all, --repair mends what rules can", "--check tells all; no rule mends them"
 
 
 @dataclass(frozen=True)
@@ -39,38 +41,46 @@ class Asked:
     out: str  # the folder that is written
     mends: bool  # by the rules
     clip: Clip = Clip()
+    allows_loss: bool = False  # also where a repair takes much of a file, or no trip runs
+    day: datetime.date | None = None  # of the departures, on which trips are to run
+    same_clock: bool = False  # whether feeds of several time zones are merged
 
 
 def make(asked: Asked, room: Path) -> list[str]:
     """Writes the folder, and says what was done, a sentence a line."""
     is_free(Path(asked.out))
-    changes: list[Change] = []
-    feeds = []
+    changes, lines, feeds = list[Change](), list[str](), list[Feed]()
     for number, path in enumerate(asked.paths):
         feed = read_feed(path, room / str(number), lambda stops: near(stops, asked.clip))
-        if asked.mends:
-            done = repair(feed, f"{feed.name}/" if len(asked.paths) > 1 else "")
-            changes += sorted(done, key=lambda it: (ORDER[it.file.rpartition("/")[2]], it.record))
-        refuse_faults(path, feed)
+        before = counts_of(feed)
+        found = repair(feed, f"{feed.name}/" if len(asked.paths) > 1 else "") if asked.mends else []
+        done = sorted(found, key=lambda it: (ORDER[it.file.rpartition("/")[2]], it.record))
+        refuse_faults(path, feed, HELP_AFTER if asked.mends else HELP)
+        if done and not asked.allows_loss:
+            refuse_losses(path, before, done, feed)
+        changes += done
+        lines += [*mended_lines(done), *([left(before, feed)] if done else [])]
         feeds.append(feed)
-    feed, merged = merge(feeds) if len(feeds) > 1 else (feeds[0], [])
-    if asked.clip.is_any:
-        clip(feed, asked.clip)
+    feed, merged = merge(feeds, asked.same_clock) if len(feeds) > 1 else (feeds[0], [])
+    lines += [*merged, *(of_days(feed) if changes else [])]
+    if not asked.allows_loss:
+        refuse_day(asked.paths[0] if len(feeds) == 1 else "the feeds", feed, asked.day)
+    lines += clip(feed, asked.clip) if asked.clip.is_any else []
     refuse_limits(feed)
     with many_written_aside(asked.out) as folder:
         write_feed(feed, folder)
         with open(folder / PREPARED, "wb") as file:
             write_rows(file, CHANGE_COLUMNS, [change.row() for change in changes])
-    return [*mended_lines(changes), *merged, *run_lines(feed, asked.clip.days), counted(asked.out, feed)]
+    return [*lines, *run_lines(feed, asked.clip.days), counted(asked.out, feed)]
 
 
-def refuse_faults(path: str, feed: Feed) -> None:
+def refuse_faults(path: str, feed: Feed, help: str) -> None:
     """Tells the first fault of a feed, limits aside, and how many there are."""
     faults = [fault for fault in check(feed) if not fault.is_limit]
     if faults:
         first = next(fault_lines(faults)).removeprefix("ttm: ")
         count = sum(map(len, faults))
-        raise BadInput(path, f"{count:,} faults, first {first} ({HELP})")
+        raise BadInput(path, f"{count:,} faults, first {first} ({help})")
 
 
 def refuse_limits(feed: Feed) -> None:

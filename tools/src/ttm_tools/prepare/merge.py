@@ -6,57 +6,85 @@ from typing import Sequence
 
 import numpy as np
 
-from ..records import Column
+from ..faults import BadInput
+from ..records import Column, shown
+from .days import texts
 from .fields import FILES
+from .kinds import KINDS, identifiers, rename
+from .feed_info import feed_info_of
 from .tables import Feed, Table, read_table
 
-KINDS: dict[str, tuple[tuple[str, str], ...]] = {  # where identifiers of a kind are given
-    "stop": (("stops.txt", "stop_id"),),
-    "route": (("routes.txt", "route_id"),),
-    "service": (("calendar.txt", "service_id"), ("calendar_dates.txt", "service_id"), ("trips.txt", "service_id")),
-    "trip": (("trips.txt", "trip_id"),),
-    "agency": (("agency.txt", "agency_id"), ("routes.txt", "agency_id")),
-    "shape": (("shapes.txt", "shape_id"), ("trips.txt", "shape_id")),
-}
-NAMING = {  # columns that name something of a kind, wherever they stand
-    **{"stop_id": "stop", "parent_station": "stop", "from_stop_id": "stop", "to_stop_id": "stop"},
-    **{"route_id": "route", "from_route_id": "route", "to_route_id": "route", "service_id": "service"},
-    **{"trip_id": "trip", "from_trip_id": "trip", "to_trip_id": "trip", "agency_id": "agency", "shape_id": "shape"},
-}
-ALSO = ("agency.txt", "shapes.txt")  # beside what `ttm` reads, files that are merged; all others are left out
+ALSO = (  # beside what `ttm` reads, files that are merged; all others are left out, and told
+    *("agency.txt", "shapes.txt", "fare_attributes.txt", "fare_rules.txt", "pathways.txt", "levels.txt"),
+    *("translations.txt", "attributions.txt", "areas.txt", "stop_areas.txt", "networks.txt", "route_networks.txt"),
+)
+INFO = "feed_info.txt"
+OF_AGENCIES = ("agency.txt", "routes.txt", "fare_attributes.txt")  # which name an agency where a feed has several
+HELP = "--same-clock takes their times as those of one"
 
 
-def merge(feeds: Sequence[Feed]) -> tuple[Feed, list[str]]:
-    """One feed of all, and what was done to identifiers, a sentence a line."""
-    made, lines = feeds[0], list[str]()
-    read_also(made)
-    for feed in feeds[1:]:
+def merge(feeds: Sequence[Feed], same_clock: bool = False) -> tuple[Feed, list[str]]:
+    """One feed of all, and what was done, a sentence a line."""
+    lines = list[str]()
+    for feed in feeds:
         read_also(feed)
+    refuse_clocks(feeds, same_clock)
+    lines += left_out(feeds)
+    info = feed_info_of([feed.others.get(INFO) for feed in feeds])
+    made = feeds[0]
+    lines += name_agency(made)
+    for feed in feeds[1:]:
+        lines += name_agency(feed)
         prefix = f"{free_name(feed.name, made)}:"
         collided = [kind for kind in KINDS if identifiers(made, kind) & identifiers(feed, kind) - {""}]
         for kind in collided:
             add_prefix(feed, kind, prefix)
             lines.append(f"{feed.name}: each {kind}'s identifier begins with {prefix}")
         made = Feed(made.name, joined(made, feed))
+    made.others = {}
+    if info is not None:
+        made.tables[INFO] = info
     return made, lines
 
 
 def read_also(feed: Feed) -> None:
-    """Reads the other files that are merged, and leaves out the rest."""
+    """Reads the other files that are merged."""
     for name in ALSO:
         if name in feed.others:
             feed.tables[name] = read_table(name, feed.others[name])
-    feed.others = {}
 
 
-def identifiers(feed: Feed, kind: str) -> set[str]:
-    """All identifiers of a kind that a feed has."""
-    return {text for name, column in KINDS[kind] if name in feed.tables for text in used(feed.tables[name][column])}
+def refuse_clocks(feeds: Sequence[Feed], same_clock: bool) -> None:
+    """Tells feeds of different time zones, whose times aren't those of one clock."""
+    zones: dict[str, str] = {}
+    for feed in feeds:
+        zones |= {it.strip(): feed.name for it in texts(feed.get("agency.txt"), "agency_timezone") if it.strip()}
+    if len(zones) > 1 and not same_clock:
+        told = ", ".join(f"{shown(zone)} ({name})" for zone, name in zones.items())
+        raise BadInput("agency.txt", f"the feeds have several time zones, {told}: {HELP}")
 
 
-def used(column: Column) -> list[str]:
-    """The texts that stand in a column."""
-    return [column.values[code] for code in np.unique(column.codes)]
+def left_out(feeds: Sequence[Feed]) -> list[str]:
+    """Which files of the feeds are left out."""
+    told = [f"{feed.name}/{name}" for feed in feeds for name in sorted(feed.others) if name not in (*ALSO, INFO)]
+    return [f"left out, since no rule merges them: {', '.join(told)}"] if told else []
+
+
+def name_agency(feed: Feed) -> list[str]:
+    """Has routes and fares name the only agency of a feed, which they needn't there; one without a name gets that of
+    the feed.
+    """
+    table = feed.get("agency.txt")
+    if len(table) != 1:
+        return []
+    own = table.text("agency_id", 0).strip()
+    name, count = own or feed.name, 0
+    for file in OF_AGENCIES:
+        if file in feed.tables:
+            empty = np.array([row for row, it in enumerate(texts(feed.tables[file], "agency_id")) if not it.strip()])
+            feed.tables[file].put("agency_id", empty.astype(np.intp), [name] * len(empty))
+            count += len(empty)
+    return [f"{feed.name}: {count:,} records name its agency, {shown(name)}"] if count else []
 
 
 def free_name(name: str, made: Feed) -> str:
@@ -68,12 +96,7 @@ def free_name(name: str, made: Feed) -> str:
 
 def add_prefix(feed: Feed, kind: str, prefix: str) -> None:
     for table in feed.tables.values():
-        for name, column in table.columns.items():
-            if NAMING.get(name) == kind:
-                # an empty field names nothing; a parent's spaces aren't read
-                texts = [it.strip(" ") if name == "parent_station" else it for it in column.values]
-                table.columns[name] = Column([prefix + it if it else "" for it in texts], column.codes)
-                table.source = None
+        rename(table, kind, lambda it: prefix + it)
 
 
 def joined(first: Feed, second: Feed) -> dict[str, Table]:

@@ -28,8 +28,8 @@ class Change:
 
 
 def escaped(text: str) -> str:
-    """A text in UTF-8, bytes that aren't being told by their numbers."""
-    return text.encode("utf-8", "backslashreplace").decode("utf-8")
+    """A text in UTF-8: bytes that aren't are read as Windows-1252, and what no file can hold is told by its number."""
+    return shown(text).encode("utf-8", "backslashreplace").decode("utf-8")
 
 
 CHANGE_COLUMNS = ["file", "record", "column", "value", "rule", "done"]

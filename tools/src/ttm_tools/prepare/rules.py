@@ -4,10 +4,8 @@ Fields are mended first: as `MENDED` says, then identifiers with spaces round th
 emptied or left out, file by file in the order of `ttm`, so that what refers to it is found in turn.
 """
 
-import math
-import re
 from dataclasses import dataclass, field
-from typing import Callable, Iterable, Sequence
+from typing import Iterable, Sequence
 
 import numpy as np
 import numpy.typing as npt
@@ -16,18 +14,15 @@ from ..records import shown
 from . import fields
 from .check import Fault, faults_in, names_in, stops_of, unlike
 from .days import texts
-from .fields import FILES, WEEKDAYS, clock, date, number, time, values_of
+from .fields import FILES, clock, number, time, values_of
 from .likely import PLACES, plain
+from .mends import A_DATE, MENDED, agreed_dates
 from .report import Change
-from .tables import Feed, Table
+from .tables import Feed, Table, used
 from .trips import Calls, calls_of
 
 Rows = npt.NDArray[np.intp]
-NUMBER = re.compile(r"\+?([0-9]+)(?:[.,]([0-9]*))?")
-LOOSE_TIME = re.compile(r"([0-9]{1,3}):([0-9]{1,2})(?::([0-9]{1,2})(?:\.[0-9]*)?)?")
-LOOSE_DATE = re.compile(r"([0-9]{4})[-/.]([0-9]{1,2})[-/.]([0-9]{1,2})")
 HALF_A_DAY, DAY = 43_200, 86_400
-DURATIONS = ("headway_secs", "min_transfer_time")
 OPTIONAL = ("location_type", "pickup_type", "drop_off_type", "arrival_time", "departure_time")  # may be empty
 LEFT_OUT = {
     "empty id": "identifier",
@@ -37,46 +32,6 @@ LEFT_OUT = {
     "bad number": "value",
     "bad time": "value",
     "bad date": "value",
-}
-
-
-def mended_number(text: str) -> str | None:
-    """1 for 1.0 and +1."""
-    found = NUMBER.fullmatch(text.strip())
-    return found[1] if found and not (found[2] or "").strip("0") else None
-
-
-def mended_duration(text: str) -> str | None:
-    """The same, and decimals are rounded up."""
-    found = NUMBER.fullmatch(text.strip())
-    return str(int(found[1][:20]) + (math.ceil(float(f"0.{found[2]}")) if found[2] else 0)) if found else None
-
-
-def mended_time(text: str) -> str | None:
-    """08:05:00 for 8:5:00, 8:05, and 08:05:00.0."""
-    found = LOOSE_TIME.fullmatch(text.strip())
-    if not found or int(found[2]) > 59 or int(found[3] or 0) > 59:
-        return None
-    return clock(int(found[1]) * 3600 + int(found[2]) * 60 + int(found[3] or 0))
-
-
-def mended_date(text: str) -> str | None:
-    """20260504 for 2026-05-04."""
-    found = LOOSE_DATE.fullmatch(text.strip())
-    return f"{found[1]}{int(found[2]):02}{int(found[3]):02}" if found else None
-
-
-Mend = tuple[str, Callable[[str], int], Callable[[str], "str | None"]]
-A_NUMBER: Mend = ("number", number, mended_number)
-A_DURATION: Mend = ("number", number, mended_duration)
-A_TIME: Mend = ("time", time, mended_time)
-A_DATE: Mend = ("date", date, mended_date)
-MENDED: dict[str, Mend] = {
-    **{name: A_NUMBER for name in ("location_type", "exception_type", "stop_sequence", "pickup_type", "drop_off_type")},
-    **{name: A_NUMBER for name in (*WEEKDAYS, "transfer_type")},
-    **{name: A_DURATION for name in DURATIONS},
-    **{name: A_TIME for name in ("arrival_time", "departure_time", "start_time", "end_time")},
-    **{name: A_DATE for name in ("start_date", "end_date", "date")},
 }
 
 
@@ -160,14 +115,15 @@ def mend_texts(made: Repair, table: Table) -> None:
 
 
 def mend_fields(made: Repair, table: Table) -> None:
-    """Rules `number`, `time` and `date`."""
+    """Rules `number`, `time` and `date`; dates with the year last have one reading throughout a file."""
     layout = FILES[table.name]
-    for name in (*layout.needed, *layout.taken):
-        if name in MENDED and name in table.columns:
-            rule, read, mend = MENDED[name]
-            wrong = [it for it in table[name].values if read(it) == fields.NONE]
-            right = {it: made_text for it in wrong if (made_text := mend(it)) is not None and read(made_text) >= 0}
-            mend_values(made, table, name, rule, right)
+    names = [name for name in (*layout.needed, *layout.taken) if name in MENDED and name in table.columns]
+    agreed = agreed_dates([text for name in names if MENDED[name] is A_DATE for text in used(table[name])])
+    for name in names:
+        rule, read, mend = MENDED[name]
+        wrong = [it for it in table[name].values if read(it) == fields.NONE]
+        right = {it: made_text for it in wrong if (made_text := mend(it)) is not None and read(made_text) >= 0}
+        mend_values(made, table, name, rule, {**(agreed if MENDED[name] is A_DATE else {}), **right})
 
 
 def mend_values(made: Repair, table: Table, name: str, rule: str, right: dict[str, str]) -> None:

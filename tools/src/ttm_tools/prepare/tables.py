@@ -6,16 +6,17 @@ its texts, each of which is kept once.
 """
 
 import os
-import shutil
-import zipfile
 from dataclasses import dataclass, field
 from pathlib import Path, PurePosixPath
-from typing import BinaryIO, Callable, Iterator, Mapping, Sequence
+from typing import BinaryIO, Callable, Iterator, Mapping, MutableMapping, Sequence
 
 import numpy as np
 import numpy.typing as npt
 
 from ..faults import BadInput
+from ..files import copy_file
+from ..opening.paths import inside
+from ..opening.zips import Unread, members_of, refuse_size, unpack_member
 from ..records import Column, Piece, all_columns, columns_of, field as quoted, is_long, names_of
 from .fields import FILES, Whole
 
@@ -68,7 +69,7 @@ class Feed:
 
     name: str  # for people, and for prefixes
     tables: dict[str, Table]
-    others: dict[str, Path] = field(default_factory=dict)
+    others: MutableMapping[str, Path] = field(default_factory=dict)
     unread: dict[str, Path] = field(default_factory=dict)  # folders in the places of files
 
     def get(self, name: str) -> Table:
@@ -126,32 +127,24 @@ def read_feed(path: str | Path, room: Path, near: Near = lambda _: None) -> Feed
         files = {str(it.relative_to(given)): it for it in files_in(given)}
         held = {name: files[member] for name, member in files_of(given, list(files)).items()}
         feed = feed_of(given, held, near)
-        inside = next(iter(held.values())).parent
-        feed.unread.update((name, inside / name) for name in FILES if (inside / name).is_dir())
+        feed.others = {name: inside(given, path) for name, path in held.items() if name not in FILES}
+        within = next(iter(held.values())).parent
+        feed.unread.update((name, within / name) for name in FILES if (within / name).is_dir())
         return feed
     if not given.exists():
         raise BadInput(given, "no such file or folder")
-    try:
-        with zipfile.ZipFile(given) as packed:
-            members = [it.filename for it in packed.infolist() if not it.is_dir()]
-            chosen = files_of(given, members)
-            paths = {name: unpacked(packed, it, room / name) for name, it in chosen.items()}
-    except (zipfile.BadZipFile, zipfile.LargeZipFile, RuntimeError, NotImplementedError) as fault:
-        raise BadInput(given, f"can't be unzipped: {fault}") from None
-    return feed_of(given, paths, near)
+    sizes = members_of(given)
+    chosen = files_of(given, list(sizes))
+    refuse_size(given, [sizes[it] for it in chosen.values()], room)
+    feed = feed_of(given, {it: unpack_member(given, chosen[it], room / it) for it in chosen if it in FILES}, near)
+    feed.others = Unread(given, {name: it for name, it in chosen.items() if name not in FILES}, room)
+    return feed
 
 
 def files_in(folder: Path) -> Iterator[Path]:
     """The files of a folder and of those inside it, two deep."""
     for pattern in ("*", "*/*", "*/*/*"):
         yield from (it for it in sorted(folder.glob(pattern)) if not it.is_dir())
-
-
-def unpacked(packed: zipfile.ZipFile, member: str, path: Path) -> Path:
-    path.parent.mkdir(exist_ok=True)
-    with packed.open(member) as source, open(path, "wb") as file:
-        shutil.copyfileobj(source, file, 1 << 20)
-    return path
 
 
 def files_of(path: Path, members: Sequence[str]) -> dict[str, str]:
@@ -182,23 +175,24 @@ def feed_of(path: Path, files: Mapping[str, Path], near: Near) -> Feed:
             read_table("stop_times.txt", times) if whole or stops is None else calls_near(times, stops)
         )
         tables = {name: tables[name] for name in FILES if name in tables}
-    return Feed(path.stem if path.suffix == ".zip" else path.resolve().name, tables, dict(others_of(files)))
-
-
-def others_of(files: Mapping[str, Path]) -> Iterator[tuple[str, Path]]:
-    yield from ((name, path) for name, path in files.items() if name not in FILES)
+    return Feed(path.stem if path.suffix == ".zip" else path.resolve().name, tables)
 
 
 def write_feed(feed: Feed, folder: Path) -> None:
     """Writes the files of a feed: those without a change byte for byte."""
     for name, path in feed.others.items():
-        shutil.copyfile(path, folder / name)
+        copy_file(path, folder / name)
     for name, table in feed.tables.items():
         if table.source is not None:
-            shutil.copyfile(table.source, folder / name)
+            copy_file(table.source, folder / name)
             continue
         with open(folder / name, "wb") as file:
             write_table(table, file)
+
+
+def used(column: Column) -> list[str]:
+    """The texts that stand in a column."""
+    return [column.values[code] for code in np.unique(column.codes)]
 
 
 def write_table(table: Table, file: BinaryIO) -> None:

@@ -1,7 +1,9 @@
 """The parts of a study's origins: how many, from what a run of few origins takes, and what each of them depends on."""
 
+import contextlib
 import json
 import math
+import re
 import resource
 import socket
 from dataclasses import asdict, dataclass, replace
@@ -10,7 +12,8 @@ from typing import Any, Sequence
 
 from ..files import is_running, output, remove, sum_of
 from ..parts import origins_in, parts_of, write_stops
-from .inputs import ORIGINS, Inputs
+from .counted import ORIGINS
+from .inputs import Inputs
 from .stages import as_text, key_of, settle, write_settled
 from .ttm import Report, report_of, with_origins
 from .wishes import PartWish
@@ -21,6 +24,10 @@ FEW = 8  # origins of the longer trial
 MOST_PARTS = 1000  # of those that are cut by time: as many as arrays of clusters have
 OF_THE_FREE = 0.8  # of the machine's memory
 MB = 1_000_000
+OWN_FOLDER = re.compile("[0-9]{4}")
+ASIDE = r"\.part\.[0-9]+\..*"
+OF_A_PART = re.compile(rf"key|matrix\.csv|origins\.csv|told\.txt|{ASIDE}")
+OF_ALL = re.compile(rf"run\.json|one_part\.sh|job|log|hosts\.txt|slurm_[0-9]+\.txt|{ASIDE}")
 
 
 @dataclass(frozen=True)
@@ -205,5 +212,21 @@ def remove_others(names: set[str]) -> None:
     """Removes the folders of parts that the study doesn't have."""
     Path(PARTS).mkdir(exist_ok=True)
     for path in Path(PARTS).iterdir():
-        if path.is_dir() and path.name not in names:
+        if path.is_dir() and OWN_FOLDER.fullmatch(path.name) and path.name not in names:
+            remove_own(path, OF_A_PART)
+
+
+def remove_parts() -> None:
+    """Removes all parts, and what was noted of them, but nothing else."""
+    if Path(PARTS).is_dir():
+        remove_others(set())
+        remove_own(Path(PARTS), OF_ALL)
+
+
+def remove_own(folder: Path, names: re.Pattern[str]) -> None:
+    """Removes the files of a folder that the study wrote, and the folder where nothing else is in it."""
+    for path in folder.iterdir():
+        if names.fullmatch(path.name):
             remove(path)
+    with contextlib.suppress(OSError):
+        folder.rmdir()

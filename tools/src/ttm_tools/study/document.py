@@ -1,17 +1,45 @@
-"""A report as blocks, written as Markdown and as a page of HTML that needs nothing beside it but its pictures."""
+"""A report as blocks: Markdown, whose pictures lie beside it, and a page of HTML that needs no other file."""
 
+import base64
 import html
+import re
 from dataclasses import dataclass, field
+from pathlib import Path
 from typing import Iterable, Sequence
+from urllib.parse import quote
+
+from ..escaping import markdown, printed
 
 STYLE = """\
-body { font: 16px/1.5 sans-serif; max-width: 60em; margin: 2em auto; padding: 0 1em; color: #222; }
-table { border-collapse: collapse; display: block; overflow-x: auto; font-size: 0.9em; }
-th, td { border: 1px solid #bbb; padding: 0.2em 0.6em; text-align: left; }
-td.number { text-align: right; }
+body { font: 16px/1.5 sans-serif; margin: 0; color: #222; }
+main { max-width: 60em; margin: 2em auto; padding: 0 1em; }
+h1, h2, h3, p, li { overflow-wrap: anywhere; }
+.wide { overflow-x: auto; margin: 1em 0; }
+.wide:focus-visible { outline: 3px solid #0b57a4; outline-offset: 2px; }
+table { border-collapse: collapse; font-size: 0.9em; }
+caption { text-align: left; font-weight: bold; padding: 0.2em 0; }
+th, td { border: 1px solid #bbb; padding: 0.2em 0.6em; text-align: left; vertical-align: top; }
+td.number { text-align: right; white-space: nowrap; font-variant-numeric: tabular-nums; }
 code { background: #f2f2f2; overflow-wrap: anywhere; }
-pre { background: #f2f2f2; padding: 0.6em; overflow-x: auto; }
-img { max-width: 100%; height: auto; }"""
+td.sum { font-family: monospace; overflow-wrap: anywhere; }
+pre { background: #f2f2f2; padding: 0.6em; white-space: pre-wrap; overflow-wrap: anywhere; }
+img { max-width: 100%; height: auto; }
+@page { size: A4; margin: 15mm; }
+@media print {
+  body { font-size: 10.5pt; }
+  main { max-width: none; margin: 0; padding: 0; }
+  .wide { overflow: visible; }
+  table { display: table; width: calc(100% - 1mm); font-size: 7.5pt; }
+  caption { font-size: 9pt; }
+  th, td { padding: 0.5mm 1mm; overflow-wrap: break-word; }
+  thead { display: table-header-group; }
+  tr, img { break-inside: avoid; }
+  h2, h3, caption { break-after: avoid; }
+  img { max-height: 240mm; }
+  pre { font-size: 8pt; }
+}"""
+SUM = re.compile("[0-9a-f]{64}")
+PNG = "data:image/png;base64,"
 
 
 @dataclass
@@ -37,23 +65,34 @@ class Document:
 
     def code(self, lines: Sequence[str]) -> None:
         """Lines as they stand."""
-        self.markdown.append("\n".join(f"    {line}" for line in lines))
+        self.markdown.append("\n".join(f"    {printed(line)}" for line in lines))
         self.body.append("<pre>" + html.escape("\n".join(lines)) + "</pre>")
 
-    def table(self, header: Sequence[str], rows: Sequence[Sequence[str]]) -> None:
+    def table(self, caption: str, header: Sequence[str], rows: Sequence[Sequence[str]]) -> None:
+        """A table; on a narrow screen it is moved to the side, and by keys as well."""
         lines = [header, ["---"] * len(header), *rows]
+        self.paragraph_of_markdown(caption)
         self.markdown.append("\n".join("| " + " | ".join(map(cell, line)) + " |" for line in lines))
-        head = "".join(f"<th>{html.escape(name)}</th>" for name in header)
+        head = "".join(f'<th scope="col">{html.escape(name)}</th>' for name in header)
         body = "".join("<tr>" + "".join(map(data, row)) + "</tr>" for row in rows)
-        self.body.append(f"<table><thead><tr>{head}</tr></thead><tbody>{body}</tbody></table>")
+        inner = f"<caption>{html.escape(caption)}</caption><thead><tr>{head}</tr></thead><tbody>{body}</tbody>"
+        label = html.escape(caption)
+        self.body.append(
+            f'<div class="wide" role="region" aria-label="{label}" tabindex="0"><table>{inner}</table></div>'
+        )
+
+    def paragraph_of_markdown(self, text: str) -> None:
+        self.markdown.append(plain(text))
 
     def link(self, text: str, path: str) -> None:
-        self.markdown.append(f"{plain(text)} [{plain(path)}]({path})")
-        self.body.append(f'<p>{html.escape(text)} <a href="{html.escape(path)}">{html.escape(path)}</a></p>')
+        self.markdown.append(f"{plain(text)} [{plain(path)}]({quote(path)})")
+        self.body.append(f'<p>{html.escape(text)} <a href="{quote(path)}">{html.escape(path)}</a></p>')
 
     def picture(self, path: str, text: str) -> None:
-        self.markdown.append(f"![{plain(text)}]({path})")
-        self.body.append(f'<p><img src="{html.escape(path)}" alt="{html.escape(text)}"></p>')
+        """A picture, which the page of HTML has in itself."""
+        self.markdown.append(f"![{plain(text)}]({quote(path)})")
+        source = PNG + base64.b64encode(Path(path).read_bytes()).decode("ascii")
+        self.body.append(f'<p><img src="{source}" alt="{html.escape(text)}"></p>')
 
     def as_markdown(self) -> str:
         return "\n\n".join([f"# {plain(self.title)}", *self.markdown]) + "\n"
@@ -62,16 +101,13 @@ class Document:
         title = html.escape(self.title)
         head = f'<!DOCTYPE html>\n<html lang="en"><head><meta charset="utf-8"><title>{title}</title>'
         look = '<meta name="viewport" content="width=device-width, initial-scale=1">'
-        begin = f"{head}{look}<style>\n{STYLE}\n</style></head><body>\n<h1>{title}</h1>"
-        return "\n".join([begin, *self.body, "</body></html>"]) + "\n"
+        begin = f"{head}{look}<style>\n{STYLE}\n</style></head><body>\n<main>\n<h1>{title}</h1>"
+        return "\n".join([begin, *self.body, "</main>\n</body></html>"]) + "\n"
 
 
 def plain(text: str) -> str:
     """A text that Markdown shows as it is."""
-    made = " ".join(text.split())
-    for letter in "\\`*_<>[]|":
-        made = made.replace(letter, "\\" + letter)
-    return made
+    return markdown(text)
 
 
 def cell(text: str) -> str:
@@ -80,4 +116,5 @@ def cell(text: str) -> str:
 
 def data(text: str) -> str:
     number = text.lstrip("+-").replace(",", "").replace(".", "", 1).isdecimal()
-    return f"<td{' class=number' if number else ''}>{html.escape(text)}</td>"
+    kind = ' class="number"' if number else ' class="sum"' if SUM.fullmatch(text) else ""
+    return f"<td{kind}>{html.escape(text)}</td>"

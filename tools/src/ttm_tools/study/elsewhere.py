@@ -7,14 +7,13 @@ from dataclasses import dataclass
 from typing import Callable, Iterator, Sequence
 
 from ..engine import Run
-from ..faults import one_line
+from ..faults import one_line, say
 from ..files import remove
 from ..threads import processors
 from .cutting import PARTS, Part
 from .hosts import by_parallel
 from .running import Failed, shown
 from .slurm import end_of, job_that_goes_on, submit
-from .stages import say
 from .task import write_task
 
 SECONDS_BETWEEN_LOOKS = 2.0

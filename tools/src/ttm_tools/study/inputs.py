@@ -3,8 +3,8 @@ points, walks, origins, opportunities. All paths of what is made are from that f
 """
 
 import datetime
+import itertools
 import shlex
-import shutil
 from dataclasses import asdict, dataclass
 from pathlib import Path
 from typing import Any, Callable, Sequence
@@ -12,22 +12,34 @@ from typing import Any, Callable, Sequence
 from ..engine import Run
 from ..faults import BadInput
 from ..feed import Stops, read_stops
+from ..files import copy_file
 from ..matrices import BASE, TODAY
-from ..measures.opportunities import OWN_NAME, Counts, called, columns_of, read_counts
 from ..parts import origins_in, origins_of_feed, write_stops
+from ..opening.paths import inside
 from ..plans import make as plans
+from ..plans.nearness import told_nearer
 from ..points import read_points, study as points
-from ..points.table import plain
 from ..prepare.clip import Clip
-from ..records import Rounded, rows as table_rows, shown, write_rows
+from ..records import Rounded, records, shown, write_rows
 from ..walks import Pace, Walks, read_walks, told as what_is_told, walks_of
-from .stages import Folder, Record, Stage, room, sums_of
+from .checks import check_points, check_stops
+from .counted import (
+    OPPORTUNITIES,
+    ORIGINS,
+    columns_or_none,
+    counted_columns,
+    counts_stage,
+    opportunities_stage,
+    own_columns,
+    people_stage,
+)
+from .sources import Sources
+from .stages import Folder, Record, Stage, room
 from .wishes import FeedWish, Study
 
 FEED, PLANNED, POINTS = "inputs/feed", "inputs/planned", "inputs/points"
-FOOTPATHS, ORIGINS, OPPORTUNITIES = "inputs/footpaths.csv", "inputs/origins.csv", "inputs/opportunities.csv"
-SCENARIOS = "inputs/scenarios"
-COUNTED, PEOPLE = "inputs/counted/opportunities.csv", "inputs/people.csv"
+FOOTPATHS, SCENARIOS = "inputs/footpaths.csv", "inputs/scenarios"
+DESTINATIONS = f"{POINTS}/destinations.csv"
 
 
 @dataclass(frozen=True)
@@ -36,9 +48,11 @@ class Inputs:
 
     run: Run
     base: str  # the scenario that others are compared with
-    left_out: tuple[str, ...]  # scenarios of the run that nobody asks for
+    scenarios: tuple[str, ...]  # all scenario files, also of one whose rows are those of the run's base
+    shown_as: dict[str, str]  # the scenarios of the matrix, by what they are called in the run; empty for all alike
     destinations: list[str]  # points at which journeys end; none where all stops are shown
     records: dict[str, Record]
+    sources: dict[str, str]  # sums of the files from outside, by the paths that the study's file gives
 
     @property
     def feed(self) -> str:
@@ -47,7 +61,7 @@ class Inputs:
     @property
     def edits(self) -> dict[str, str]:
         """The scenario files by the names of their scenarios."""
-        return {Path(path).name.removesuffix(".csv"): str(path) for path in self.run.scenarios}
+        return {name_of(path): path for path in self.scenarios}
 
     @property
     def outputs(self) -> dict[str, str]:
@@ -57,7 +71,7 @@ class Inputs:
     @property
     def sums(self) -> dict[str, str]:
         """The sums of all files that the run reads, by their names in the folder."""
-        named = {str(path) for path in [*self.run.scenarios, *self.run.files.values()]}
+        named = {*self.scenarios, *map(str, self.run.files.values())}
         known = self.outputs.items()
         return {name: was for name, was in known if name in named or name.startswith(f"{self.feed}/")}
 
@@ -74,8 +88,16 @@ class Maker:
         self.feed = FEED
         self.records: dict[str, Record] = {}
         self.files: dict[str, str] = {}
+        self.sources: dict[str, str] = {}
+
+    def reads(self, *given: str | None) -> Sources:
+        """Files and folders that the study's file names, with their sums."""
+        made = Sources(self.study.at, [path for path in given if path])
+        self.sources |= made.stated
+        return made
 
     def do(self, stage: Stage) -> Record:
+        self.sources |= stage.stated
         self.records[stage.name] = self.folder.do(stage)
         return self.records[stage.name]
 
@@ -97,7 +119,7 @@ class Maker:
             words = shlex.split((Path(PLANNED) / plans.WORDS).read_text(encoding="utf-8", errors="surrogateescape"))
             return words[2:]
         if self.study.scenarios.files:
-            self.do(scenarios_stage(self.study))
+            self.do(scenarios_stage(self))
         return [f"{SCENARIOS}/{Path(path).name}" for path in self.study.scenarios.files]
 
     def walks(self) -> None:
@@ -106,47 +128,64 @@ class Maker:
             self.do(points_stage(self))
             self.feed = f"{POINTS}/{points.FEED}"
             self.files["footpaths"] = f"{POINTS}/footpaths.csv"
+            self.files["destinations"] = DESTINATIONS
         elif not self.study.walks.none:
             self.do(walks_stage(self))
             self.files["footpaths"] = FOOTPATHS
 
-    def tables(self) -> list[str]:
-        """The files of opportunities: those that are named, and that of points with numbers."""
-        own = f"{self.feed}/{points.POINTS}" if self.study.points.all else None
-        has_numbers = own is not None and bool(number_columns(own))
-        return [*([own] if own and has_numbers else []), *map(self.study.at, self.study.opportunities.files)]
-
     def destinations(self) -> list[str]:
         """The points at which journeys end, where there are points."""
-        return origins_in(f"{POINTS}/destinations.csv") if self.study.points.all else []
+        return origins_in(DESTINATIONS) if self.study.points.all else []
 
     def counts(self) -> None:
         """What is counted, by the tools and by `ttm`, and for whom."""
-        tables, wish = self.tables(), self.study.opportunities
-        columns = counted_columns(self.study, tables)
+        study, wish, known = self.study, self.study.opportunities, origins_of_feed(self.feed)
+        ends = self.destinations() or known
+        path = f"{self.feed}/{points.POINTS}" if study.points.all else None
+        own = own_columns(path, known, ends) if path else []
+        tables = [*([path] if path and columns_or_none(path) else []), *map(study.at, wish.files)]
+        columns = counted_columns(study, tables, own)
         if columns:
-            self.do(counts_stage(self, tables, columns, self.destinations() or origins_of_feed(self.feed)))
+            self.do(counts_stage(study, self.stops_sum, tables, columns, known, ends))
             column = wish.column or (columns[0] if len(columns) == 1 else None)
             if column is not None:
-                self.do(opportunities_stage(self, column))
+                self.do(opportunities_stage(self.records["counted"], column))
                 self.files["opportunities"] = OPPORTUNITIES
         if wish.people:
-            self.do(people_stage(self, self.study.at(wish.people)))
+            self.do(people_stage(study, self.records["origins"], study.at(wish.people)))
 
 
 def make_inputs(study: Study, folder: Folder) -> Inputs:
     """Does all stages that come before the run."""
     maker = Maker(study, folder)
-    maker.do(feed_stage(study))
+    check_points(study)
+    maker.do(feed_stage(maker))
     scenarios = maker.scenarios()
+    if not study.points.all:
+        check_stops(study, maker.feed)
     maker.walks()
     maker.do(origins_stage(maker))
     maker.files["origins"] = ORIGINS
     maker.counts()
-    is_planned = any(Path(path).name == f"{TODAY}.csv" for path in scenarios)
-    base, left_out = (TODAY, (BASE,)) if is_planned else (BASE, ())
-    run = run_of(study, maker.feed, maker.files, scenarios)
-    return Inputs(run, base, left_out, maker.destinations(), maker.records)
+    base = TODAY if any(name_of(path) == TODAY for path in scenarios) else BASE
+    shown_as = shown_names(scenarios, study.results.csv) if base == TODAY else {}
+    own = [path for path in scenarios if shown_as.get(name_of(path)) != BASE]
+    run = run_of(study, maker.feed, maker.files, own)
+    return Inputs(run, base, tuple(scenarios), shown_as, maker.destinations(), maker.records, maker.sources)
+
+
+def name_of(path: str) -> str:
+    """The scenario of a scenario file."""
+    return Path(path).name.removesuffix(".csv")
+
+
+def shown_names(scenarios: Sequence[str], runs_all: bool) -> dict[str, str]:
+    """What each scenario of a plan is called in the run: by its name, or `base` for one that takes out nothing of the
+    feed, which has the trips of all; but for that `base` isn't shown.
+    """
+    made = {name_of(path): name_of(path) for path in scenarios}
+    whole = [name_of(path) for path in scenarios if len(list(itertools.islice(records(path), 2))) < 2]
+    return made if runs_all or not whole else {**made, whole[0]: BASE}
 
 
 def run_of(study: Study, feed: str, files: dict[str, str], scenarios: Sequence[str]) -> Run:
@@ -168,19 +207,24 @@ def run_of(study: Study, feed: str, files: dict[str, str], scenarios: Sequence[s
     )
 
 
+def date_of(study: Study) -> datetime.date:
+    """The day of the departures."""
+    return datetime.datetime.strptime(study.run.date, "%Y%m%d").date()
+
+
 def days_of(study: Study) -> list[datetime.date]:
     """The days of a run, where services that run on others are left out."""
-    day = datetime.datetime.strptime(study.run.date, "%Y%m%d").date()
+    day = date_of(study)
     span = range(-study.run.back, study.run.ahead + 1) if study.feed.only_days else range(0)
     return [day + datetime.timedelta(number) for number in span]
 
 
-def feed_stage(study: Study) -> Stage:
+def feed_stage(maker: Maker) -> Stage:
     """The feed, made ready or as it is."""
-    wish = study.feed
+    study, wish = maker.study, maker.study.feed
+    sources = maker.reads(*wish.files, wish.area)
     paths = [study.at(path) for path in wish.files]
     area = study.at(wish.area) if wish.area else None
-    sums = sums_of([*paths, *([area] if area else [])])
     days = days_of(study)
     clip = Clip(wish.box, area, wish.routes, wish.agencies, days)
 
@@ -190,10 +234,11 @@ def feed_stage(study: Study) -> Stage:
         from ..prepare.make import Asked, make as make_ready
 
         with room() as made:
-            return make_ready(Asked(paths, FEED, wish.repair, clip), made)
+            asked = Asked(paths, FEED, wish.repair, clip, wish.allow_loss, date_of(study), wish.same_clock)
+            return make_ready(asked, made)
 
-    depends = {"wish": facts_of(wish), "days": [str(day) for day in days], "inputs": sums}
-    return Stage("feed", depends, [FEED], make)
+    depends = {"wish": facts_of(wish), "days": [str(day) for day in [date_of(study), *days]], "inputs": sources.sums}
+    return Stage("feed", depends, [FEED], make, refuse_changed=sources.refuse_changed)
 
 
 def facts_of(wish: FeedWish) -> dict[str, Any]:
@@ -208,23 +253,26 @@ def taken(path: str) -> list[str]:
     Path(FEED).mkdir(parents=True)
     files = sorted(it for it in Path(path).iterdir() if it.suffix in (".txt", ".csv") and it.is_file())
     for file in files:
-        shutil.copyfile(file, Path(FEED) / file.name)
+        copy_file(inside(Path(path), file), Path(FEED) / file.name)
     return [f"{FEED}: {len(files)} files as they are"]
 
 
 def plan_stage(maker: Maker) -> Stage:
     """The feed that has the trips of all scenarios of a plan, and their files."""
     plan, feed = maker.study.at(maker.study.scenarios.plan or ""), maker.feed
+    sources = maker.reads(maker.study.scenarios.plan)
 
     def make() -> list[str]:
         return plans.make(feed, plan, PLANNED).lines
 
-    return Stage("plan", {"feed": maker.feed_sums, "inputs": sums_of([plan])}, [PLANNED], make)
+    depends = {"feed": maker.feed_sums, "inputs": sources.sums}
+    return Stage("plan", depends, [PLANNED], make, refuse_changed=sources.refuse_changed)
 
 
 def walks_stage(maker: Maker) -> Stage:
     """Walks between the stops."""
     study, wish, feed = maker.study, maker.study.walks, maker.feed
+    sources = maker.reads(wish.streets, wish.table)
 
     def make() -> list[str]:
         stops, rounded = read_stops(feed), Rounded()
@@ -232,27 +280,36 @@ def walks_stage(maker: Maker) -> Stage:
             rows = read_walks(study.at(wish.table), stops, rounded)
             told = f"{rounded.count:,} seconds with decimals were rounded up"
         else:
-            found = walker(study)(stops)
+            found = walker(study)(stops, None)
             rows, told = found.rows(), what_is_told(found, "stops", wish.near)
         with open(FOOTPATHS, "wb") as file:
             write_rows(file, ["from_stop_id", "to_stop_id", "seconds"], rows)
-        return [f"{FOOTPATHS}: {len(rows):,} footpaths; {told}"]
+        nearer = told_nearer(feed, FOOTPATHS, study.run.walk)
+        return [f"{FOOTPATHS}: {len(rows):,} footpaths; {told}", *told_limits(study), *nearer]
 
-    return Stage("walks", {"stops": maker.stops_sum, **walk_facts(study)}, [FOOTPATHS], make)
+    depends = {"stops": maker.stops_sum, "walk": study.run.walk, **walk_facts(study), "streets": sources.sums}
+    return Stage("walks", depends, [FOOTPATHS], make, refuse_changed=sources.refuse_changed)
+
+
+def told_limits(study: Study) -> list[str]:
+    """What is told where single walks end earlier than the walks that `ttm` puts together of them."""
+    limit, run = study.walk_limit, study.run.walk
+    told = f"a single walk takes {limit:,} seconds at most ([walks] limit), one of several in turn {run:,} ([run] walk)"
+    return [told] if limit < run else []
 
 
 def walk_facts(study: Study) -> dict[str, Any]:
-    """What walks depend on beside places."""
+    """How one walks."""
     wish = study.walks
-    source = [study.at(path) for path in (wish.streets, wish.table) if path]
-    return {"pace": [study.walk_limit, wish.speed, wish.detour, wish.near], "streets": sums_of(source)}
+    return {"pace": [study.walk_limit, wish.speed, wish.detour, wish.near]}
 
 
-def walker(study: Study) -> Callable[[Stops], Walks]:
+def walker(study: Study) -> Callable[[Stops, int | None], Walks]:
     """What makes walks between places."""
     wish = study.walks
     pace = Pace(study.walk_limit, wish.speed, wish.detour)
-    return lambda stops: walks_of(stops, pace, study.at(wish.streets) if wish.streets else None, wish.near)
+    streets = study.at(wish.streets) if wish.streets else None
+    return lambda stops, first: walks_of(stops, pace, streets, wish.near, first)
 
 
 def points_stage(maker: Maker) -> Stage:
@@ -261,14 +318,17 @@ def points_stage(maker: Maker) -> Stage:
     begins = [path in (*wish.files, *wish.origins) for path in wish.all]
     ends = [path in (*wish.files, *wish.destinations) for path in wish.all]
     paths = [study.at(path) for path in wish.all]
+    sources = maker.reads(*wish.all, study.walks.streets)
 
     def make() -> list[str]:
         files, limit, near = [read_points(path) for path in paths], study.walk_limit, study.walks.near
         asked = points.Asked(feed, POINTS, files, begins, ends, limit, wish.leave_out, near)
-        return points.make(asked, walker(study))
+        told = [*points.make(asked, walker(study)), *told_limits(study)]
+        return [*told, *told_nearer(f"{POINTS}/{points.FEED}", f"{POINTS}/footpaths.csv", study.run.walk)]
 
-    facts = {"begins": begins, "ends": ends, "leave_out": wish.leave_out, "inputs": sums_of(paths)}
-    return Stage("points", {"feed": maker.feed_sums, **walk_facts(study), **facts}, [POINTS], make)
+    facts = {"begins": begins, "ends": ends, "leave_out": wish.leave_out, "inputs": sources.sums}
+    depends = {"feed": maker.feed_sums, "walk": study.run.walk, **walk_facts(study), **facts}
+    return Stage("points", depends, [POINTS], make, refuse_changed=sources.refuse_changed)
 
 
 def origins_stage(maker: Maker) -> Stage:
@@ -276,6 +336,7 @@ def origins_stage(maker: Maker) -> Stage:
     study, feed = maker.study, maker.feed
     named = study.at(study.run.origins) if study.run.origins else None
     given = f"{POINTS}/origins.csv" if study.points.all else named
+    sources = maker.reads(study.run.origins)
 
     def make() -> list[str]:
         known = origins_of_feed(feed)
@@ -290,93 +351,27 @@ def origins_stage(maker: Maker) -> Stage:
             write_stops(file, origins)
         return [f"{ORIGINS}: {len(origins):,} origins"]
 
-    return Stage("origins", {"stops": maker.stops_sum, "inputs": sums_of([given] if given else [])}, [ORIGINS], make)
+    own = maker.records["points"].outputs if study.points.all else {}
+    depends = {"stops": maker.stops_sum, "points": own, "inputs": sources.sums}
+    return Stage("origins", depends, [ORIGINS], make, refuse_changed=sources.refuse_changed)
 
 
-def number_columns(path: str) -> list[str]:
-    """The columns of numbers of a file of points; there may be none."""
-    try:
-        return [called(name, path) for name in columns_of(path)]
-    except BadInput:
-        return []
-
-
-def counted_columns(study: Study, tables: Sequence[str]) -> list[str]:
-    """The columns that are counted, in the order of the files."""
-    found = [called(name, path) for path in tables for name in columns_of(path)]
-    wish = study.opportunities
-    lost = next((name for name in (*wish.columns, *([wish.column] if wish.column else [])) if name not in found), None)
-    if lost is not None:
-        there = ", ".join(map(shown, found)) or "no columns of numbers"
-        raise BadInput(study.path, f"[opportunities] names a column {shown(lost)}; there are {there}")
-    return [name for name in found if not wish.columns or name in (*wish.columns, wish.column)]
-
-
-def counts_stage(maker: Maker, tables: Sequence[str], columns: Sequence[str], stops: Sequence[str]) -> Stage:
-    """What there is at each place at which journeys end, in one table."""
-    kind = "point of the study" if maker.study.points.all else "stop of the feed"
-
-    def make() -> list[str]:
-        counts = read_counts(tables, stops, kind, columns)
-        write_counts(COUNTED, stops, counts)
-        return [f"{COUNTED}: {', '.join(map(shown, counts.names))} at {len(stops):,} places"]
-
-    facts = {"stops": maker.stops_sum, "columns": list(columns), "inputs": sums_of(tables)}
-    return Stage("counted", facts, [COUNTED], make)
-
-
-def people_stage(maker: Maker, path: str) -> Stage:
-    """Who lives at each origin."""
-    groups = maker.study.opportunities.groups
-
-    def make() -> list[str]:
-        origins = origins_in(ORIGINS)
-        counts = read_counts([path], origins, "origin of the study", groups)
-        write_counts(PEOPLE, origins, counts)
-        return [f"{PEOPLE}: {', '.join(map(shown, counts.names))} at {len(origins):,} origins"]
-
-    facts = {"origins": maker.records["origins"].outputs, "groups": groups, "inputs": sums_of([path])}
-    return Stage("people", facts, [PEOPLE], make)
-
-
-def write_counts(path: str, stops: Sequence[str], counts: Counts) -> None:
-    lines = ([stop, *map(plain, numbers)] for stop, numbers in zip(stops, counts.numbers.tolist()))
-    with open(path, "wb") as file:
-        write_rows(file, ["stop_id", *counts.names], lines)
-
-
-def opportunities_stage(maker: Maker, column: str) -> Stage:
-    """What `ttm` counts at each place, in whole numbers."""
-    path = COUNTED
-
-    def make() -> list[str]:
-        rounded = Rounded()
-        rows = [
-            [stop, rounded.whole(number, path, record, column, up=False)]
-            for record, (stop, number) in table_rows(path, ["stop_id", column])
-            if number != "0"
-        ]
-        with open(OPPORTUNITIES, "wb") as file:
-            write_rows(file, ["stop_id", OWN_NAME], rows)
-        whole = f"; {rounded.count:,} numbers with decimals were rounded" if rounded.count else ""
-        return [f"{OPPORTUNITIES}: {shown(column)} at {len(rows):,} places{whole}"]
-
-    facts = {"column": column, "counted": maker.records["counted"].outputs}
-    return Stage("opportunities", facts, [OPPORTUNITIES], make)
-
-
-def scenarios_stage(study: Study) -> Stage:
+def scenarios_stage(maker: Maker) -> Stage:
     """The scenario files, as they are."""
+    study = maker.study
     paths = [Path(study.at(path)) for path in study.scenarios.files]
     names = [path.name for path in paths]
     twice = next((name for place, name in enumerate(names) if name in names[:place]), None)
     if twice is not None:
         raise BadInput(study.path, f"two scenario files are called {twice}")
 
+    sources = maker.reads(*study.scenarios.files)
+
     def make() -> list[str]:
         Path(SCENARIOS).mkdir(parents=True)
         for path in paths:
-            shutil.copyfile(path, Path(SCENARIOS) / path.name)
+            copy_file(path, Path(SCENARIOS) / path.name)
         return [f"{SCENARIOS}: {', '.join(names)}"]
 
-    return Stage("scenarios", {"names": names, "inputs": sums_of(paths)}, [SCENARIOS], make)
+    depends = {"names": names, "inputs": sources.sums}
+    return Stage("scenarios", depends, [SCENARIOS], make, refuse_changed=sources.refuse_changed)

@@ -1,7 +1,7 @@
 """The matrix of a whole study from those of its parts, block by block: never whole in memory."""
 
 from bisect import bisect_right
-from typing import Sequence
+from typing import Mapping, Sequence
 
 import numpy as np
 
@@ -20,11 +20,12 @@ MATRIX, CSV = "matrix.omx", "matrix.csv"
 class Joined(Matrix):
     """The matrices of parts, one behind the other, as one matrix."""
 
-    def __init__(self, parts: Sequence[Part], left_out: Sequence[str] = ()) -> None:
+    def __init__(self, parts: Sequence[Part], shown_as: Mapping[str, str] | None = None) -> None:
         self.parts = [CsvMatrix(str(part.matrix)) for part in parts]
         first = self.parts[0]
         self.path, self.layout = first.path, first.layout
-        self.scenarios, self.shares = [it for it in first.scenarios if it not in left_out], first.shares
+        self.called = dict(shown_as or {name: name for name in first.scenarios})
+        self.scenarios, self.shares = list(self.called), first.shares
         self.all = first.scenarios
         self.names: dict[tuple[str, Share], list[str]] = {}
         self.begins = [0]
@@ -36,7 +37,7 @@ class Joined(Matrix):
         if (matrix.layout, matrix.scenarios, matrix.shares) != (self.layout, self.all, self.shares):
             raise BadInput(matrix.path, f"has other columns, scenarios or shares than {self.path}")
         for key in [(scenario, share) for scenario in self.scenarios for share in self.shares]:
-            if matrix.origins(*key) != list(part.origins):
+            if matrix.origins(self.called[key[0]], key[1]) != list(part.origins):
                 raise BadInput(matrix.path, "has other origins than its part")
             self.names.setdefault(key, []).extend(part.origins)
         self.begins.append(self.begins[-1] + len(part.origins))
@@ -45,7 +46,7 @@ class Joined(Matrix):
         return self.names.get((scenario, share), [])
 
     def access(self, scenario: str, share: Share) -> Sums:
-        return np.concatenate([part.access(scenario, share) for part in self.parts])
+        return np.concatenate([part.access(self.called[scenario], share) for part in self.parts])
 
     def rows(self, scenario: str, share: Share, begin: int, end: int) -> Seconds:
         found = [np.zeros((0, len(self.stops)), np.float32)]
@@ -53,7 +54,8 @@ class Joined(Matrix):
             first, last = max(begin, self.begins[place]), min(end, self.begins[place + 1])
             if first >= last:
                 break
-            found.append(self.parts[place].rows(scenario, share, first - self.begins[place], last - self.begins[place]))
+            ends = (first - self.begins[place], last - self.begins[place])
+            found.append(self.parts[place].rows(self.called[scenario], share, *ends))
         return np.concatenate(found)
 
 
@@ -66,13 +68,13 @@ def refuse_changed(parts: Sequence[Part], threads: int) -> None:
 
 
 def join_parts(
-    parts: Sequence[Part], with_csv: bool, left_out: Sequence[str], shown: Sequence[str], threads: int
+    parts: Sequence[Part], with_csv: bool, shown_as: Mapping[str, str], shown: Sequence[str], threads: int
 ) -> list[str]:
-    """Writes the matrix of all parts, which are looked at once more, without some scenarios; with those columns alone
-    that are to be shown, where there are any.
+    """Writes the matrix of all parts, which are looked at once more, with the scenarios that are shown, and those
+    columns alone that are to be shown, where there are any.
     """
     refuse_changed(parts, threads)
-    joined = Joined(parts, left_out)
+    joined = Joined(parts, shown_as)
     matrix = Chosen(joined, shown) if shown else joined
     write_open_matrix(matrix, MATRIX, threads)
     told = [f"{MATRIX}: {joined.begins[-1]:,} origins, {len(matrix.stops):,} {'points' if shown else 'stops'}"]

@@ -6,6 +6,7 @@ from dataclasses import MISSING, dataclass, field
 from decimal import Decimal
 from typing import Any, Callable
 
+from ..dates import as_ttm_reads, day_of
 from ..plans.plan_file import Entry
 
 CLOCK = re.compile(r"([01][0-9]|2[0-3]):[0-5][0-9]")
@@ -32,14 +33,10 @@ def read_texts(entry: Entry, key: str) -> tuple[str, ...]:
 def read_date(entry: Entry, key: str) -> str:
     """A day as `ttm` takes it, from a date of TOML or a text."""
     made = entry.get(key)
-    text = made.strftime("%Y%m%d") if type(made) is datetime.date else str(made)
     try:
-        right = text.isascii() and len(text) == 8 and bool(datetime.datetime.strptime(text, "%Y%m%d"))
+        return as_ttm_reads(day_of(made if type(made) is datetime.date else str(made)))
     except ValueError:
-        right = False
-    if not right:
-        raise entry.fault("is no date", key, str(made), DATE.allowed)
-    return text
+        raise entry.fault("is no date", key, str(made), DATE.allowed) from None
 
 
 def read_clock(entry: Entry, key: str) -> str:

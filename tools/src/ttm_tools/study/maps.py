@@ -4,10 +4,11 @@ from dataclasses import dataclass
 from pathlib import Path
 
 from ..files import output
+from ..naming import file_names
 from ..views.lines import planned_of
 from ..views.maps import Sheet, figure_of, picture_of
 from ..views.pictures import Wish
-from .results import Whole, file_names
+from .results import Whole
 from .stages import Folder, Record, Stage
 
 MAPS = "maps"
@@ -33,7 +34,8 @@ def maps_of(whole: Whole) -> list[Drawn]:
     base = whole.inputs.base
     made = [Drawn(f"{MAPS}/access.png", "access", base)]
     made += [Drawn(f"{MAPS}/access_{name}.png", "difference", it) for it, name in whole.others.items()]
-    for origin, stop in file_names(list(whole.study.results.map_origins)).items():
+    ends = ["", *(f"_{name}" for name in whole.others.values())]
+    for origin, stop in file_names(list(whole.study.results.map_origins), ends).items():
         made.append(Drawn(f"{MAPS}/times_{stop}.png", "times", base, origin))
         for it, name in whole.others.items():
             made.append(Drawn(f"{MAPS}/times_{stop}_{name}.png", "difference", it, origin))
@@ -55,7 +57,7 @@ def maps_stage(whole: Whole) -> Stage:
         return [f"{MAPS}: {len(drawn)} pictures"]
 
     study, inputs = whole.study, whole.inputs
-    words = [study.about.note, study.results.unit, list(study.results.map_origins), whole.scenarios]
+    words = [study.about.note, whole.unit, list(study.results.map_origins), whole.scenarios]
     return Stage("maps", {**whole.depends, "words": words, "run": inputs.sums}, [MAPS], make)
 
 
@@ -66,7 +68,7 @@ def draw(whole: Whole, drawn: Drawn) -> None:
     base = inputs.base if drawn.is_difference else None
     what = "points" if "points" in inputs.records else "stops"
     scenario = drawn.scenario
-    wish = Wish(scenario, inputs.base, study.share, study.within, None, study.results.unit, what)
+    wish = Wish(scenario, inputs.base, study.share, study.within, None, whole.unit, what)
     picture = picture_of(drawn.kind, matrix, stops, drawn.origin, wish)
     edits = [inputs.edits[name] for name in (inputs.base, scenario) if name in inputs.edits]
     planned = planned_of(inputs.feed, edits, inputs.base, scenario, drawn.is_difference)

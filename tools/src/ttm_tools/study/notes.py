@@ -2,28 +2,27 @@
 
 import importlib.metadata
 import json
+import os
 import platform
 from pathlib import Path
 from typing import Any, Sequence
 
 from .. import __version__
-from ..engine import program_at
 from ..faults import BadInput
-from ..files import sum_of
-from .inputs import Inputs
-from .report import sources_of
+from ..opening.paths import regular
+from ..opening.texts import read_json
+from .results import Whole
 from .stages import Record, as_text, logged, sum_of_tools, write_settled
-from .ttm import facts_of
-from .wishes import Study
+from .ttm import Version, facts_of
 
 NOTES, FORM = "study.json", 1
 PACKAGES = ("numpy", "pandas", "h5py", "matplotlib", "scipy", "osmium", "jinja2")
 
 
-def versions(ttm: Sequence[str]) -> dict[str, Any]:
-    """What made the folder."""
+def versions(ttm: Sequence[str], program: str) -> dict[str, Any]:
+    """What made the folder: with the sum of the program."""
     made: dict[str, Any] = {"ttm": ttm[0], "toolchain": ttm[1] if len(ttm) > 1 else "", "ttm_tools": __version__}
-    made |= {"ttm_sha256": sum_of(program_at(None)), "ttm_tools_sha256": sum_of_tools()}
+    made |= {"ttm_sha256": program, "ttm_tools_sha256": sum_of_tools()}
     made["python"] = platform.python_version()
     for name in PACKAGES:
         try:
@@ -33,20 +32,23 @@ def versions(ttm: Sequence[str]) -> dict[str, Any]:
     return made
 
 
-def write_notes(study: Study, inputs: Inputs, records: dict[str, Record], ttm: Sequence[str], parts: int) -> None:
+def write_notes(whole: Whole, records: dict[str, Record], version: Version, parts: int) -> None:
     """Writes what was done, unless that stands there already."""
+    study, inputs = whole.study, whole.inputs
     made = {**inputs.records, **records}
     facts: dict[str, Any] = {
         "form": FORM,
         "title": study.title,
         "question": study.about.question,
-        "study_file": study.path.read_text(encoding="utf-8-sig"),
-        "sources": sources_of(study),
+        "study_file": study.text,
+        "sources": inputs.sources,
+        "sources_in": os.path.relpath(study.path.parent),
         "words": inputs.run.words(),
         "run": facts_of(inputs.run),
+        "shown_as": inputs.shown_as,
         "parts": parts,
         "stages": {name: {"key": it.key, "told": it.lines, "files": it.outputs} for name, it in made.items()},
-        "versions": versions(ttm),
+        "versions": versions(version.lines, version.sum),
     }
     try:
         there = read_notes(Path("."))
@@ -74,11 +76,10 @@ def read_notes(folder: Path) -> dict[str, Any]:
     """What a study's folder says of itself."""
     path = folder / NOTES
     try:
-        made: dict[str, Any] = dict(json.loads(path.read_text(encoding="utf-8")))
-    except OSError as fault:
-        raise BadInput(path, f"{fault.strerror}: is it the folder of a study that is done?") from None
-    except (ValueError, TypeError) as fault:
-        raise BadInput(path, f"can't be read: {fault}") from None
-    if made.get("form") != FORM:
+        regular(path)
+    except BadInput as fault:
+        raise BadInput(path, f"{fault.what}: is it the folder of a study that is done?") from None
+    made: dict[str, Any] = read_json(path, "JSON of a study")
+    if not isinstance(made, dict) or made.get("form") != FORM:
         raise BadInput(path, f"is of another form than {FORM}")
     return made

@@ -5,7 +5,7 @@ from ..matrices import open_matrix
 from ..measures.opportunities import columns_of
 from ..points.study import POINTS
 from ..views.page.make import Wish, page_of
-from .inputs import COUNTED, PEOPLE
+from .counted import COUNTED, PEOPLE
 from .joining import MATRIX
 from .results import Whole
 from .stages import Folder, Record, Stage
@@ -32,7 +32,7 @@ def page_stage(whole: Whole) -> Stage:
         return [f"{PAGE}: {told}", *page.frame.told]
 
     counts = [inputs.records[name].outputs for name in ("counted", "people") if name in inputs.records]
-    texts = [study.title, study.about.note, study.results.unit, list(study.cutoffs)]
+    texts = [study.title, study.about.note, whole.unit, study.within, list(study.cutoffs)]
     facts = {"texts": texts, "counts": counts, "run": inputs.sums, "words": inputs.run.words()}
     return Stage("page", {**whole.depends, **facts}, [PAGE], make)
 
@@ -57,10 +57,11 @@ def wish_of(whole: Whole) -> Wish:
         cutoffs=cutoffs,
         origins=None,
         seed=SEED,
-        unit=study.results.unit,
+        unit=whole.unit,
         title=study.title,
         note=" ".join(it for it in (study.about.question, study.about.note) if it) or None,
         words=" ".join(inputs.run.words()),
         tiles=None,
         attribution=None,
+        within=study.within,
     )

@@ -12,11 +12,11 @@ from .document import Document
 from .maps import maps_of
 from .page import PAGE
 from .results import ACCESS_TABLE, EQUITY_TABLE, Whole
-from .stages import Record, Stage, sums_of
-from .wishes import Study
+from .stages import Record, Stage
 
 MARKDOWN, HTML, TOLD = "report.md", "report.html", "inputs/told.txt"
-FEW = 10  # rows of a table of the report
+FEW = 10  # origins that lose, and that gain most, which the report names
+MOST_DECIMALS = 6
 PROVED = (
     "Each travel time of the matrix is, for the files in the folder inputs and the words above, the least that the "
     "share of departures attains over all journeys of at most so many vehicles; it is the contract of ttm, and proved. "
@@ -40,19 +40,9 @@ def report_stage(whole: Whole, records: dict[str, Record], version: Sequence[str
     about = whole.study.about
     told = {name: record.lines for name, record in {**whole.inputs.records, **records}.items()}
     sums = {name: record.outputs for name, record in records.items()}
-    texts = [whole.study.title, about.question, about.note, list(version), whole.study.results.unit]
+    texts = [whole.study.title, about.question, about.note, list(version), whole.unit]
     facts = {"texts": texts, "told": told, "sums": sums, "words": whole.inputs.run.words()}
-    return Stage("report", {**whole.depends, **facts, "sources": sources_of(whole.study)}, [MARKDOWN, HTML], make)
-
-
-def sources_of(study: Study) -> dict[str, str]:
-    """The files that a study's file names, by the paths that it gives, with their sums."""
-    paths = [*study.feed.files, *study.points.all, *study.opportunities.files, *study.scenarios.files]
-    more = [study.feed.area, study.run.origins, study.walks.streets, study.walks.table]
-    more += [study.opportunities.people, study.scenarios.plan]
-    named = dict.fromkeys([*paths, *(it for it in more if it)])
-    found = [(Path(path).parent / name, was) for path in named for name, was in sums_of([study.at(path)]).items()]
-    return {str(path): was for path, was in found}
+    return Stage("report", {**whole.depends, **facts, "sources": whole.inputs.sources}, [MARKDOWN, HTML], make)
 
 
 def report_of(whole: Whole, records: dict[str, Record], version: Sequence[str]) -> Document:
@@ -64,8 +54,8 @@ def report_of(whole: Whole, records: dict[str, Record], version: Sequence[str]) 
     made.heading("Figures")
     write_figures(made, whole, records)
     made.heading("What it rests on")
-    made.paragraph("Files, with their SHA-256 sums:")
-    made.table(["File", "SHA-256"], [list(it) for it in sources_of(study).items()])
+    sums = [list(it) for it in inputs.sources.items()]
+    made.table("Files, with their SHA-256 checksums", ["File", "SHA-256"], sums)
     made.paragraph("What was done with them:")
     made.items(f"{name}: {line}" for name, record in inputs.records.items() for line in record.lines)
     made.paragraph("Words of the run, in the study's folder; parts of the origins took its place:")
@@ -86,8 +76,8 @@ def write_figures(made: Document, whole: Whole, records: dict[str, Record]) -> N
     """Access, winners and losers, equity and maps, as far as there are any."""
     study = whole.study
     if "access" in records:
-        made.paragraph(f"Mean access of the origins, for the share of {study.share} percent of the departures:")
-        made.table(["Counted", "Within, minutes", *whole.scenarios], list(means(whole)))
+        caption = f"Mean access of the origins, for travel times that {study.share} percent of the departures achieve"
+        made.table(caption, ["Counted", "Within, minutes", *whole.scenarios], list(means(whole)))
     for scenario, name in whole.others.items():
         if f"compare_{name}" in records:
             made.heading(f"{shown(scenario)} beside {shown(whole.inputs.base)}", 3)
@@ -95,12 +85,13 @@ def write_figures(made: Document, whole: Whole, records: dict[str, Record]) -> N
             write_changes(made, f"compare_{name}.csv")
     if "equity" in records:
         made.heading("How it is spread over people", 3)
-        header, *lines = first_rows(EQUITY_TABLE, 4 * FEW)
-        made.table(header, lines)
+        header, *lines = all_rows(EQUITY_TABLE)
+        made.table(f"Access by groups of people ({EQUITY_TABLE})", [as_words(it) for it in header], lines)
     if "page" in records:
         made.link("To look at in a browser:", PAGE)
     if "maps" in records:
         made.heading("Maps", 3)
+        made.paragraph("The pictures lie in the folder maps, as files of their own.")
         for it in maps_of(whole):
             made.picture(
                 it.file, f"{it.kind}, {shown(it.scenario)}" + (f", from {shown(it.origin)}" if it.origin else "")
@@ -113,13 +104,31 @@ def means(whole: Whole) -> Iterator[list[str]]:
     places = [table.scenario(name) for name in whole.scenarios]
     for number, kind in enumerate(table.kinds):
         if kind.percentile in ("", str(whole.study.share)):
-            mean = [f"{table.numbers[place, number].mean():,.1f}" for place in places]
-            yield [shown(kind.opportunity), kind.cutoff, *mean]
+            yield [
+                shown(kind.opportunity),
+                kind.cutoff,
+                *told_apart([table.numbers[it, number].mean() for it in places]),
+            ]
 
 
-def first_rows(path: str, count: int) -> list[list[str]]:
-    """The header of a table, and its first rows."""
-    return [[shown(it) for it in fields] for _, fields in itertools.islice(records_in(path), count + 1)]
+def told_apart(numbers: Sequence[float]) -> list[str]:
+    """Numbers with one decimal, or with as many as show in which of them there is a change."""
+    different = len({round(float(it), MOST_DECIMALS) for it in numbers})
+    for decimals in range(1, MOST_DECIMALS + 1):
+        made = [f"{it:,.{decimals}f}" for it in numbers]
+        if len(set(made)) == different:
+            return made
+    return made
+
+
+def all_rows(path: str) -> list[list[str]]:
+    """The header of a table, and its rows."""
+    return [[shown(it) for it in fields] for _, fields in records_in(path)]
+
+
+def as_words(name: str) -> str:
+    """The name of a column as words, between which a line may end."""
+    return name.replace("_", " ")
 
 
 def write_changes(made: Document, path: str) -> None:
@@ -130,8 +139,8 @@ def write_changes(made: Document, path: str) -> None:
         wanted = (fields for _, fields in records_in(path) if is_change(fields[place], sign))
         found = list(itertools.islice(wanted, FEW))
         if found:
-            made.paragraph(f"Who {what} most ({path} has all):")
-            made.table(header, [[shown(it) for it in fields] for fields in found])
+            rows = [[shown(it) for it in fields] for fields in found]
+            made.table(f"Who {what} most ({path} has all)", [as_words(it) for it in header], rows)
 
 
 def is_change(text: str, sign: str) -> bool:

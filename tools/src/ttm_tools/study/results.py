@@ -1,8 +1,7 @@
 """What is made of the matrix: tables of access, of winners and losers, and of equity. Each is a stage of its own."""
 
-import re
 from dataclasses import dataclass
-from typing import Any
+from typing import Any, Sequence
 
 import numpy as np
 
@@ -12,19 +11,22 @@ from ..matrices import Matrix, Share, open_matrix, pair_of
 from ..measures.access import Decay, access
 from ..measures.access_table import read_access
 from ..measures.comparison import Comparison, compare
-from ..measures.opportunities import Counts, read_counts
+from ..measures.opportunities import Counts, columns_of, read_counts
+from ..naming import file_names
 from ..points.shown import shown_of
 from ..records import shown
 from ..views import equity
 from ..views.access import ACCESS, LONG, measured, write_access
 from ..views.differences import summary, write_origins, write_pairs
-from .inputs import COUNTED, PEOPLE, Inputs
+from .counted import COUNTED, PEOPLE
+from .inputs import Inputs
 from .joining import MATRIX
 from .stages import Folder, Record, Stage
 from .wishes import Study
 
 ACCESS_TABLE, EQUITY_TABLE, EQUITY_PAGE = "access.csv", "equity.csv", "equity.md"
-STOPS = "stops"  # what is counted where nothing else is named
+PAIRS = "_pairs"  # behind a scenario's name, the file of its pairs
+STOPS, POINTS = "stops", "points"  # what is counted where nothing else is named
 LOSE = 10.0  # percent of the base's access, from which on somebody counts as a loser
 
 
@@ -40,7 +42,14 @@ class Whole:
     @property
     def others(self) -> dict[str, str]:
         """The scenarios beside the base, and how their files are called."""
-        return file_names([name for name in self.scenarios if name != self.inputs.base])
+        return names_of_scenarios(self.scenarios, self.inputs.base)
+
+    @property
+    def unit(self) -> str:
+        """What `ttm` counts as access: as the study calls it, or its column."""
+        if "opportunities" not in self.inputs.records:
+            return self.study.results.unit or (POINTS if self.study.points.all else STOPS)
+        return self.study.results.unit or shown(self.study.opportunities.column or columns_of(COUNTED)[0])
 
     @property
     def depends(self) -> dict[str, Any]:
@@ -55,20 +64,9 @@ class Whole:
         return matrix, stops
 
 
-def file_name(name: str) -> str:
-    """A scenario's or a stop's name as a file may be called."""
-    return re.sub(r"[^\w.-]", "_", shown(name)).lstrip(".") or "_"
-
-
-def file_names(names: list[str]) -> dict[str, str]:
-    """The same of some names, no two alike."""
-    made: dict[str, str] = {}
-    for name in names:
-        file = file_name(name)
-        while file in made.values():
-            file += "_"
-        made[name] = file
-    return made
+def names_of_scenarios(scenarios: Sequence[str], base: str) -> dict[str, str]:
+    """How the files of the scenarios beside the base are called."""
+    return file_names([name for name in scenarios if name != base], ("", PAIRS))
 
 
 def make_tables(whole: Whole, folder: Folder) -> dict[str, Record]:
@@ -128,7 +126,7 @@ def equity_stage(whole: Whole, access: Record, people: Record) -> Stage:
 def compare_stage(whole: Whole, scenario: str, name: str) -> Stage:
     """Winners and losers of a scenario beside the base."""
     study, wish = whole.study, whole.study.results
-    by_origin, by_pair = f"compare_{name}.csv", f"compare_{name}_pairs.csv"
+    by_origin, by_pair = f"compare_{name}.csv", f"compare_{name}{PAIRS}.csv"
 
     def make() -> list[str]:
         matrix, stops = whole.open()

@@ -9,9 +9,9 @@ from typing import Generator, Iterator, Sequence
 
 from .. import progress
 from ..engine import Run
-from ..faults import BadInput
+from ..faults import BadInput, say
 from .cutting import Part
-from .stages import log, say
+from .stages import log
 from .ttm import Running, with_origins
 
 SECONDS_BETWEEN_LOOKS = 0.02
@@ -46,6 +46,7 @@ class Pool:
     def __init__(self, run: Run, missing: Sequence[Part], at_once: int, threads: int) -> None:
         self.run, self.at_once, self.threads = run, at_once, threads
         self.waiting = list(reversed(missing))
+        self.said = time.monotonic()
         self.running: dict[int, tuple[Part, Running]] = {}
 
     def fill(self) -> None:
@@ -57,9 +58,18 @@ class Pool:
     def over(self) -> list[tuple[Part, Running]]:
         """The runs that are over, after a while."""
         numbers = [number for number, (_, it) in self.running.items() if it.is_over()]
-        if not numbers:
+        if numbers:
+            self.said = time.monotonic()
+        else:
             time.sleep(SECONDS_BETWEEN_LOOKS)
+            self.tell()
         return [self.running.pop(number) for number in numbers]
+
+    def tell(self) -> None:
+        """Says once a minute, where there is no terminal, that parts go on of which none has ended."""
+        if not sys.stderr.isatty() and time.monotonic() - self.said > SECONDS_BETWEEN_LINES:
+            self.said = time.monotonic()
+            say(f"parts: {len(self.running)} go on, {len(self.waiting)} wait")
 
     def stop(self) -> None:
         for _, it in self.running.values():

@@ -5,9 +5,9 @@ from itertools import groupby
 from pathlib import Path
 from typing import Callable, Sequence
 
-from ..faults import BadInput, needs_program, one_line
+from ..faults import BadInput, needs_program, one_line, say
 from .cutting import PARTS, Part
-from .stages import say, write_settled
+from .stages import write_settled
 from .task import SCRIPT
 
 JOB = f"{PARTS}/job"

@@ -7,20 +7,20 @@ import fcntl
 import hashlib
 import json
 import os
-import sys
 import time
-from dataclasses import dataclass
+from dataclasses import dataclass, field
 from functools import cache
 from pathlib import Path
 from typing import Any, Callable, Iterator, Sequence
 
 from .. import __version__
-from ..faults import BadInput
+from ..faults import BadInput, say
 from ..files import remove, sum_of, written_aside
 
 RECORDS = "stages"
-LOCK = ".lock"
+LOCK, MARK = ".lock", "a folder of ttm-tools study\n"
 LOG = "stages/log.jsonl"
+FACTS: dict[str, type | tuple[type, ...]] = {"at": str, "kind": str, "name": str, "seconds": (int, float)}  # of a log
 TASK = "parts/run.json"  # what other machines compute, as long as no input is made anew
 PACKAGE = Path(__file__).resolve().parents[1]
 
@@ -35,6 +35,8 @@ class Stage:
     make: Callable[[], list[str]]  # writes them, and says what was done
     of_tools: bool = True  # whether other tools may make other outputs: done anew, then
     keeps_task: bool = False  # whether what other machines compute stays what is asked for
+    refuse_changed: Callable[[], None] = lambda: None  # tells what isn't as it was when its sum was taken
+    stated: dict[str, str] = field(default_factory=dict)  # sums of files from outside that it reads
 
     @property
     def key(self) -> str:
@@ -72,15 +74,6 @@ def sum_of_tools() -> str:
 def files_in(path: Path) -> list[Path]:
     """A file, or all files of a folder."""
     return sorted(it for it in path.rglob("*") if it.is_file()) if path.is_dir() else [path]
-
-
-def sums_of(paths: Sequence[str | Path]) -> dict[str, str]:
-    """The sums of files, and of all files of folders, by their names without the folders in which these lie."""
-    made: dict[str, str] = {}
-    for path, file in [(path, file) for path in map(Path, paths) for file in files_in(path)]:
-        name = path.name if file == path else str(Path(path.name) / file.relative_to(path))
-        made[name + "'" * sum(it.rstrip("'") == name for it in made)] = sum_of(file)
-    return made
 
 
 def settle(path: Path) -> None:
@@ -131,6 +124,23 @@ class Folder:
             self.at(name).is_file() and sum_of(self.at(name)) == was for name, was in record.outputs.items()
         )
 
+    def owned(self) -> set[str]:
+        """The files that stages wrote, and the outputs of those that were begun."""
+        known = [self.record(path.stem) for path in self.at(RECORDS).glob("*.json")]
+        made = {name for record in known if record is not None for name in record.outputs}
+        for path in self.at(RECORDS).glob("*.begun"):
+            made.update(path.read_text(encoding="utf-8", errors="surrogateescape").splitlines())
+        return made
+
+    def refuse_foreign(self, stage: Stage) -> None:
+        """Refuses to replace what no stage wrote."""
+        owned = self.owned()
+        for name in stage.outputs:
+            there = files_in(self.at(name)) if os.path.lexists(self.at(name)) and name not in owned else []
+            for file in there:
+                if str(file.relative_to(self.path)) not in owned:
+                    raise BadInput(file, "isn't this study's, which would replace it: move it elsewhere")
+
     def do(self, stage: Stage) -> Record:
         """Does a stage, unless it was done."""
         key = stage.key
@@ -138,6 +148,9 @@ class Folder:
         if found is not None and self.is_done(stage, key):
             return found
         say(f"{stage.name} ..")
+        self.refuse_foreign(stage)
+        begun = self.at(f"{RECORDS}/{stage.name}.begun")
+        write_settled(begun, "".join(name + "\n" for name in stage.outputs))
         self.at(f"{RECORDS}/{stage.name}.json").unlink(missing_ok=True)
         if not stage.keeps_task:
             self.at(TASK).unlink(missing_ok=True)
@@ -146,13 +159,14 @@ class Folder:
             self.at(name).parent.mkdir(parents=True, exist_ok=True)
         begin = time.monotonic()
         lines = stage.make()
+        stage.refuse_changed()
         files = [file for name in stage.outputs for file in files_in(self.at(name)) if file.is_file()]
         for file in files:
             settle(file)
         sums = {str(file.relative_to(self.path)): sum_of(file) for file in files}
         record = Record(key, sums, lines, round(time.monotonic() - begin, 3))
-        (self.path / RECORDS).mkdir(exist_ok=True)
         write_settled(self.path / RECORDS / f"{stage.name}.json", as_text(record.facts))
+        begun.unlink()
         log("stage", stage.name, record.seconds)
         for line in lines:
             say(f"  {line}")
@@ -181,24 +195,38 @@ def log(kind: str, name: str, seconds: float) -> None:
 def logged() -> list[dict[str, Any]]:
     """What was noted; a line that a kill cut short isn't."""
     made = list[dict[str, Any]]()
-    for line in Path(LOG).read_text(encoding="utf-8").splitlines() if Path(LOG).is_file() else ():
-        with contextlib.suppress(ValueError):
-            made.append(json.loads(line))
+    text = Path(LOG).read_text(encoding="utf-8", errors="replace") if Path(LOG).is_file() else ""
+    for line in text.splitlines():
+        with contextlib.suppress(ValueError, RecursionError):
+            facts = json.loads(line)
+            if isinstance(facts, dict) and all(isinstance(facts.get(name), kind) for name, kind in FACTS.items()):
+                made.append(facts)
     return made
-
-
-def say(line: str) -> None:
-    """Tells what is done."""
-    print(line, file=sys.stderr, flush=True)
 
 
 @contextlib.contextmanager
 def held(folder: Path) -> Iterator[None]:
     """Holds a study's folder, so that no two commands work in it at once."""
+    refuse_folder(folder)
     folder.mkdir(parents=True, exist_ok=True)
-    with open(folder / LOCK, "w") as file:
+    with open(folder / LOCK, "a") as file:
         try:
             fcntl.flock(file, fcntl.LOCK_EX | fcntl.LOCK_NB)
         except OSError:
             raise BadInput(folder, "another ttm-tools study works in this folder") from None
+        if not os.fstat(file.fileno()).st_size:
+            file.write(MARK)
+            file.flush()
         yield
+
+
+def refuse_folder(folder: Path) -> None:
+    """Refuses a folder that isn't empty and no study's: what is in it is the person's."""
+    if not os.path.lexists(folder):
+        return
+    if not folder.is_dir():
+        raise BadInput(folder, "is no folder")
+    names, lock = {it.name for it in folder.iterdir()}, folder / LOCK
+    of_a_study = lock.is_file() and (lock.read_bytes() == MARK.encode() or (folder / LOG).is_file())
+    if not of_a_study and names - {LOCK}:
+        raise BadInput(folder, "isn't empty, and no study's folder: name a new one by --out")

@@ -3,13 +3,11 @@ line and the nearest right name.
 """
 
 import os
-import tomllib
-from dataclasses import MISSING, fields
-from decimal import Decimal
+from dataclasses import MISSING, fields, replace
 from pathlib import Path
 from typing import Any, TypeVar
 
-from ..faults import BadInput
+from ..opening.texts import read_toml
 from ..plans.plan_file import Entry, key_of, statements
 from .kinds import FILE, FILES
 from .wishes import NAMES, NEEDED, TABLES, About, Study
@@ -37,13 +35,7 @@ def lines_of(text: str) -> Lines:
 
 def read_study(path: str) -> Study:
     """Reads and looks at all of a study's file."""
-    try:
-        text = Path(path).read_text(encoding="utf-8-sig")
-        values = tomllib.loads(text, parse_float=Decimal)
-    except OSError as fault:
-        raise BadInput(path, fault.strerror) from None
-    except (UnicodeDecodeError, tomllib.TOMLDecodeError) as fault:
-        raise BadInput(path, f"is no TOML file: {fault}") from None
+    text, values = read_toml(path)
     lines = lines_of(text)
     top = Entry(path, 1, values, lines[TOP][1])
     top.only([*names_of(About), *TABLES])
@@ -53,11 +45,21 @@ def read_study(path: str) -> Study:
             raise top.fault(f"no table [{name}], which is needed")
     about = Entry(path, 1, {key: it for key, it in values.items() if key not in TABLES}, top.lines)
     read: dict[str, Any] = {name: wish_of(TABLES[name], entry) for name, entry in entries.items()}
-    study = Study(Path(os.path.abspath(path)), wish_of(About, about), **read)
+    study = in_seconds(Study(Path(os.path.abspath(path)), wish_of(About, about), **read, text=text))
     for name, entry in entries.items():
         tell_lost_files(study, TABLES[name], entry)
     agree(study, {name: entries.get(name, Entry(path, 1, {}, {})) for name in TABLES})
     return study
+
+
+def in_seconds(study: Study) -> Study:
+    """The same with limits in seconds, as `ttm` has them, where they were named in minutes."""
+    run, results = study.run, study.results
+    if run.cutoffs is not None:
+        run = replace(run, limits=tuple(round(60 * it) for it in run.cutoffs))
+    if results.cutoff is not None:
+        results = replace(results, within=round(60 * results.cutoff))
+    return replace(study, run=run, results=results)
 
 
 def names_of(kind: type[Any]) -> list[str]:
@@ -111,9 +113,14 @@ def agree(study: Study, entries: dict[str, Entry]) -> None:
         raise feed.fault("names no feed", "files", allowed='["feed.zip"]')
     if study.feed.ready and len(study.feed.files) != 1:
         raise feed.fault("is for one folder, and files names several", "ready")
-    for key in ("repair", "box", "area", "routes", "agencies", "only_days"):
+    for key in ("repair", "allow_loss", "same_clock", "box", "area", "routes", "agencies", "only_days"):
         refuse_both(feed, "ready", key)
+    refuse_both(run, "limits", "cutoffs")
+    refuse_both(entries["results"], "within", "cutoff")
     refuse_both(walks, "none", "streets", "table")
+    if study.walks.limit is not None and study.walks.limit > study.run.walk:
+        told = f"is more than walk of [run], {study.run.walk}, so that ttm takes none of the longer walks"
+        raise walks.fault(told, "limit", str(study.walks.limit), "at most walk of [run]")
     if study.points.all:
         agree_on_points(study, run, walks, points)
     refuse_both(entries["scenarios"], "files", "plan")

@@ -15,18 +15,13 @@ from dataclasses import dataclass, replace
 from pathlib import Path
 from typing import Any, Sequence
 
-from ..engine import EngineFault, Run, program_at
+from ..engine import EngineFault, Run, program_at, refusal_of
 from ..faults import one_line
 from ..files import remove
 from .stages import settle
 
 DIES = 1  # PR_SET_PDEATHSIG of Linux
 FACT = re.compile(r"ttm: (?P<name>[^:]+(?:: [^:]+)?): (?P<value>[0-9]+)")
-# what a report tells ahead of a fault: a fact by its number or its dates, or a warning
-AHEAD = re.compile(
-    r"ttm: (?:warning: .*|(?!scenario name: )[^:\"]+(?:: [^:\"]+)?: [0-9].*"
-    r"|[^:]+ calendars: none|nearest date [^:]+: none.*)"
-)
 OF_THE_MACHINE = ("bytes that the machine has free", "rows done", "time", "bytes taken at most")
 
 
@@ -34,6 +29,14 @@ def die_with_parent() -> None:
     """Has a process end when the one that started it is killed."""
     if sys.platform == "linux":
         ctypes.CDLL(None).prctl(DIES, signal.SIGKILL)
+
+
+@dataclass(frozen=True)
+class Version:
+    """What a program says of itself, and the sum of its bytes."""
+
+    lines: list[str]
+    sum: str
 
 
 def version_of(program: str) -> list[str]:
@@ -78,17 +81,13 @@ def report_of(run: Run, program: str | None = None) -> Report:
     words = [program_at(program), *run.words(), "--report"]
     ran = subprocess.run(words, stdout=subprocess.DEVNULL, stderr=subprocess.PIPE, preexec_fn=die_with_parent)
     if ran.returncode != 0:
-        raise EngineFault(fault_of(ran.stderr, ran.returncode), ran.returncode)
+        raise EngineFault("\n".join(refusal_of(ran.stderr, ran.returncode)), ran.returncode)
     return Report(ran.stderr.decode("utf-8", "replace").splitlines())
 
 
 def fault_of(told: bytes, status: int) -> str:
-    """The line that tells why a run ended, with those that explain it, behind those of its report."""
-    lines = [line for line in told.decode("utf-8", "replace").splitlines() if line]
-    if not lines:
-        return f"ttm ended with status {status} and said nothing"
-    ahead = max((place for place, line in enumerate(lines, 1) if AHEAD.fullmatch(line)), default=0)
-    return one_line("; ".join(lines[ahead:] or lines[-1:]))
+    """The line that tells why a run ended, with those that explain it."""
+    return one_line("; ".join(refusal_of(told, status)))
 
 
 def aside_of(path: Path) -> Path:

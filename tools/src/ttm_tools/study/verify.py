@@ -6,20 +6,22 @@ import os
 import random
 from dataclasses import replace
 from pathlib import Path
-from typing import Any, Sequence
+from typing import Any, Iterator, Sequence
 
 import numpy as np
 
 from ..engine import Run, program_at, run as run_ttm
-from ..faults import BadInput
+from ..faults import BadInput, say, some
 from ..files import sum_of
 from ..matrices import Matrix, open_matrix
 from ..matrices.csv_matrix import CsvMatrix
+from ..opening.paths import as_one_line
 from ..parts import origins_in, parts_of, write_stops
 from ..records import shown
+from .cutting import PARTS
 from .joining import CSV, MATRIX
 from .notes import NOTES, read_notes
-from .stages import held, room, say
+from .stages import LOCK, RECORDS, held, room
 from .ttm import version_of
 from .work import found_program, sweep
 
@@ -31,9 +33,12 @@ def verify(folder: Path, seed: int | None, workers: int) -> None:
     notes = read_notes(folder)
     with found_program(), held(folder), contextlib.chdir(folder):
         sweep(Path("."), inside_parts=False)
-        files = {name: was for stage in notes["stages"].values() for name, was in stage["files"].items()}
+        with as_one_line(folder / NOTES, "isn't as a study writes it"):
+            files = {name: was for stage in notes["stages"].values() for name, was in stage["files"].items()}
+            sources = {f"{notes.get('sources_in', '..')}/{name}": was for name, was in notes["sources"].items()}
         refuse_changed(files)
-        say(f"sums: {len(files)} files are as {NOTES} says")
+        say(f"sums: {len(files)} files are as {NOTES} says", *unstated(files))
+        refuse_changed_sources(sources)
         run = Run(**notes["run"])
         own, was = version_of(program_at(None)), [notes["versions"]["ttm"], notes["versions"]["toolchain"]]
         if own[: len(was)] != was:
@@ -44,9 +49,27 @@ def verify(folder: Path, seed: int | None, workers: int) -> None:
         places = sorted(random.Random(seed).sample(range(len(origins)), count))
         drawn = [origins[place] for place in places]
         kept = [open_matrix(MATRIX), *([CsvMatrix(CSV)] if CSV in files else [])]
-        for some in parts_of(drawn, -(-count * notes["parts"] // len(origins))):
-            compare_again(replace(run, workers=workers), some, kept)
+        for few in parts_of(drawn, -(-count * notes["parts"] // len(origins))):
+            compare_again(replace(run, workers=workers), few, kept, notes.get("shown_as") or {})
         say(f"rows: those of {count:,} of {len(origins):,} origins, drawn by --seed {seed}, have the same bytes")
+
+
+def unstated(files: dict[str, str]) -> Iterator[str]:
+    """Tells the files that the study didn't write."""
+    own = {NOTES, LOCK, *files}
+    for path in sorted(it for it in Path(".").rglob("*") if not it.is_dir()):
+        if str(path) not in own and path.parts[0] not in (RECORDS, PARTS):
+            yield f"{path}: is there, and {NOTES} doesn't state it"
+
+
+def refuse_changed_sources(sources: dict[str, str]) -> None:
+    """Tells the first source that isn't as it was read; those that aren't there any more are told as well."""
+    lost = [path for path in sources if not Path(path).is_file()]
+    for path, was in sources.items():
+        if path not in lost and sum_of(path) != was:
+            raise BadInput(path, f"has another sum than {NOTES} says: it was changed since the study read it")
+    if lost:
+        say(f"sources: {len(lost)} of {len(sources)} files aren't there any more: {some(lost)}")
 
 
 def refuse_changed(files: dict[str, str]) -> None:
@@ -57,8 +80,8 @@ def refuse_changed(files: dict[str, str]) -> None:
             raise BadInput(name, f"has another sum than {NOTES} says: it was changed")
 
 
-def compare_again(run: Run, origins: Sequence[str], kept: Sequence[Matrix]) -> None:
-    """Computes the rows of some origins, and compares them with those that are kept."""
+def compare_again(run: Run, origins: Sequence[str], kept: Sequence[Matrix], shown_as: dict[str, str]) -> None:
+    """Computes the rows of some origins, and compares them with those that are kept, whatever these are called."""
     with room() as made:
         path, out = made / "origins.csv", made / "matrix.csv"
         with open(path, "wb") as file:
@@ -66,19 +89,21 @@ def compare_again(run: Run, origins: Sequence[str], kept: Sequence[Matrix]) -> N
         run_ttm(replace(run, files={**run.files, "origins": str(path)}), out)
         again = CsvMatrix(str(out))
         for matrix in kept:
-            for key in itertools.product(matrix.scenarios, matrix.shares):
-                refuse_other(matrix, again, key, origins)
+            names = shown_as if not isinstance(matrix, CsvMatrix) else {}
+            for name, share in itertools.product(matrix.scenarios, matrix.shares):
+                refuse_other(matrix, again, ((name, share), (names.get(name, name), share)), origins)
 
 
-def refuse_other(matrix: Matrix, again: CsvMatrix, key: tuple[str, Any], origins: Sequence[str]) -> None:
-    """Tells the first row whose bytes are others."""
+def refuse_other(matrix: Matrix, again: CsvMatrix, keys: tuple[Any, Any], origins: Sequence[str]) -> None:
+    """Tells the first row whose bytes are others, of a scenario and a share by what they are called in both."""
+    key, own = keys
     places = {name: place for place, name in enumerate(matrix.origins(*key))}
-    if again.origins(*key) != list(origins):
+    if again.origins(*own) != list(origins):
         raise BadInput(matrix.path, f"{shown(key[0])} isn't what ttm computes now: it has other rows")
     chosen = np.array([places[name] for name in origins], dtype=np.intp)
-    sums = matrix.access(*key)[chosen] == again.access(*key)
+    sums = matrix.access(*key)[chosen] == again.access(*own)
     for row, (origin, place) in enumerate(zip(origins, chosen.tolist())):
-        if not sums[row].all() or bytes_of(matrix, key, place) != bytes_of(again, key, row, matrix):
+        if not sums[row].all() or bytes_of(matrix, key, place) != bytes_of(again, own, row, matrix):
             told = f"share {key[1]}, origin {shown(origin)} isn't what ttm computes"
             raise BadInput(matrix.path, f"the row of {shown(key[0])}, {told}")
 

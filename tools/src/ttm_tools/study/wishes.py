@@ -25,6 +25,10 @@ class FeedWish:
     files: tuple[str, ...] = told(FILES, "published feeds, zip files or folders; several are merged", '["feed.zip"]')
     ready: bool = told(FLAG, "it is one folder that ttm reads: taken as it is, not checked", "true", False)
     repair: bool = told(FLAG, "mend faults by the rules of ttm-tools prepare; false refuses them", "false", True)
+    allow_loss: bool = told(
+        FLAG, "go on where a repair takes much of a file, or no trip runs on the date", "true", False
+    )
+    same_clock: bool = told(FLAG, "merge feeds of several time zones", "true", False)
     box: tuple[float, float, float, float] | None = told(
         BOX, "stops inside are kept; without it, all", "[7.5, 47.4, 7.8, 47.7]", None
     )
@@ -53,6 +57,9 @@ class RunWish:
     )
     limits: tuple[int, ...] = told(
         ascending(0, 4294967295, "seconds"), "within which access is counted", "[1800]", (1800,)
+    )
+    cutoffs: tuple[float, ...] | None = told(
+        ascending(0, 10000, "minutes", False), "the same in minutes, in place of limits", "[30]", None
     )
     origins: str | None = told(
         FILE,
@@ -150,13 +157,16 @@ class ResultWish:
     differs: int = told(whole(0, 604800, "seconds"), "travel times differ by more than this", "60", 60)
     maps: bool = told(FLAG, "pictures of access and of each scenario's difference", "false", True)
     map_origins: tuple[str, ...] = told(TEXTS, "stops from which travel times are drawn as well", '["B00170S"]', ())
-    unit: str = told(TEXT, "what is counted as access, for people", '"jobs"', "opportunities")
+    unit: str | None = told(
+        TEXT, "what is counted as access, for people; without it, the name of the column", '"jobs"', None
+    )
     share: int | None = told(
         whole(1, 100, "percent"), "of tables, maps and page; without it the median, else the first", "50", None
     )
     within: int | None = told(
         whole(0, 4294967295, "seconds"), "the limit of these; without it, the last of [run]", "1800", None
     )
+    cutoff: float | None = told(number(0, 10000, "minutes"), "the same in minutes, in place of within", "30", None)
     page: bool = told(FLAG, "page.html, to look at and to send", "false", True)
 
 
@@ -188,6 +198,8 @@ class Study:
     scenarios: ScenarioWish = field(default_factory=ScenarioWish)
     results: ResultWish = field(default_factory=ResultWish)
     parts: PartWish = field(default_factory=PartWish)
+
+    text: str = field(default="", compare=False)  # of its file
 
     def at(self, path: str) -> str:
         """A path of the file, as it is opened."""

@@ -1,6 +1,7 @@
 """All of a study, from its file to its folder, in order: what is done isn't done again."""
 
 import contextlib
+import functools
 import os
 import re
 import shutil
@@ -8,13 +9,14 @@ from pathlib import Path
 from typing import Iterator
 
 from ..engine import program_at
-from ..faults import BadInput, needs
+from ..faults import BadInput, needs, say
 from ..feed import read_stops
-from ..files import is_running, remove
-from ..matrices import open_matrix
+from ..files import is_running, remove, sum_of
+from ..matrices import BASE, TODAY, open_matrix
+from ..naming import told_names
 from ..parts import origins_in
 from ..views.page.document import LEAFLET, leaflet_files
-from .cutting import PARTS, cut_of, parts_noted, study_key, trial
+from .cutting import PARTS, cut_of, parts_noted, remove_parts, study_key, trial
 from .elsewhere import Means, run_elsewhere
 from .inputs import Inputs, make_inputs
 from .joining import CSV, MATRIX, join_parts
@@ -22,36 +24,41 @@ from .maps import make_maps
 from .notes import write_notes
 from .page import make_page
 from .report import TOLD, report_stage
-from .results import Whole, make_tables
+from .results import Whole, make_tables, names_of_scenarios
 from .running import refuse_failed, run_parts
-from .stages import RECORDS, Folder, Record, Stage, held, log, room
-from .ttm import version_of
+from .sources import refuse_other_sums
+from .stages import RECORDS, Folder, Record, Stage, held, log, refuse_folder, room
+from .ttm import Version, version_of
 from .wishes import Study
 
 FORM = 1  # of how the parts are joined: the rows are ttm's, so other tools don't change them
 OF_ONE_ORIGIN = ("origins: ", "rows: ", "cells: ", "bytes of ")  # what the report of a trial says of itself
+RUNS_IN, NO_CHANGE = "runs in scenario ", "warning: this scenario changes nothing on the days of the study"
 ASIDE = re.compile(r"\.part\.([0-9]+)\..*")
 
 
 def make_study(study: Study, out: Path, means: Means) -> None:
     """Makes all of a study's folder that isn't there yet."""
+    refuse_folder(out)
     needs(*packages_of(study))
     with found_program(), held(out), contextlib.chdir(out):
-        folder, version = Folder(Path(".")), version_of(program_at(None))
         Path(RECORDS).mkdir(exist_ok=True)
+        program = os.environ["TTM_PROGRAM"]
+        folder, version = Folder(Path(".")), Version(version_of(program), sum_of(program))
         log("command", "began", 0.0)
         sweep(Path("."), inside_parts=False)
         inputs = make_inputs(study, folder)
         refuse_wishes(study, inputs)
-        key = study_key(inputs, version)
+        say(*told_names(names_of_scenarios(list(inputs.edits), inputs.base)))
+        key = study_key(inputs, version.lines)
         records = {"days": folder.do(told_stage(inputs, key))}
         records["matrix"] = folder.do(matrix_stage(study, inputs, key, version, means))
         if not study.parts.keep:
-            remove(Path(PARTS))
+            remove_parts()
         sum_of_matrix = records["matrix"].outputs[MATRIX]
         whole = Whole(study, inputs, sum_of_matrix, open_matrix(MATRIX).scenarios)
-        records |= make_results(whole, folder, records, version)
-        write_notes(study, inputs, records, version, parts_noted())
+        records |= make_results(whole, folder, records, version.lines)
+        write_notes(whole, records, version, parts_noted())
         sweep(Path("."), inside_parts=True)
 
 
@@ -110,14 +117,35 @@ def told_stage(inputs: Inputs, key: str) -> Stage:
     def make() -> list[str]:
         with room() as made:
             _, report = trial(inputs, origins_in(str(inputs.run.files["origins"]))[:1], made)
-        lines = [line for line in report.facts if not line.startswith(OF_ONE_ORIGIN)]
+        lines = beside_today(inputs, [line for line in report.facts if not line.startswith(OF_ONE_ORIGIN)])
         Path(TOLD).write_text("".join(line + "\n" for line in lines), encoding="utf-8")
         return [line for line in lines if line.startswith(("runs in scenario", "warning"))]
 
     return Stage("days", {"study": key}, [TOLD], make)
 
 
-def matrix_stage(study: Study, inputs: Inputs, key: str, version: list[str], means: Means) -> Stage:
+def beside_today(inputs: Inputs, lines: list[str]) -> list[str]:
+    """What `ttm` tells of a plan's study: it compares scenarios with `base`, which has the trips of all; here they are
+    compared with today.
+    """
+    if inputs.base != TODAY:
+        return lines
+    made, name, whole = list[str](), "", next((it for it, own in inputs.shown_as.items() if own == BASE), None)
+    for line in lines:
+        name = line.removeprefix(RUNS_IN).partition(":")[0] if line.startswith(RUNS_IN) else name
+        if line != NO_CHANGE:
+            made.append(line)
+        elif name == TODAY and whole not in (None, TODAY):
+            made.append(f"warning: scenario {whole} changes nothing beside {TODAY} on the days of the study")
+    if whole is None:
+        count = len(inputs.run.scenarios) + 1
+        made.append(f"{BASE} has the trips of all scenarios; its rows, one in {count} of the run, aren't shown")
+    else:
+        made.append(f"the rows of {whole} are those of {BASE}, as its file takes nothing out")
+    return made
+
+
+def matrix_stage(study: Study, inputs: Inputs, key: str, version: Version, means: Means) -> Stage:
     """The matrix, by parts of the origins."""
     with_csv = study.results.csv
 
@@ -125,15 +153,17 @@ def matrix_stage(study: Study, inputs: Inputs, key: str, version: list[str], mea
         with room() as made:
             parts, shape = cut_of(study.parts, inputs, key, means.at_once, made)
         if means.is_elsewhere:
-            failed = run_elsewhere(inputs.run, parts, key, version, means)
+            failed = run_elsewhere(inputs.run, parts, key, version.lines, means)
         else:
             failed = run_parts(inputs.run, parts, shape.at_once, shape.threads)
         refuse_failed(failed, len(parts))
-        return join_parts(parts, with_csv, inputs.left_out, inputs.destinations, means.threads)
+        return join_parts(parts, with_csv, inputs.shown_as, inputs.destinations, means.threads)
 
     depends = {"study": key, "origins": inputs.records["origins"].outputs, "csv": with_csv}
-    depends |= {"shown": inputs.destinations, "left_out": inputs.left_out, "form": FORM}
-    return Stage("matrix", depends, [MATRIX, *([CSV] if with_csv else [])], make, of_tools=False, keeps_task=True)
+    depends |= {"shown": inputs.destinations, "shown_as": inputs.shown_as, "form": FORM}
+    outputs, known = [MATRIX, *([CSV] if with_csv else [])], {**inputs.sums, os.environ["TTM_PROGRAM"]: version.sum}
+    same = functools.partial(refuse_other_sums, known)
+    return Stage("matrix", depends, outputs, make, of_tools=False, keeps_task=True, refuse_changed=same)
 
 
 def sweep(folder: Path, inside_parts: bool) -> None:

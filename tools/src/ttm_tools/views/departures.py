@@ -5,6 +5,7 @@ from typing import Any, Sequence
 import numpy as np
 
 from ..records import shown
+from .texts import text_alone
 from .journeys import Asked, Found
 
 COLOURS = ("#332288", "#cc6677", "#117733", "#88ccee", "#aa4499", "#ddcc77")
@@ -13,6 +14,7 @@ INCHES = (10, 5)
 MOST_TICKS = 9
 
 
+@text_alone
 def figure_of(asked: Asked, found: Sequence[Found]) -> Any:
     """The picture of some scenarios: a mark for each departure, a dashed line at the cell, a ring at the departure
     whose journey is told, and crosses above for departures after which nobody gets there.

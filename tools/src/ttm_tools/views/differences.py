@@ -6,7 +6,7 @@ import numpy as np
 
 from ..feed import Stops
 from ..matrices import Pair
-from ..measures.comparison import KINDS, Changes, Comparison, order_of, order_of_origins
+from ..measures.comparison import KINDS, Changes, Comparison, order_of, order_of_origins, sides_of
 from ..records import Numerals, Texts, field, fields_as_texts, joined, shown, texts_of, write_rows
 
 LINES_AT_ONCE = 200_000
@@ -62,6 +62,7 @@ def summary(pair: Pair, comparison: Comparison, limit: float, place: int | None)
     if place is not None:
         first, second = pair.access(place)
         change = second - first
-        lose, gain = int((change < 0).sum()), int((change > 0).sum())
-        told.append(f"access: of {len(change):,} origins {lose:,} lose, {gain:,} gain; in all {int(change.sum()):+,}")
+        told.append(
+            f"access: of {len(change):,} origins {sides_of(first, second).told()}; in all {int(change.sum()):+,}"
+        )
     return told

@@ -18,6 +18,7 @@ from matplotlib.patheffects import withStroke
 
 from ..feed import GRID, Projection, Stops
 from .pictures import NO_ORIGIN, Mark, Picture, round_step
+from .texts import text_alone
 
 MOST_NAMES = 3
 MANY_LINES = 2000  # pieces, from which on lines are drawn thinner
@@ -67,6 +68,7 @@ def added(pieces: Pieces) -> Lines:
     return Lines(pieces, "trips that are added", "#117733", 2.4, (0, (4, 1.5)))
 
 
+@text_alone
 def draw(picture: Picture, stops: Stops, lines: Sequence[Lines], note: str, width: int = 1350) -> Figure:
     """The picture of these stops, which are those of the matrix, as a figure of so many pixels across."""
     projection = Projection(stops.latitudes, stops.longitudes)
@@ -82,7 +84,7 @@ def draw(picture: Picture, stops: Stops, lines: Sequence[Lines], note: str, widt
         lines = [replace(kind, colour=OVER_SQUARES) if kind.colour == FAINT else kind for kind in lines]
     for number, kind in enumerate(lines):
         draw_lines(axes, kind, 1 + number / 10)
-    draw_squares(axes, picture, points, squares)
+    draw_squares(axes, picture, points, stops.sides() / 1000)
     draw_stops(axes, picture, np.where(np.isnan(squares)[:, None], points, np.nan))
     draw_names(axes, picture, stops, points)
     draw_scale(axes)
@@ -172,15 +174,18 @@ def shaped(picture: Picture, squares: npt.NDArray[np.float64]) -> Picture:
     return replace(picture, marks=[replace(mark, shape="s", size=1.0) for mark in picture.marks])
 
 
-def draw_squares(axes: Any, picture: Picture, points: Points, squares: npt.NDArray[np.float64]) -> None:
-    """Squares in the colours of their classes, below the lines."""
-    here = drawn(picture, points) & ~np.isnan(squares)
-    for place, mark in enumerate(picture.marks):
+def draw_squares(axes: Any, picture: Picture, points: Points, sides: npt.NDArray[np.float64]) -> None:
+    """Cells in the colours of their classes, below the lines, each so many kilometres wide and high; where some lie
+    over others, what changes is on top.
+    """
+    here = drawn(picture, points) & ~np.isnan(sides[:, 0])
+    for above, place in enumerate(order_of_drawing(picture.marks)):
+        mark = picture.marks[place]
         chosen = np.flatnonzero(here & (picture.classes == place))
-        corners = points[chosen][:, None, :] + squares[chosen][:, None, None] * CORNERS
+        corners = points[chosen][:, None, :] + sides[chosen][:, None, :] * CORNERS
         if len(chosen):
             how: dict[str, Any] = {"facecolors": colour_of(mark), "edgecolors": "face", "linewidths": 0.2}
-            axes.add_collection(PolyCollection(corners, zorder=0.5, **how))
+            axes.add_collection(PolyCollection(corners, zorder=0.5 + above / 1000, **how))
 
 
 def draw_stops(axes: Any, picture: Picture, points: Points) -> None:

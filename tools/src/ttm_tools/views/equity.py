@@ -5,12 +5,14 @@ from typing import Any, BinaryIO, Iterator, Sequence
 
 import numpy as np
 
+from ..escaping import markdown
 from ..faults import BadInput, some
 from ..feed import Floats
 from ..measures.access_table import AccessTable, Kind
 from ..measures.equity import TENTHS, Equity, changes_by_tenth, equity, lorenz
 from ..measures.opportunities import Counts
-from ..records import field, shown, write_rows
+from ..records import shown, write_rows
+from .texts import text_alone
 
 CSV, MARKDOWN = "csv", "markdown"
 HEADS = ["opportunity", "percentile", "cutoff", "group", "scenario", "people", "mean", "median", "losers_percent"]
@@ -78,9 +80,11 @@ def write_equity(out: BinaryIO, lines: Iterator[tuple[Kind, str, str, Equity]], 
         return
     bars = ["---"] * 5 + ["---:"] * (len(header) - 5)
     for line in ([name.replace("_", " ") for name in header], bars, *made):
-        out.write(b"| " + b" | ".join(field(text).replace(b"|", b"\\|") for text in line) + b" |\n")
+        cells = [text if line is bars else markdown(shown(str(text))) for text in line]
+        out.write(f"| {' | '.join(cells)} |\n".encode("utf-8", "backslashreplace"))
 
 
+@text_alone
 def figure_of(table: AccessTable, people: Counts, asked: Asked) -> Any:
     """The picture of one kind and one group."""
     if len(asked.kinds) > 1:

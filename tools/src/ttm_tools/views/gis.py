@@ -2,17 +2,22 @@
 GeoPackage.
 """
 
+import contextlib
 import json
 import math
+import sqlite3
 from dataclasses import dataclass
+from pathlib import Path
 from typing import Any, BinaryIO, Sequence
+from urllib.parse import quote
 
 import numpy as np
 
-from ..faults import needs
+from ..faults import BadInput, needs
 from ..feed import Stops
 from ..files import written_aside
 from ..matrices import Matrix, Share
+from ..opening.paths import as_one_line
 from ..records import shown, with_gaps
 
 LAYER = "stops"
@@ -83,5 +88,20 @@ def write_geopackage(path: str, features: Features) -> None:
     columns |= {name: with_gaps(numbers) for name, numbers in features.columns.items()}
     points = geopandas.points_from_xy(stops.longitudes, stops.latitudes)
     frame = geopandas.GeoDataFrame(columns, geometry=points, crs="EPSG:4326")
-    with written_aside(path) as made:
-        frame.to_file(made, driver="GPKG", layer=LAYER)
+    write_layer(path, frame, LAYER)
+
+
+def write_layer(path: str, frame: Any, layer: str) -> None:
+    """Writes a frame of geopandas as a GeoPackage, which gets its name when it is whole."""
+    with written_aside(path) as made, as_one_line(path, "not written"):
+        frame.to_file(made, driver="GPKG", layer=layer)
+        refuse_part(made, path, layer, len(frame))
+
+
+def refuse_part(made: Path, path: str, layer: str, count: int) -> None:
+    """Tells a GeoPackage that isn't whole, as one on a full disk, which its library writes without a word."""
+    with contextlib.closing(sqlite3.connect(f"file:{quote(str(made))}?mode=ro", uri=True)) as base:
+        (state,) = base.execute("PRAGMA integrity_check").fetchone()
+        (there,) = base.execute(f"SELECT COUNT(*) FROM {layer}").fetchone()
+    if state != "ok" or there != count:
+        raise BadInput(path, f"not written: {there:,} of {count:,} records are in it; is the disk full?")

@@ -17,6 +17,9 @@ from ..matrices import Matrix, Seconds, Share, lacking
 from ..records import Numerals, Texts, field, fields_as_texts, joined, shown, texts_of, with_gaps
 
 CELLS_AT_ONCE = 1_000_000
+MEDIAN = 50  # percent
+MOST_LINES = 1_048_576  # that spreadsheets show
+FORMULA = ("=", "+", "-", "@")  # with which spreadsheets begin one
 
 
 @dataclass(frozen=True)
@@ -97,7 +100,7 @@ def degrees(number: float) -> bytes:
 def header_of(matrix: Matrix, choice: Choice, stops: Stops | None) -> list[str]:
     """The names of the columns of travel times."""
     if choice.r5py:
-        names = ["travel_time" if share is None else f"travel_time_p{share}" for share in choice.shares]
+        names = [r5py_name(share, choice.shares) for share in choice.shares]
         head = ["from_id", "to_id", *names]
     else:
         head = ["scenario", *(["share"] if matrix.layout.names_share else []), "origin", "destination", "seconds"]
@@ -105,14 +108,32 @@ def header_of(matrix: Matrix, choice: Choice, stops: Stops | None) -> list[str]:
     return head + (told if stops is not None else [])
 
 
+def r5py_name(share: Share, shares: Sequence[Share]) -> str:
+    """How r5py calls a column of travel times; the median, where it alone is asked for, has no number."""
+    return "travel_time" if share is None or list(shares) == [MEDIAN] else f"travel_time_p{share}"
+
+
 def minutes(seconds: int) -> bytes:
     """Seconds as minutes, to the nearest hundredth."""
     return b"%r" % round(seconds / 60, 2)
 
 
-def write_times(out: BinaryIO, matrix: Matrix, choice: Choice, stops: Stops | None) -> None:
-    """A line for each pair, each cell by reference to a text that is made once."""
+def type_of(column: str) -> str:
+    """The type of a column as QGIS reads it from a file beside a CSV."""
+    if column in ("share", "seconds", "within", "access"):
+        return "Integer"
+    return "Real" if column.endswith(("_lat", "_lon")) or column.startswith("travel_time") else "String"
+
+
+def safe(text: str) -> str:
+    """A text that no spreadsheet takes for a formula."""
+    return f"'{text}" if text.startswith(FORMULA) else text
+
+
+def write_times(out: BinaryIO, matrix: Matrix, choice: Choice, stops: Stops | None) -> int:
+    """A line for each pair, each cell by reference to a text that is made once; how many lines there are."""
     out.write(b",".join(map(field, header_of(matrix, choice, stops))) + b"\n")
+    count = 1
     ends = ends_of(choice.destinations, stops)
     after = texts_of([told + b"\n" for told in ends.told])
     numerals = Numerals(minutes if choice.r5py else b"%d".__mod__)
@@ -121,12 +142,17 @@ def write_times(out: BinaryIO, matrix: Matrix, choice: Choice, stops: Stops | No
         for row, (origin, told) in enumerate(zip(origins.fields, origins.told)):
             times = [seconds[row] for seconds in piece.seconds]
             if choice.r5py:
-                out.write(lines_of(origin + b",", times, [ends.fields, told, after], numerals, choice.reached))
+                text = lines_of(origin + b",", times, [ends.fields, told, after], numerals, choice.reached)
+                count += text.count(b"\n")
+                out.write(text)
                 continue
             for share, seconds in zip(choice.shares, times):
                 named = b"" if share is None else b"%d," % share
                 head = field(piece.scenario) + b"," + named + origin + b","
-                out.write(lines_of(head, [seconds], [ends.fields, told, after], numerals, choice.reached))
+                text = lines_of(head, [seconds], [ends.fields, told, after], numerals, choice.reached)
+                count += text.count(b"\n")
+                out.write(text)
+    return count
 
 
 def lines_of(head: bytes, times: Sequence[Seconds], around: Sequence[Any], numerals: Numerals, reached: bool) -> bytes:
@@ -141,12 +167,18 @@ def lines_of(head: bytes, times: Sequence[Seconds], around: Sequence[Any], numer
     return joined([head, destinations, *numbers, told, after], len(destinations))
 
 
+def access_header(matrix: Matrix, stops: Stops | None) -> list[str]:
+    """The names of the columns of access."""
+    named = matrix.layout.names_share
+    header = ["scenario", *(["share"] if named else []), "origin", *(["within"] if named else []), "access"]
+    return header + ([f"origin_{what}" for what in ("name", "lat", "lon")] if stops is not None else [])
+
+
 def write_access(out: BinaryIO, matrix: Matrix, choice: Choice, within: int | None, stops: Stops | None) -> None:
     """A line for each origin, share and limit."""
     places = range(len(matrix.layout.limits)) if within is None else [matrix.limit(within)[0]]
     named = matrix.layout.names_share
-    header = ["scenario", *(["share"] if named else []), "origin", *(["within"] if named else []), "access"]
-    header += [f"origin_{what}" for what in ("name", "lat", "lon")] if stops is not None else []
+    header = access_header(matrix, stops)
     chosen = None if choice.origins is None else set(choice.origins)
     out.write(b",".join(map(field, header)) + b"\n")
     for scenario in choice.scenarios:

@@ -1,10 +1,9 @@
 """From a matrix and a feed to the figure of a map."""
 
-import sys
 from dataclasses import dataclass, field, replace
 from typing import Any
 
-from ..faults import BadInput
+from ..faults import BadInput, say
 from ..feed import Projection, Stops, has_file, lines_of
 from ..matrices import Matrix
 from . import drawing
@@ -52,7 +51,7 @@ def figure_of(picture: Picture, matrix: Matrix, stops: Stops, folder: str, sheet
     if lost == len(shown_stops.identifiers):
         raise BadInput(stops.path, "no stop has stop_lat and stop_lon, so there is nothing to draw")
     if lost:
-        print(f"{lost} {picture.what} have no stop_lat and stop_lon and are not drawn", file=sys.stderr)
+        say(f"{lost} {picture.what} have no stop_lat and stop_lon and are not drawn")
     projection = Projection(shown_stops.latitudes, shown_stops.longitudes)
     points, shaped = lines_of(folder, stops, projection), has_file(folder, "shapes.txt")
     if sheet.planned is None:

@@ -14,7 +14,7 @@ import numpy.typing as npt
 
 from ..feed import Stops
 from ..matrices import Matrix, Pair, Share, pair_of
-from ..measures.comparison import compare
+from ..measures.comparison import sides_of
 from ..records import shown
 
 MINUTES = (10.0, 20.0, 30.0, 45.0, 60.0, 90.0)
@@ -220,22 +220,14 @@ def picture_of_access_difference(matrix: Matrix, stops: Stops, wish: Wish) -> Pi
     place, limit = matrix.limit(wish.within)
     pair = pair_of(matrix, wish.base, wish.scenario, wish.share)
     breaks = wish.breaks or PERCENT
-    words = Words(
-        "%",
-        "lost",
-        "gained",
-        f"cut off from half of\nthe {wish.what} or more",
-        f"joined to half of\nits {wish.what} or more",
-    )
+    words = Words("%", "lost", "gained", "cut off: all of it lost", "newly reached: none before")
     marks = [*marks_of_difference(breaks, words), NO_ORIGIN]
     first, second = pair.access(place)
-    percent = 100 * (second - first) / np.where(first == 0, np.inf, first)
-    made = compare(pair, 0, with_pairs=False)
+    percent = 100 * (second - first) / np.where(first == 0, 1, first)
+    sides = sides_of(first, second)
     classes = classes_of_difference(percent, breaks)
-    classes[half_of(made.counts[:, 2], made.reached_after)] = len(marks) - 2
-    classes[half_of(made.counts[:, 0], made.reached_before)] = 0
-    counts = told_counts(classes, breaks, ("are cut off", "lose", "gain", "are newly joined"))
-    told = f"Of {len(classes):,} {wish.what} {counts} (by {breaks[0]:g} % or more)"
+    classes[sides.newly_reached], classes[sides.cut_off] = len(marks) - 2, 0
+    told = f"Of {len(classes):,} {wish.what} {sides.told()}"
     order = np.argsort(percent, kind="stable")[:MOST_WORST]
     worst = [pair.origins[row] for row in order[percent[order] <= -breaks[0]].tolist()]
     if worst:
@@ -246,12 +238,6 @@ def picture_of_access_difference(matrix: Matrix, stops: Stops, wish: Wish) -> Pi
     drawn = matrix.stops_and_origins()
     classes = of_origins(drawn, pair.origins, classes, len(marks) - 1)
     return Picture(title, told, key, marks, classes, source, None, first_names(drawn, worst, stops), drawn)
-
-
-def half_of(gone: npt.NDArray[np.int64], reached: npt.NDArray[np.int64]) -> npt.NDArray[np.bool_]:
-    """Whether half of the stops that were reached, or more, aren't reached any more."""
-    made: npt.NDArray[np.bool_] = (2 * gone >= reached) & (reached > 0)
-    return made
 
 
 def first_names(drawn: Sequence[str], ordered: Sequence[str], stops: Stops) -> tuple[int, ...]:

@@ -8,15 +8,19 @@ NEAR = 100.0  # metres to a street
 __all__ = ["NEAR", "Pace", "Walks", "distances", "points_of", "read_walks", "straight_walks", "told", "walks_of"]
 
 
-def walks_of(stops: Stops, pace: Pace, streets: str | None = None, near: float = NEAR) -> Walks:
-    """The walks between all stops by straight lines, or along the streets of a file."""
+def walks_of(
+    stops: Stops, pace: Pace, streets: str | None = None, near: float = NEAR, first: int | None = None
+) -> Walks:
+    """The walks between all stops by straight lines, or along the streets of a file; between the first so many and all
+    alone, where it is said how many.
+    """
     if streets is None:
-        return straight_walks(stops, pace)
+        return straight_walks(stops, pace, first)
     needs("osmium", "scipy")
     from .osm import read_streets
     from .streets import street_walks
 
-    return street_walks(stops, pace, read_streets(streets), near)
+    return street_walks(stops, pace, read_streets(streets), near, first)
 
 
 def told(walks: Walks, what: str, near: float) -> str:

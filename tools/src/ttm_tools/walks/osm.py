@@ -7,7 +7,6 @@ no or private and `foot` doesn't allow it. Steps are ways like others. One walks
 is walked. Barriers don't count, nor do ferries.
 """
 
-import os
 from dataclasses import dataclass
 from typing import Any, Mapping
 
@@ -16,6 +15,7 @@ import numpy.typing as npt
 
 from ..faults import BadInput, needs
 from ..feed import Floats
+from ..opening.paths import as_one_line, regular
 
 Flags = npt.NDArray[np.bool_]
 Numbers = npt.NDArray[np.int64]
@@ -136,13 +136,10 @@ def read_streets(path: str) -> Streets:
     needs("osmium")
     import osmium
 
-    if not os.path.isfile(path):
-        raise BadInput(path, "No such file or directory")
+    regular(path)
     collector = Collector()
-    try:
+    with as_one_line(path, "not read as OpenStreetMap"):
         osmium.make_simple_handler(way=collector.take).apply_file(path, locations=True)
-    except (RuntimeError, ValueError, KeyError, osmium.InvalidLocationError) as fault:
-        raise BadInput(path, f"not read as OpenStreetMap: {fault}") from None
     found = collector.streets(path)
     if not len(found.begin):
         raise BadInput(path, "no way that may be walked")

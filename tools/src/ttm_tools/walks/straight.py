@@ -16,10 +16,10 @@ import numpy.typing as npt
 from ..faults import BadInput
 from ..feed import EARTH, Floats, Stops
 from ..records import Rounded, rows, shown
+from .counting import Found, Places, Ways
 
-Places = npt.NDArray[np.int64]
 HALF = [step for step in itertools.product((-1, 0, 1), repeat=3) if step >= (0, 0, 0)]
-PAIRS_AT_ONCE = 4_000_000
+PAIRS_AT_ONCE = 1_000_000
 
 
 @dataclass(frozen=True)
@@ -112,39 +112,37 @@ def ranges(begin: Places, end: Places) -> Iterator[tuple[Places, Places]]:
 
 def doors_of(points: Floats, stations: list[str], entrances: dict[str, Floats]) -> Doors:
     """Where each stop is reached from outside: at the entrances of its station, or where it stands."""
-    stop, where, inside = [np.zeros(0, np.int64)], [np.zeros((0, 3))], [np.zeros(0)]
-    for number, station in enumerate(stations):
-        here = points[number : number + 1]
-        there = entrances.get(station, here)
+    entered = np.array([station in entrances for station in stations], dtype=np.bool_)
+    alone = np.flatnonzero(~entered)
+    stop, where, inside = [alone], [points[alone]], [np.zeros(len(alone))]
+    for number in np.flatnonzero(entered).tolist():
+        there = entrances[stations[number]]
         stop.append(np.full(len(there), number))
         where.append(there)
-        inside.append(distances(here, there))
-    return Doors(np.concatenate(stop), np.concatenate(where), np.concatenate(inside))
+        inside.append(distances(points[number : number + 1], there))
+    order = np.argsort(np.concatenate(stop), kind="stable")
+    return Doors(np.concatenate(stop)[order], np.concatenate(where)[order], np.concatenate(inside)[order])
 
 
-def ways(
-    points: Floats, stations: list[str], entrances: dict[str, Floats], metres: float
-) -> tuple[Places, Places, Floats]:
+def ways(points: Floats, stations: list[str], entrances: dict[str, Floats], metres: float, found: Found) -> Ways:
     """The shortest way between two stops, the lower first, in metres before any detour, where it is at most so long."""
     doors = doors_of(points, stations, entrances)
     numbers = {station: number for number, station in enumerate(dict.fromkeys(stations))}
     station = np.array([numbers[name] for name in stations], dtype=np.int64)
     entered = np.array([name in entrances for name in stations], dtype=np.bool_)
-    found = []
     for one, other in near_pairs(doors.point, metres):
         a, b = doors.stop[one], doors.stop[other]
         outside = (a != b) & ~(entered[a] & (station[a] == station[b]))
         a, b, one, other = a[outside], b[outside], one[outside], other[outside]
         length = doors.inside[one] + distances(doors.point[one], doors.point[other]) + doors.inside[other]
         near = length <= metres
-        found.append((a[near], b[near], length[near]))
-    found += inside_ways(points, stations, entrances, metres)
-    return shortest(found)
+        found.take(a[near], b[near], length[near])
+    for some in inside_ways(points, stations, entrances, metres):
+        found.take(*some)
+    return found.all()
 
 
-def inside_ways(
-    points: Floats, stations: list[str], entrances: dict[str, Floats], metres: float
-) -> list[tuple[Places, Places, Floats]]:
+def inside_ways(points: Floats, stations: list[str], entrances: dict[str, Floats], metres: float) -> list[Ways]:
     """The ways between two stops within a station that lists its entrances."""
     numbers = {station: number for number, station in enumerate(dict.fromkeys(stations))}
     station = np.array([numbers[name] for name in stations], dtype=np.int64)
@@ -160,9 +158,10 @@ def inside_ways(
     return found
 
 
-def shortest(found: list[tuple[Places, Places, Floats]]) -> tuple[Places, Places, Floats]:
+def shortest(found: list[Ways]) -> Ways:
     """Of several ways between two stops the shortest, the lower stop first."""
-    a, b, length = (np.concatenate([columns[place] for columns in found]) for place in range(3))
+    none = (np.zeros(0, np.int64), np.zeros(0, np.int64), np.zeros(0))
+    a, b, length = (np.concatenate([columns[place] for columns in [none, *found]]) for place in range(3))
     low, high = np.minimum(a, b), np.maximum(a, b)
     order = np.lexsort((length, high, low))
     low, high, length = low[order], high[order], length[order]
@@ -180,12 +179,14 @@ def entrances_of(stops: Stops) -> dict[str, Floats]:
     return {station: points_of(stops.latitudes[places], stops.longitudes[places]) for station, places in found.items()}
 
 
-def straight_walks(stops: Stops, pace: Pace) -> Walks:
-    """The footpaths between all stops of a feed at which vehicles call."""
+def straight_walks(stops: Stops, pace: Pace, first: int | None = None) -> Walks:
+    """The footpaths between all stops of a feed at which vehicles call, or between the first so many and all."""
     called = stops.kinds == 0
     chosen = np.flatnonzero(called & stops.placed)
     points = points_of(stops.latitudes[chosen], stops.longitudes[chosen])
-    low, high, length = ways(points, [stops.stations[place] for place in chosen], entrances_of(stops), pace.metres)
+    found = Found(stops.path, first and int(np.searchsorted(chosen, first)), shortest, directions=2)
+    stations = [stops.stations[place] for place in chosen]
+    low, high, length = ways(points, stations, entrances_of(stops), pace.metres, found)
     seconds = pace.seconds(length)
     near = seconds <= pace.limit
     a, b, seconds = (

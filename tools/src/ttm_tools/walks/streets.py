@@ -13,11 +13,13 @@ import numpy as np
 
 from .. import progress
 from ..feed import Floats, Stops
+from .counting import Found, Places, Ways
 from .osm import Streets
-from .straight import Doors, Pace, Places, Walks, distances, doors_of, entrances_of, inside_ways, points_of, ranges
+from .straight import Doors, Pace, Walks, distances, doors_of, entrances_of, inside_ways, points_of, ranges
 
 PIECE = 100.0  # metres of the pieces in which streets are looked for
 LEAST_SIDE = 300.0  # metres of a cube
+CELLS_AT_ONCE = 20_000_000  # of a search
 SIDE = 1 << 20  # cubes along an axis, more than the globe is wide
 
 
@@ -190,16 +192,19 @@ def searched(graph: Graph, first: int, extra: Floats, most: float) -> Iterator[t
         ends = nodes[nodes >= first]
         ends = ends[extra[ends - first] <= most]
         connections = inner(graph, nodes, local)
-        local[nodes] = np.arange(len(nodes))
-        found = dijkstra(connections, indices=local[begins], limit=most)[:, local[ends]]
-        local[nodes] = -1
-        metres = found + extra[begins - first][:, None] + extra[ends - first]
-        one, other = np.nonzero(metres <= most)
-        yield begins[one] - first, ends[other] - first, metres[one, other]
+        for some in np.array_split(begins, -(-len(begins) * len(nodes) // CELLS_AT_ONCE)):
+            local[nodes] = np.arange(len(nodes))
+            found = dijkstra(connections, indices=local[some], limit=most)[:, local[ends]]
+            local[nodes] = -1
+            metres = found + extra[some - first][:, None] + extra[ends - first]
+            one, other = np.nonzero(metres <= most)
+            yield some[one] - first, ends[other] - first, metres[one, other]
 
 
-def street_walks(stops: Stops, pace: Pace, streets: Streets, near: float) -> Walks:
-    """The footpaths along streets between all stops of a feed at which vehicles call."""
+def street_walks(stops: Stops, pace: Pace, streets: Streets, near: float, first: int | None = None) -> Walks:
+    """The footpaths along streets between all stops of a feed at which vehicles call, or between the first so many
+    and all.
+    """
     called = stops.kinds == 0
     chosen = np.flatnonzero(called & stops.placed)
     points = points_of(stops.latitudes[chosen], stops.longitudes[chosen])
@@ -207,11 +212,13 @@ def street_walks(stops: Stops, pace: Pace, streets: Streets, near: float) -> Wal
     doors, most = doors_of(points, stations, entrances), pace.limit * pace.speed + 1e-6
     put = snapped(streets, doors.point)
     beside = np.where(put.metres <= near, put.metres, put.metres * pace.detour)
-    found = list(between_doors(graph_of(streets, put), doors, beside + doors.inside * pace.detour, most))
-    straight = inside_ways(points, stations, entrances, most / pace.detour)
-    found += [(a, b, metres * pace.detour) for a, b, metres in straight]
-    found += [(b, a, metres * pace.detour) for a, b, metres in straight]
-    origins, destinations, metres = least(found)
+    found = Found(stops.path, first and int(np.searchsorted(chosen, first)), least, directions=1)
+    for some in between_doors(graph_of(streets, put), doors, beside + doors.inside * pace.detour, most):
+        found.take(*some)
+    for a, b, metres in inside_ways(points, stations, entrances, most / pace.detour):
+        found.take(a, b, metres * pace.detour)
+        found.take(b, a, metres * pace.detour)
+    origins, destinations, metres = found.all()
     seconds = Pace(pace.limit, pace.speed, 1.0).seconds(metres)
     kept = seconds <= pace.limit
     lost, far = int((called & ~stops.placed).sum()), doors.stop[(put.metres > near) & (beside <= most)]
@@ -229,7 +236,7 @@ def between_doors(graph: Graph, doors: Doors, extra: Floats, most: float) -> Ite
         yield a[apart], b[apart], metres[apart]
 
 
-def least(found: list[tuple[Places, Places, Floats]]) -> tuple[Places, Places, Floats]:
+def least(found: list[Ways]) -> Ways:
     """Of several ways from one stop to another the shortest."""
     none = (np.zeros(0, np.int64), np.zeros(0, np.int64), np.zeros(0))
     a, b, metres = (np.concatenate([columns[place] for columns in [none, *found]]) for place in range(3))

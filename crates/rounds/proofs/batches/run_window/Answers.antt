@@ -9,21 +9,20 @@ use Rattle.trip_lanes.specs.Lane.{lane, labels_in}
 use Rattle.rounds.specs.State.{arrival}
 use Rattle.rounds.specs.Window.{departure}
 use Rattle.rounds.specs.Table.{batches_of, label_of}
-use Rattle.rounds.proofs.Batching.{batches_reach, sixteens_reach, batch_at, turn_same, turn_begins, turn_after}
-use Rattle.rounds.proofs.Batching.{turn_lives}
+use Rattle.useful_minutes.proofs.Planning.{few_searched}
+use Rattle.rounds.proofs.Batching.{batches_reach, batch_at, turn_same, turn_after}
+use Rattle.rounds.proofs.Searched.{begins, axis, before_minutes, spans, full, before_next, next_spans}
 use Rattle.rounds.proofs.Batch.{lane_since, lane_minute, lane_dead, kept_never, kept_rebased}
 use Rattle.rounds.proofs.batches.run_window.Goals as goal
 
 pub loop-i-init : goal.loop-i-init
 loop-i-init g c =
     let n = c.args.query.network.now in
-    let w = c.args.query.window in
+    let count = length c.args.query.searched.now in
     let lanes : ℕ = c.LANES-lanes.result in
     let same : lanes ≡ g.R.Row.LANES = c.LANES-lanes.ensures in
     let some : 0 < lanes = omega (arith, same, g.met.R.Row.some) in
-    let whole : 16 * (lanes / 16) ≡ lanes = rw same g.met.R.Row.sixteens in
-    let reach = batches_reach lanes w.minutes some in
-    let far = sixteens_reach lanes w.minutes some whole in
+    let reach = batches_reach lanes count some in
     record {
       tables = c.requires.tables;
       labels = c.requires.labels;
@@ -35,100 +34,119 @@ loop-i-init g c =
       bounds = λ base at. rw c.as_mut_slice-kept.ensures.value
           (kept_never n c.known.ensures base g.R.Row.NEVER c.args.query.origin.0 NEVER c.args.query.rides _
           (rw c.stops.ensures at c.in_ok-bounds.ensures.never) at.fits refl);
-      each = λ batch p m e there l le.
-          let at : g.R.Row.LANES * batch ≡ lanes * ((w.minutes + (lanes - 1)) / lanes) =
+      each = λ batch p j e there l le.
+          let at : g.R.Row.LANES * batch ≡ lanes * ((count + (lanes - 1)) / lanes) =
           ap (λ (x : ℕ). g.R.Row.LANES * x) (omega (arith, e))
-          ∙ ap (λ (x : ℕ). x * ((w.minutes + (lanes - 1)) / lanes)) (sym same) in
+          ∙ ap (λ (x : ℕ). x * ((count + (lanes - 1)) / lanes)) (sym same) in
           absurd (omega (arith, at, reach, le, l));
-      dead = λ batch p m e there past l le.
-          let at : g.R.Row.LANES * batch ≡ lanes * ((w.minutes + (lanes - 1)) / lanes) =
-          ap (λ (x : ℕ). g.R.Row.LANES * x) (omega (arith, e))
-          ∙ ap (λ (x : ℕ). x * ((w.minutes + (lanes - 1)) / lanes)) (sym same) in
-          absurd (omega (arith, at, far, le, l));
+      dead = c.requires.dead;
     }
 
 pub overflow_add-first : goal.overflow_add-first
 overflow_add-first g c =
+    let n = c.args.query.network.now in
     let w = c.args.query.window in
-    let some : 0 < g.R.Row.LANES = omega (arith, g.met.R.Row.some) in
-    let same = turn_same g.R.Row.LANES c.LANES-lanes.result w.minutes c.loop-i.i c.LANES-lanes.ensures some
-    c.loop-i-test.true in
-    let begins = turn_begins g.R.Row.LANES c.LANES-lanes.result w.minutes c.loop-i.i c.LANES-lanes.ensures some
-    c.loop-i-test.true in
-    let axis = c.requires.asked.fits.on_axis _ begins in
-    omega (arith, axis, same)
+    let searched = c.args.query.searched.now in
+    let are = c.requires.asked.searched in
+    let fits = c.requires.asked.fits in
+    let lanes = g.R.Row.LANES in
+    let own = c.LANES-lanes.result in
+    let own_same = c.LANES-lanes.ensures in
+    let some : 0 < lanes = omega (arith, g.met.R.Row.some) in
+    let i = c.loop-i.i in
+    let batch : ℕ = batch_at own (length searched) i in
+    let a = axis w fits searched are lanes own i own_same some c.loop-i-test.true in
+    omega (arith, a)
 
-pub base_of-base-requires : goal.base_of-base-requires
-base_of-base-requires g c =
+pub base_of-base-requires-clause-first : goal.base_of-base-requires-clause-first
+base_of-base-requires-clause-first g c =
+    let n = c.args.query.network.now in
     let w = c.args.query.window in
-    let some : 0 < g.R.Row.LANES = omega (arith, g.met.R.Row.some) in
-    let same = turn_same g.R.Row.LANES c.LANES-lanes.result w.minutes c.loop-i.i c.LANES-lanes.ensures some
-    c.loop-i-test.true in
-    let begins = turn_begins g.R.Row.LANES c.LANES-lanes.result w.minutes c.loop-i.i c.LANES-lanes.ensures some
-    c.loop-i-test.true in
-    let axis = c.requires.asked.fits.on_axis _ begins in
-    omega (arith, axis, same)
+    let searched = c.args.query.searched.now in
+    let are = c.requires.asked.searched in
+    let fits = c.requires.asked.fits in
+    let lanes = g.R.Row.LANES in
+    let own = c.LANES-lanes.result in
+    let own_same = c.LANES-lanes.ensures in
+    let some : 0 < lanes = omega (arith, g.met.R.Row.some) in
+    let i = c.loop-i.i in
+    let batch : ℕ = batch_at own (length searched) i in
+    axis w fits searched are lanes own i own_same some c.loop-i-test.true
 
 pub run_bounded-requires-clause-batch : goal.run_bounded-requires-clause-batch
 run_bounded-requires-clause-batch g c =
+    let n = c.args.query.network.now in
     let w = c.args.query.window in
+    let searched = c.args.query.searched.now in
+    let are = c.requires.asked.searched in
+    let fits = c.requires.asked.fits in
     let lanes = g.R.Row.LANES in
+    let own = c.LANES-lanes.result in
+    let own_same = c.LANES-lanes.ensures in
     let some : 0 < lanes = omega (arith, g.met.R.Row.some) in
-    let batch = batch_at c.LANES-lanes.result w.minutes c.loop-i.i in
-    let same = turn_same lanes c.LANES-lanes.result w.minutes c.loop-i.i c.LANES-lanes.ensures some c.loop-i-test.true
-    in
+    let i = c.loop-i.i in
+    let batch : ℕ = batch_at own (length searched) i in
+    let turn = c.loop-i-test.true in
     let base = c.base_of-base.ensures in
     record {
       base = base.fits;
       departs = λ l h.
-          let d = c.minutely-departs.ensures l h in
-          elim (cases_lt l (w.minutes - c.LANES-lanes.result * batch)) [
-            | inl lt ↦ let t = d.live lt in omega (arith, t, base.near, h)
+          let d = c.departs_of-departs.ensures l h in
+          elim (cases_lt (own * batch + l) (length searched)) [
+            | inl lt ↦
+                let t = d.live lt in
+                let s = spans w fits searched are lanes own i own_same some turn l lt in
+                omega (arith, t, s.1, base.near, h)
             | inr ge ↦ let t = d.dead ge in omega (arith, t)
           ];
       none_later = λ l h.
-          let d = c.minutely-departs.ensures l h in
-          elim (cases_eq c.loop-i.i 0) [
+          let d = c.departs_of-departs.ensures l h in
+          elim (cases_eq i 0) [
             | inl first ↦
                 let e = c.loop-i.invariant.last first in
-                elim (cases_lt l (w.minutes - c.LANES-lanes.result * batch)) [
-                  | inl lt ↦ let t = d.live lt in omega (arith, t, e, base.near, base.fits, h)
+                elim (cases_lt (own * batch + l) (length searched)) [
+                  | inl lt ↦
+                      let t = d.live lt in
+                      let s = spans w fits searched are lanes own i own_same some turn l lt in
+                      omega (arith, t, e, s.1, base.near, base.fits, h)
                   | inr ge ↦ let t = d.dead ge in omega (arith, t, e, base.fits)
                 ]
             | inr more ↦
-                let e = c.loop-i.invariant.next (batch + 1) (omega (arith, c.loop-i-test.true, more)) (omega (
-                  arith,
-                  more,
-                )) in
-                let after = turn_after lanes c.LANES-lanes.result w.minutes c.loop-i.i c.LANES-lanes.ensures some
-                c.loop-i-test.true in
-                let lives = turn_lives lanes c.LANES-lanes.result w.minutes c.loop-i.i c.LANES-lanes.ensures some
-                c.loop-i-test.true (omega (arith, more)) in
-                let t = d.live (omega (arith, lives, same, h)) in
-                omega (arith, e, after, same, t, base.near, base.within, h)
+                let pos : 0 < i = omega (arith, more) in
+                let e = c.loop-i.invariant.next (batch + 1) (omega (arith, turn, more)) pos in
+                let lt = full w fits searched are lanes own i own_same some turn pos l h in
+                let t = d.live lt in
+                let s = spans w fits searched are lanes own i own_same some turn l lt in
+                let next = before_next w fits searched are lanes own i own_same some turn pos l h in
+                omega (arith, e, t, s.1, next, base.near, base.within, h)
           ];
     }
 
 pub run_bounded-requires-clause-bounds : goal.run_bounded-requires-clause-bounds
 run_bounded-requires-clause-bounds g c =
+    let n = c.args.query.network.now in
     let w = c.args.query.window in
+    let searched = c.args.query.searched.now in
+    let are = c.requires.asked.searched in
+    let fits = c.requires.asked.fits in
     let lanes = g.R.Row.LANES in
+    let own = c.LANES-lanes.result in
+    let own_same = c.LANES-lanes.ensures in
     let some : 0 < lanes = omega (arith, g.met.R.Row.some) in
-    let batch = batch_at c.LANES-lanes.result w.minutes c.loop-i.i in
-    let same = turn_same lanes c.LANES-lanes.result w.minutes c.loop-i.i c.LANES-lanes.ensures some c.loop-i-test.true
-    in
-    let begins = turn_begins lanes c.LANES-lanes.result w.minutes c.loop-i.i c.LANES-lanes.ensures some
-    c.loop-i-test.true in
-    let axis = c.requires.asked.fits.on_axis _ begins in
+    let i = c.loop-i.i in
+    let batch : ℕ = batch_at own (length searched) i in
+    let turn = c.loop-i-test.true in
     let base = c.base_of-base.ensures in
-    let later : (c.loop-i.later ≡ NEVER) ⊎ (c.loop-i.later ≡ w.first + 60 * (lanes * batch) + 60 * lanes) =
-    elim (cases_eq c.loop-i.i 0) [
-      | inl first ↦ inl (c.loop-i.invariant.last first)
+    let a = axis w fits searched are lanes own i own_same some turn in
+    let first : ℕ = departure w (slice_index searched (own * batch)) in
+    let later : (c.loop-i.later ≡ NEVER) ⊎ ((first ≤ c.loop-i.later) × (c.loop-i.later ≤ first + 480 * lanes)) =
+    elim (cases_eq i 0) [
+      | inl none ↦ inl (c.loop-i.invariant.last none)
       | inr more ↦
-          let e = c.loop-i.invariant.next (batch + 1) (omega (arith, c.loop-i-test.true, more)) (omega (arith, more)) in
-          let after = turn_after lanes c.LANES-lanes.result w.minutes c.loop-i.i c.LANES-lanes.ensures some
-          c.loop-i-test.true in
-          inr (omega (arith, e, after))
+          let pos : 0 < i = omega (arith, more) in
+          let e = c.loop-i.invariant.next (batch + 1) (omega (arith, turn, more)) pos in
+          let s = next_spans w fits searched are lanes own i own_same some turn pos in
+          inr (omega (arith, e, s.0), omega (arith, e, s.1))
     ] in
     c.loop-i.invariant.bounds c.base_of-base.result (record {
       fits = base.fits;
@@ -136,37 +154,60 @@ run_bounded-requires-clause-bounds g c =
         | inl none ↦ inl none
         | inr l ↦ elim (cases_lt (g.R.Row.NEVER + END_OF_AXIS) NEVER) [
           | inl short ↦ inr (
-            elim later [ inl e ↦ omega (arith, l, same, axis, e) | inr e ↦ omega (arith, l, same, e) ],
+            elim later [ inl e ↦ omega (arith, l, a, e) | inr e ↦ omega (arith, l, e.0) ],
             short,
           )
           | inr long ↦ inl (base.long long)
         ]
       ];
-      near = elim later [ inl e ↦ inl e | inr e ↦ inr (omega (arith, e, same, base.near, base.within)) ];
+      near = elim later [ inl e ↦ inl e | inr e ↦ inr (omega (arith, e.1, base.near, base.within)) ];
     })
+
+pub write_batch-requires-clause-batch : goal.write_batch-requires-clause-batch
+write_batch-requires-clause-batch g c =
+    let n = c.args.query.network.now in
+    let w = c.args.query.window in
+    let searched = c.args.query.searched.now in
+    let are = c.requires.asked.searched in
+    let fits = c.requires.asked.fits in
+    let lanes = g.R.Row.LANES in
+    let own = c.LANES-lanes.result in
+    let own_same = c.LANES-lanes.ensures in
+    let some : 0 < lanes = omega (arith, g.met.R.Row.some) in
+    let i = c.loop-i.i in
+    let batch : ℕ = batch_at own (length searched) i in
+    let l = before_minutes w fits searched are lanes own i own_same some c.loop-i-test.true in
+    let same = turn_same lanes own (length searched) i own_same some c.loop-i-test.true in
+    omega (arith, l, same)
 
 pub write_batch-requires-clause-since : goal.write_batch-requires-clause-since
 write_batch-requires-clause-since g c l p h within reached =
     let n = c.args.query.network.now in
     let w = c.args.query.window in
+    let searched = c.args.query.searched.now in
+    let are = c.requires.asked.searched in
+    let fits = c.requires.asked.fits in
     let lanes = g.R.Row.LANES in
+    let own = c.LANES-lanes.result in
+    let own_same = c.LANES-lanes.ensures in
     let some : 0 < lanes = omega (arith, g.met.R.Row.some) in
-    let batch = batch_at c.LANES-lanes.result w.minutes c.loop-i.i in
-    let same = turn_same lanes c.LANES-lanes.result w.minutes c.loop-i.i c.LANES-lanes.ensures some c.loop-i-test.true
-    in
+    let i = c.loop-i.i in
+    let batch : ℕ = batch_at own (length searched) i in
+    let turn = c.loop-i-test.true in
     let base = c.base_of-base.ensures in
     let ride = lane l (labels_in g.R.Row.labels c.run_bounded.new.tables.ride.items) in
     let ready = lane l (labels_in g.R.Row.labels c.run_bounded.new.tables.ready.items) in
-    let time : ℕ = slice_index (g.R.Row.labels c.minutely-departs.result) l in
+    let time : ℕ = slice_index (g.R.Row.labels c.departs_of-departs.result) l in
     let there : p < n.stops = omega (arith, within, c.run_bounded.ensures.tables.ready) in
-    let d = c.minutely-departs.ensures l h in
-    elim (cases_lt l (w.minutes - c.LANES-lanes.result * batch)) [
+    let d = c.departs_of-departs.ensures l h in
+    elim (cases_lt (own * batch + l) (length searched)) [
       | inl lt ↦
           let t = d.live lt in
+          let s = spans w fits searched are lanes own i own_same some turn l lt in
           lane_since n c.known.ensures c.base_of-base.result g.R.Row.NEVER c.args.query.origin.0 time
           (time + c.base_of-base.result) refl (elim base.before [
             | inl none ↦ inr none
-            | inr after ↦ inl (omega (arith, after, t))
+            | inr after ↦ inl (omega (arith, after, t, s.0))
           ]) c.args.query.rides ride ready
           (c.run_bounded.ensures.states l h) p there reached
       | inr ge ↦ absurd (reached (lane_dead n c.known.ensures c.base_of-base.result g.R.Row.NEVER c.args.query.origin.0
@@ -180,29 +221,36 @@ pub loop-i-preserved : goal.loop-i-preserved
 loop-i-preserved g c =
     let n = c.args.query.network.now in
     let w = c.args.query.window in
+    let searched = c.args.query.searched.now in
+    let are = c.requires.asked.searched in
+    let fits = c.requires.asked.fits in
     let lanes = g.R.Row.LANES in
-    let never = g.R.Row.NEVER in
-    let old = c.loop-i.invariant in
+    let own = c.LANES-lanes.result in
+    let own_same = c.LANES-lanes.ensures in
     let some : 0 < lanes = omega (arith, g.met.R.Row.some) in
-    let batch : ℕ = batch_at c.LANES-lanes.result w.minutes c.loop-i.i in
-    let same : c.LANES-lanes.result * batch ≡ lanes * batch =
-    turn_same lanes c.LANES-lanes.result w.minutes c.loop-i.i c.LANES-lanes.ensures some c.loop-i-test.true in
-    let begins : lanes * batch < w.minutes =
-    turn_begins lanes c.LANES-lanes.result w.minutes c.loop-i.i c.LANES-lanes.ensures some c.loop-i-test.true in
+    let i = c.loop-i.i in
+    let batch : ℕ = batch_at own (length searched) i in
+    let never = g.R.Row.NEVER in
+    let turn = c.loop-i-test.true in
+    let old = c.loop-i.invariant in
+    let same : own * batch ≡ lanes * batch = turn_same lanes own (length searched) i own_same some turn in
+    let here = begins w fits searched are lanes own i own_same some turn in
     let after : lanes * (batch + 1) ≡ lanes * batch + lanes =
-    turn_after lanes c.LANES-lanes.result w.minutes c.loop-i.i c.LANES-lanes.ensures some c.loop-i-test.true in
+    turn_after lanes own (length searched) i own_same some turn in
     let base = c.base_of-base.ensures in
-    let first : ℕ = w.first + 60 * (c.LANES-lanes.result * batch) in
-    let axis = c.requires.asked.fits.on_axis _ begins in
-    let head = (c.minutely-departs.ensures 0 some).live (omega (arith, begins, same)) in
-    let of_batch : (b : ℕ) → b + (c.loop-i.i + 1) ≡ (w.minutes + (c.LANES-lanes.result - 1)) / c.LANES-lanes.result →
-    lanes * b ≡ lanes * batch = λ b e. ap (λ (x : ℕ). lanes * x) (omega (arith, e)) in
+    let at : ℕ → ℕ = λ j. slice_index searched j in
+    let first : ℕ = departure w (at (own * batch)) in
+    let first_early = axis w fits searched are lanes own i own_same some turn in
+    let head = (c.departs_of-departs.ensures 0 some).live (omega (arith, here)) in
+    let head_spans = spans w fits searched are lanes own i own_same some turn 0 (omega (arith, here)) in
+    let of_batch : (b : ℕ) → b + (i + 1) ≡ (length searched + (own - 1)) / own → lanes * b ≡ own * batch =
+    λ b e. ap (λ (x : ℕ). lanes * x) (omega (arith, e)) ∙ sym same in
     let ride : ℕ → List ℕ = λ l. lane l (labels_in g.R.Row.labels c.run_bounded.new.tables.ride.items) in
     let ready : ℕ → List ℕ = λ l. lane l (labels_in g.R.Row.labels c.run_bounded.new.tables.ready.items) in
-    let time : ℕ → ℕ = λ l. slice_index (g.R.Row.labels c.minutely-departs.result) l in
-    let kept : (p m : ℕ) → m < 16 * batches_of w.minutes → lanes * batch + lanes ≤ m →
-    label_of w.minutes c.write_batch.new.labels p m ≡ label_of w.minutes c.loop-i.labels p m =
-    λ p m l past. c.write_batch.ensures.kept p m l (inr (omega (arith, past, same))) in
+    let time : ℕ → ℕ = λ l. slice_index (g.R.Row.labels c.departs_of-departs.result) l in
+    let kept : (p j : ℕ) → j < 16 * batches_of w.minutes → lanes * batch + lanes ≤ j →
+    label_of w.minutes c.write_batch.new.labels p j ≡ label_of w.minutes c.loop-i.labels p j =
+    λ p j l past. c.write_batch.ensures.kept p j l (inr (omega (arith, past, same))) in
     let within : (p : ℕ) → p < n.stops → p < length c.run_bounded.new.tables.ready.items =
     λ p there. omega (arith, there, c.run_bounded.ensures.tables.ready) in
     record {
@@ -211,69 +259,74 @@ loop-i-preserved g c =
       late = c.in_ok-are_told_of_reached.ensures.last;
       few = c.are_told_of_reached.ensures.few;
       last = λ e. absurd (omega arith);
-      next = λ b e pos. let f = of_batch b e in omega (arith, f, same);
+      next = λ b e pos. ap (λ (x : ℕ). departure w (at x)) (sym (of_batch b e));
       many = c.run_bounded.ensures.many;
       bounds = kept_rebased n c.known.ensures c.base_of-base.result never c.args.query.origin.0 (time 0) first
-          c.args.query.rides c.run_bounded.new.kept (omega (
+          c.args.query.rides c.run_bounded.new.kept first_early base.within base.before base.short (omega (
             arith,
-            axis,
-            same,
-          )) base.within base.before base.short (omega (arith, head)) c.run_bounded.ensures.kept;
-      each = λ b p m e there l le.
+            head,
+            head_spans.0,
+            head_spans.1,
+          )) c.run_bounded.ensures.kept;
+      each = λ b p j e there l le.
           let f = of_batch b e in
-          elim (cases_lt m (lanes * batch + lanes)) [
+          elim (cases_lt j (lanes * batch + lanes)) [
             | inl lt ↦
-                let k : ℕ = m - lanes * batch in
-                let h : k < lanes = omega (arith, lt, some) in
-                let at : lanes * batch + k ≡ m = omega (arith, f, le) in
-                let t = (c.minutely-departs.ensures k h).live (omega (arith, l, f, le, same)) in
-                let departs : time k ≢ never = λ late. omega (arith, late, t, h, base.near) in
+                let k : ℕ = j - own * batch in
+                let h : k < lanes = omega (arith, lt, some, same) in
+                let place : own * batch + k ≡ j = omega (arith, f, le) in
+                let place' : lanes * batch + k ≡ j = omega (arith, f, le, same) in
+                let t = (c.departs_of-departs.ensures k h).live (omega (arith, l, place)) in
+                let s = spans w fits searched are lanes own i own_same some turn k (omega (arith, l, place)) in
+                let minute = ap at place in
+                let departs : time k ≢ never = λ late. omega (arith, late, t, s.1, h, base.near) in
                 let told : arrival (ride k) (ready k) p ≡ never →
                 slice_index c.are_told_of_reached.new.last p < c.base_of-base.result + never =
                 λ late. c.in_ok-are_told_of_reached.ensures.told c.if-not-branch.false k p h (within p there)
                 departs late in
-                subst (λ (i : ℕ). IsLeastOrNever (IsDuration n c.args.query.origin.0 (departure w m) c.args.query.rides
-                p) (label_of w.minutes c.write_batch.new.labels p i)) at
+                subst (λ (x : ℕ). IsLeastOrNever (IsDuration n c.args.query.origin.0 (departure w (at j))
+                c.args.query.rides p) (label_of w.minutes c.write_batch.new.labels p x)) place'
                 (lane_minute n c.known.ensures c.base_of-base.result never c.args.query.origin.0 (time k)
-                (departure w m) (omega (arith, t, at, same, base.within)) (elim base.before [
-                  | inl none ↦
-                      inr none
-                  | inr before ↦ inl (omega (arith, before, t))
+                (departure w (at j)) (omega (arith, t, minute)) (elim base.before [
+                  | inl none ↦ inr none
+                  | inr before ↦ inl (omega (arith, before, t, s.0))
                 ]) c.args.query.rides (ride k) (ready k)
                 (c.run_bounded.ensures.states k h) p there w.first c.are_told_of_reached.new.last
                 c.in_ok-are_told_of_reached.ensures.last (omega arith) (omega (
                   arith,
                   g.met.R.Row.never_fits,
-                )) (omega (arith, at, h, same, base.near, base.within)) told _
-                (c.write_batch.ensures.written k p h (within p there) (omega (arith, at, l))))
+                )) (omega (arith, minute, s.1, h, base.near, base.within)) told _
+                (c.write_batch.ensures.written k p h (within p there) (omega (
+                  arith,
+                  place',
+                  l,
+                  few_searched w.minutes searched are,
+                ))))
             | inr ge ↦
-                subst (λ (y : ℕ). IsLeastOrNever (IsDuration n c.args.query.origin.0 (departure w m) c.args.query.rides
-                p) y) (sym (kept p m (omega (arith, l)) ge))
-                (old.each (batch + 1) p m (omega (arith, c.loop-i-test.true)) there l (omega (
+                subst (λ (y : ℕ). IsLeastOrNever (IsDuration n c.args.query.origin.0 (departure w (at j))
+                c.args.query.rides p) y) (sym (kept p j (omega (arith, l, few_searched w.minutes searched are)) ge))
+                (old.each (batch + 1) p j (omega (arith, turn)) there l (omega (
                   arith,
                   after,
                   ge,
                 )))
           ];
-      dead = λ b p m e there past l le.
-          let f = of_batch b e in
-          elim (cases_lt m (lanes * batch + lanes)) [
+      dead = λ p j there past l.
+          elim (cases_lt j (lanes * batch + lanes)) [
             | inl lt ↦
-                let k : ℕ = m - lanes * batch in
-                let h : k < lanes = omega (arith, lt, some) in
-                let at : lanes * batch + k ≡ m = omega (arith, f, le) in
-                let late = (c.minutely-departs.ensures k h).dead (omega (arith, past, same)) in
-                let since = c.write_batch.ensures.written k p h (within p there) (omega (arith, at, l)) in
-                subst (λ (i : ℕ). label_of w.minutes c.write_batch.new.labels p i ≡ NEVER) at
+                let k : ℕ = j - own * batch in
+                let h : k < lanes = omega (arith, lt, some, same) in
+                let place : own * batch + k ≡ j = omega (arith, here, past) in
+                let place' : lanes * batch + k ≡ j = omega (arith, here, past, same) in
+                let late = (c.departs_of-departs.ensures k h).dead (omega (arith, past, place)) in
+                let since = c.write_batch.ensures.written k p h (within p there) (omega (arith, place', l)) in
+                subst (λ (x : ℕ). label_of w.minutes c.write_batch.new.labels p x ≡ NEVER) place'
                 (since.never_so (lane_dead n c.known.ensures c.base_of-base.result never c.args.query.origin.0 (time k)
                 c.args.query.rides (ride k) (ready k) (omega (
                   arith,
                   base.near,
                 )) late (c.run_bounded.ensures.states k h) p there))
-            | inr ge ↦ kept p m l ge ∙ old.dead (batch + 1) p m (omega (
-              arith,
-              c.loop-i-test.true,
-            )) there past l (omega (arith, after, ge))
+            | inr ge ↦ kept p j l ge ∙ old.dead p j there past l
           ];
     }
 
@@ -282,14 +335,10 @@ returns-clause-told g c _ =
     let inv = c.loop-i.invariant in
     record {
       size = inv.labels;
-      each = λ p m there l. inv.each 0 p m (omega (
+      each = λ p j there l. inv.each 0 p j (omega (
         arith,
         c.loop-i-test.false,
         c.loop-i.auto.i-end,
       )) there l (omega arith);
-      dead = λ p m there past l. inv.dead 0 p m (omega (
-        arith,
-        c.loop-i-test.false,
-        c.loop-i.auto.i-end,
-      )) there past l (omega arith);
+      dead = inv.dead;
     }

@@ -2,4 +2,4 @@ use Rattle.rounds.proofs.Leaving.{dead_ride_nothing}
 use Rattle.rounds.proofs.laws.dead_lanes_ride_nothing.Goals as goal
 
 pub returns : goal.returns
-returns c = dead_ride_nothing
+returns g c = dead_ride_nothing g.R.Row.NEVER

@@ -1,7 +1,7 @@
 use Rattle.std.proofs.Common.{◌≡◌, length, slice_get, Some, get_or, false, arith, rules, ap, subst}
 use Rattle.std.proofs.lemmas.Option.{slice_get-get_or}
 use Rattle.timetable.specs.declared.trips.Event.{Event}
-use Rattle.rounds.proofs.Carrying.{carry_alight, carry_pass, boards_still, boards_here, boards_not, carry_all}
+use Rattle.trip_lanes.proofs.Carrying.{carry_alight, carry_pass, boards_still, boards_here, boards_not, carry_all}
 use Rattle.rounds.proofs.steps.carry.Goals as goal
 use Rattle.rounds.proofs.steps.carry.Goals.{then-aboard+then-event, else-aboard, else-aboard-via-then-aboard+else-event}
 use Rattle.rounds.proofs.steps.carry.Goals.{else-aboard-via-else-aboard}

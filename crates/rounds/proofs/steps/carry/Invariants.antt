@@ -1,6 +1,6 @@
 use Rattle.std.proofs.Common.{◌≡◌, length, false, IsTrue}
 use Rattle.timetable.specs.Steps.{Lowers}
-use Rattle.rounds.proofs.Carrying.{BoardsBelow, CarriesBelow}
+use Rattle.trip_lanes.proofs.Carrying.{BoardsBelow, CarriesBelow}
 use Rattle.rounds.proofs.steps.carry.Given as goal
 
 abbrev pub invariant-loop-event : goal.invariant-loop-event

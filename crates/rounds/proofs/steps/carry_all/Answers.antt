@@ -1,6 +1,6 @@
 use Rattle.std.proofs.Common.{rules, length, refl}
 use Rattle.std.proofs.lemmas.Option.{slice_get_read}
-use Rattle.rounds.proofs.Carrying.{carry_one, carry_each}
+use Rattle.trip_lanes.proofs.Carrying.{carry_one, carry_each}
 use Rattle.rounds.proofs.steps.carry_all.Goals as goal
 
 pub loop-trip-preserved : goal.loop-trip-preserved

@@ -1,6 +1,6 @@
 use Rattle.std.proofs.Common.{◌≡◌, length}
 use Rattle.timetable.specs.Steps.{Lowers}
-use Rattle.rounds.proofs.Carrying.{CarriesAnyBelow}
+use Rattle.trip_lanes.proofs.Carrying.{CarriesAnyBelow}
 use Rattle.rounds.proofs.steps.carry_all.Given as goal
 
 abbrev pub invariant-loop-trip : goal.invariant-loop-trip

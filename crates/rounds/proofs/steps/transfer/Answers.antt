@@ -2,7 +2,7 @@ use Rattle.std.proofs.Common.{rules, ◌<◌, [], length, get_or, arith}
 use Rattle.std.proofs.lemmas.Option.{slice_get-get_or}
 use Rattle.timetable.proofs.Known.{change_short}
 use Rattle.timetable.proofs.Lowering.{lowers_alike, lowers_none}
-use Rattle.rounds.proofs.Walking.{transfer_one, transfer_each}
+use Rattle.trip_lanes.proofs.Walking.{transfer_one, transfer_each}
 use Rattle.rounds.proofs.steps.transfer.Goals as goal
 use Rattle.rounds.proofs.steps.transfer.Goals.{then-arrived, else-arrived}
 

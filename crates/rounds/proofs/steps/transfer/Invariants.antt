@@ -1,6 +1,6 @@
 use Rattle.std.proofs.Common.{◌≡◌, length}
 use Rattle.timetable.specs.Steps.{Lowers}
-use Rattle.rounds.proofs.Walking.{TransferredBelow}
+use Rattle.trip_lanes.proofs.Walking.{TransferredBelow}
 use Rattle.rounds.proofs.steps.transfer.Given as goal
 
 abbrev pub invariant-loop-from : goal.invariant-loop-from

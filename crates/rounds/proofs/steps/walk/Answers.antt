@@ -1,7 +1,7 @@
 use Rattle.std.proofs.Common.{rules, ◌<◌, [], length, get_or, arith}
 use Rattle.std.proofs.lemmas.Option.{slice_get-get_or}
 use Rattle.timetable.proofs.Lowering.{lowers_alike, lowers_none}
-use Rattle.rounds.proofs.Walking.{offer_one, offer_each}
+use Rattle.trip_lanes.proofs.Walking.{offer_one, offer_each}
 use Rattle.rounds.proofs.steps.walk.Goals as goal
 use Rattle.rounds.proofs.steps.walk.Goals.{then-time, else-time}
 

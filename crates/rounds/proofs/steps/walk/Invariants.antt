@@ -1,6 +1,6 @@
 use Rattle.std.proofs.Common.{◌≡◌, length}
 use Rattle.timetable.specs.Steps.{Lowers}
-use Rattle.rounds.proofs.Walking.{OfferedBelow}
+use Rattle.trip_lanes.proofs.Walking.{OfferedBelow}
 use Rattle.rounds.proofs.steps.walk.Given as goal
 
 abbrev pub invariant-loop-stop : goal.invariant-loop-stop

@@ -1,5 +1,5 @@
 use Rattle.timetable.specs.Steps.{Lowers}
-use Rattle.rounds.proofs.Walking.{LeavesBelow}
+use Rattle.trip_lanes.proofs.Walking.{LeavesBelow}
 use Rattle.rounds.proofs.steps.walk_from.Given as goal
 
 abbrev pub invariant-loop-to : goal.invariant-loop-to

@@ -1,37 +1,21 @@
-use Rattle.std.proofs.Common.{◌≡◌, ◌<◌, ◌+◌, ◌++◌, ◌∷◌, [], ℕ, List, Option, None, Some, length, get_or, subst, sym, ap}
-use Rattle.std.proofs.Common.{arith}
-use Rattle.std.specs.List.{slice_get}
-use Rattle.std.proofs.lemmas.List.{length-append}
-use Rattle.std.proofs.lemmas.Option.{slice_get_within, slice_get-get_or}
-use Rattle.timetable.specs.declared.trips.StopNo.{StopNo}
-use Rattle.shares.specs.Percentiles.{IsCell}
-use Rattle.shares.proofs.Attaining.{cells_at_more}
+use Rattle.std.proofs.Common.{◌∙◌, ℕ, Option, Vec, Global, map, ap}
+use Rattle.std.specs.List.{range_with_len}
+use Rattle.std.proofs.lemmas.Result.{IfOk-weaker}
+use Rattle.shares.specs.Percentiles.{AreCells, AreCellsAt}
+use Rattle.shares.proofs.AllStops.{all_cells, all_within, stop_no}
 use Rattle.shares.proofs.percentiles.cells.Goals as goal
 
-pub loop-k-preserved : goal.loop-k-preserved
-loop-k-preserved c =
-    let t = c.args.durations.now in
-    let ds = c.args.destinations.now in
-    let k = c.loop-k.k in
-    let cs = c.loop-k.cells.items in
-    let one = c.cell.result in
-    let stop : StopNo = get_or ds k (record { 0 = 0 }) in
-    let here = slice_get-get_or ds k (record { 0 = 0 }) c.loop-k-test.true in
-    let pushed : c.push.new.self.items ≡ cs ++ one ∷ [] = c.in_ok-push.ensures.items in
-    let more = cells_at_more t c.args.share ds cs one k stop c.loop-k.invariant.count c.loop-k.invariant.each here
-    c.cell.ensures in
-    record {
-      count = (let len = ap (λ (xs : List (Option ℕ)). length xs) pushed in let app = length-append cs (one ∷ []) in
-          omega (arith, len, app, c.loop-k.invariant.count));
-      each = subst (λ (xs : List (Option ℕ)). (j : ℕ) (other : StopNo) → j < k + 1 → slice_get ds j ≡ Some other →
-          IsCell t c.args.share other.0 (get_or xs j None)) (sym pushed) more;
-    }
+pub cells_at-requires-clause-stops : goal.cells_at-requires-clause-stops
+cells_at-requires-clause-stops c =
+    all_within c.args.durations.now c.deref.result.now (c.deref.ensures.value ∙ c.in_ok-all.ensures
+    ∙ ap (λ (n : ℕ). map stop_no (range_with_len 0 n)) c.stops.ensures)
 
 pub returns : goal.returns
 returns c =
-    let ds = c.args.destinations.now in
-    record {
-      count = omega (arith, c.loop-k.invariant.count, c.loop-k-test.false, c.loop-k.auto.k-end);
-      each = λ j stop at. c.loop-k.invariant.each j stop (let low = slice_get_within ds j stop at in
-          omega (arith, low, c.loop-k-test.false)) at;
-    }
+    let t = c.args.durations.now in
+    let share = c.args.share in
+    let all = c.deref.ensures.value ∙ c.in_ok-all.ensures
+    ∙ ap (λ (n : ℕ). map stop_no (range_with_len 0 n)) c.stops.ensures in
+    IfOk-weaker c.cells_at.result (λ (v : Vec (Option ℕ) Global). AreCellsAt t c.deref.result.now share v.items)
+    (λ (v : Vec (Option ℕ) Global). AreCells t share v.items)
+    (λ v are. all_cells t c.deref.result.now all share v.items are) c.cells_at.ensures

@@ -10,11 +10,11 @@ returns c =
     let t = c.args.durations.now in
     let s = c.args.study.now in
     let all = cells_there t c.args.share in
-    let there = subst (λ (n : ℕ). All (λ (d : StopNo). d.0 < n) s.asked.destinations.now) (sym c.requires.stops)
+    let there = subst (λ (n : ℕ). All (λ (d : StopNo). d.0 < n) s.destinations.now) (sym c.requires.stops)
     c.requires.fits.destinations in
     record {
       all = all.0;
       all_are = all.1;
-      cells_are = at_all t s.asked.destinations.now c.args.share c.args.cells.items all.0 there c.requires.cells all.1;
+      cells_are = at_all t s.destinations.now c.args.share c.args.cells.items all.0 there c.requires.cells all.1;
       access_is = c.in_ok-access.ensures all.0 all.1;
     }

@@ -6,8 +6,8 @@ use Rattle.workers.proofs.Shares.{row_is}
 use Rattle.workers.proofs.Wide.{stops_of}
 use Rattle.workers.proofs.rows.row_with.Goals as goal
 
-pub cells_of-requires-clause-stops : goal.cells_of-requires-clause-stops
-cells_of-requires-clause-stops c =
+pub cells_of_at-requires-clause-stops : goal.cells_of_at-requires-clause-stops
+cells_of_at-requires-clause-stops c =
     let s = study_of c.args.study.now in
     let of = c.in_ok-durations.ensures in
     let same = of.durations.stops ∙ stops_of s c.args.scenario of.network c.requires.fits of.network_is in

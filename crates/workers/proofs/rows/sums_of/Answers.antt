@@ -9,9 +9,9 @@ loop-limit-preserved c = λ all are.
     let ns = c.args.opportunities.now in
     let limits = c.args.limits.now in
     let k = c.loop-limit.limit-index in
-    let one = c.access.ensures all are in
+    let one = c.access_at.ensures all are in
     c.in_ok-push.ensures.items
-    ∙ ap (λ (xs : List ℕ). xs ++ c.access.result ∷ []) (c.loop-limit.invariant all are)
+    ∙ ap (λ (xs : List ℕ). xs ++ c.access_at.result ∷ []) (c.loop-limit.invariant all are)
     ∙ ap (λ (x : ℕ). map (λ limit. access_of all ns limit) (take k limits) ++ x ∷ []) one
     ∙ sym (mapped_next (λ limit. access_of all ns limit) limits k c.loop-limit-test.true)
 

@@ -13,7 +13,7 @@ use Rattle.workers.proofs.rows.with_access.Goals as goal
 pub given_of-requires-clause-cells : goal.given_of-requires-clause-cells
 given_of-requires-clause-cells c =
     let was = c.loop-cells.invariant in
-    let shares = c.args.study.now.asked.shares.now in
+    let shares = c.args.study.now.shares.now in
     let k = length c.loop-cells.shares.items in
     let all = into_iter_items c.loop-cells.cells-iterator in
     let rest = into_iter_items c.next.new.self in
@@ -26,7 +26,7 @@ given_of-requires-clause-cells c =
     ap (λ (n : ℕ). slice_get c.args.lists.items n) (sym place)
     ∙ was.rest 0 cells (ap (λ (l : List (Vec (Option ℕ) Global)). slice_get l 0) split) in
     let same : k ≡ c.len-in-loop-cells.result = omega (arith, c.len-in-loop-cells.ensures, c.loop-cells.shares.ok.0) in
-    subst (λ (n : ℕ). AreCellsAt c.args.durations.now c.args.study.now.asked.destinations.now (get_or shares n 0)
+    subst (λ (n : ℕ). AreCellsAt c.args.durations.now c.args.study.now.destinations.now (get_or shares n 0)
     cells.items) same
     (c.requires.lists.each k (get_or shares k 0) cells (slice_get-get_or shares k 0 low) here)
 
@@ -53,14 +53,14 @@ loop-cells-preserved c =
           elim (pushed_at given x other j (ap (λ (l : List CellsData). slice_get l j) (sym pushed) ∙ at)) [
             | inl before ↦ was.done j share other of_share before
             | inr last ↦
-                let shares = c.args.study.now.asked.shares.now in
+                let shares = c.args.study.now.shares.now in
                 let is_share : get_or shares c.len-in-loop-cells.result 0 ≡ share =
                 get_or_from_slice_get shares c.len-in-loop-cells.result share 0
                 (ap (λ (n : ℕ). slice_get shares n) (sym (last.0 ∙ same)) ∙ of_share) in
                 subst (λ (g : CellsData). IsOfShare c.args.durations.now c.args.study.now.opportunities.now
-                c.args.study.now.asked.limits.now c.args.study.now.asked.destinations.now share g) last.1
+                c.args.study.now.withins.now c.args.study.now.destinations.now share g) last.1
                 (subst (λ (n : ℕ). IsOfShare c.args.durations.now c.args.study.now.opportunities.now
-                c.args.study.now.asked.limits.now c.args.study.now.asked.destinations.now n x) is_share
+                c.args.study.now.withins.now c.args.study.now.destinations.now n x) is_share
                 c.in_ok-given_of.ensures)
           ];
     }
@@ -69,6 +69,6 @@ pub returns : goal.returns
 returns c =
     let s = c.args.study.now in
     let was = c.loop-cells.invariant in
-    zip_from (IsOfShare c.args.durations.now s.opportunities.now s.asked.limits.now s.asked.destinations.now)
-    s.asked.shares.now c.loop-cells.shares.items
+    zip_from (IsOfShare c.args.durations.now s.opportunities.now s.withins.now s.destinations.now)
+    s.shares.now c.loop-cells.shares.items
     (omega (arith, was.count, c.requires.lists.count, c.in-None.ensures.steps)) was.done

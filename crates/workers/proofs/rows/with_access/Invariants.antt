@@ -10,8 +10,8 @@ invariant-loop-cells l = record {
   count : length l.shares.items + length (into_iter_items l.cells-iterator) ≡ length l.fn.lists.items;
   rest : (j : ℕ) (cells : Vec (Option ℕ) Global) → slice_get (into_iter_items l.cells-iterator) j ≡ Some cells →
       slice_get l.fn.lists.items (length l.shares.items + j) ≡ Some cells;
-  done : (j share : ℕ) (given : CellsData) → slice_get l.study.asked.shares.now j ≡ Some share →
+  done : (j share : ℕ) (given : CellsData) → slice_get l.study.shares.now j ≡ Some share →
       slice_get l.shares.items j ≡ Some given →
-      IsOfShare l.durations l.study.opportunities.now l.study.asked.limits.now l.study.asked.destinations.now share
+      IsOfShare l.durations l.study.opportunities.now l.study.withins.now l.study.destinations.now share
       given;
 }

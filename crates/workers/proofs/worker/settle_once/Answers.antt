@@ -2,7 +2,7 @@ use Rattle.std.proofs.Common.{ap, rules}
 use Rattle.work_book.specs.Board.{seen_by}
 use Rattle.work_book.specs.declared.rule.View.{View}
 use Rattle.workers.specs.Study.{study_of}
-use Rattle.workers.proofs.Holds.{holds_new}
+use Rattle.workers.proofs.Holds.{holds_new, kept_same, more_none, more_once}
 use Rattle.workers.proofs.Knows.{told_more}
 use Rattle.workers.proofs.worker.settle_once.Goals as goal
 
@@ -31,3 +31,17 @@ returns-in-Kept-clause-heard g c = (c.settle-settled.result, c.settle-settled.en
 
 pub returns-in_default-clause-heard : goal.returns-in_default-clause-heard
 returns-in_default-clause-heard g c = (c.settle-settled.result, c.settle-settled.ensures.settled, c.after.ensures.told)
+
+pub returns-in-Kept-clause-held : goal.returns-in-Kept-clause-held
+returns-in-Kept-clause-held g c =
+    more_once (study_of c.args.study.now) c.args.lease.job (seen_by c.args.hands.now.seat)
+    (seen_by c.settle-settled.new.seat) c.args.hands.now.rows.items c.push_reserved.new.self.items c.in_ok-row.row
+    c.in_ok-row.ensures (search rules) (ap (λ (v : View). v.kept) c.in-Kept.ensures.settled.0)
+
+pub returns-in_default-clause-held : goal.returns-in_default-clause-held
+returns-in_default-clause-held g c =
+    more_none (study_of c.args.study.now) c.args.lease.job (seen_by c.args.hands.now.seat)
+    (seen_by c.settle-settled.new.seat) c.args.hands.now.rows.items c.reserve.new.self.items 1
+    (search rules)
+    (kept_same (seen_by c.args.hands.now.seat) (seen_by c.settle-settled.new.seat) c.args.lease
+    c.settle-settled.result c.settle-settled.ensures.settled c.in_default.not-Kept)

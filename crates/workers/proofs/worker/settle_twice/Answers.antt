@@ -1,22 +1,123 @@
-use Rattle.std.proofs.lemmas.Result.{on_ok_weaker}
+use Rattle.std.proofs.Common.{◌≡◌, ap, rules, ◌∙◌, ◌∷◌, [], ◌++◌}
 use Rattle.work_book.specs.Board.{seen_by}
-use Rattle.workers.proofs.Knows.{knows_both}
+use Rattle.work_book.specs.declared.lease.Settled.TheVariants.{Kept, Double}
+use Rattle.work_book.specs.declared.rule.View.{View}
+use Rattle.workers.specs.Study.{study_of}
+use Rattle.workers.proofs.Holds.{holds_again, holds_new, holds_same, known_after, more_none, more_twice, settles_known}
+use Rattle.workers.proofs.Knows.{knows_both, knows_settled, told_more}
+use Rattle.workers.proofs.Times.{last_in}
 use Rattle.workers.proofs.worker.settle_twice.Goals as goal
 
-pub returns-clause-heard : goal.returns-clause-heard
-returns-clause-heard g c =
-    on_ok_weaker c.settle_once-2.result (λ heard. (
-      seen_by c.settle_once.new.hands.seat,
-      c.in_ok-settle_once.ensures.heard,
-      heard,
-    ))
-    c.settle_once-2.ensures.heard
+pub returns-in-Kept-clause-rows : goal.returns-in-Kept-clause-rows
+returns-in-Kept-clause-rows g c =
+    let v = seen_by c.args.hands.now.seat in
+    let w = seen_by c.settle-first.new.seat in
+    let x = seen_by c.settle-second.new.seat in
+    let job = c.args.lease.job in
+    let s = study_of c.args.study.now in
+    let once : w.kept ≡ v.kept ++ job ∷ [] = ap (λ (z : View). z.kept) c.in-Kept.ensures.settled.0 in
+    let twice : x.kept ≡ w.kept =
+    settles_known w x c.args.lease c.settle-second.result c.settle-second.ensures.settled
+    (known_after v w c.args.lease Kept c.in-Kept.ensures.settled) in
+    let now : x.kept ≡ v.kept ++ job ∷ [] = twice ∙ once in
+    let one = holds_new s c.args.hands.now.rows.items c.push_reserved.new.self.items v.kept x.kept job c.in_ok-row.row
+    c.requires.rows c.in_ok-row.ensures (search rules) now in
+    holds_again s c.push_reserved.new.self.items c.push_reserved-in-Kept.new.self.items x.kept job c.in_ok-again.again
+    one c.in_ok-again.ensures (last_in job v.kept x.kept now) (search rules)
 
-pub returns-clause-told : goal.returns-clause-told
-returns-clause-told g c = λ told. c.settle_once-2.ensures.told (c.settle_once.ensures.told told)
+pub returns-in-Kept-clause-held : goal.returns-in-Kept-clause-held
+returns-in-Kept-clause-held g c =
+    let v = seen_by c.args.hands.now.seat in
+    let w = seen_by c.settle-first.new.seat in
+    let x = seen_by c.settle-second.new.seat in
+    let job = c.args.lease.job in
+    let s = study_of c.args.study.now in
+    let once : w.kept ≡ v.kept ++ job ∷ [] = ap (λ (z : View). z.kept) c.in-Kept.ensures.settled.0 in
+    let twice : x.kept ≡ w.kept =
+    settles_known w x c.args.lease c.settle-second.result c.settle-second.ensures.settled
+    (known_after v w c.args.lease Kept c.in-Kept.ensures.settled) in
+    more_twice s job v x c.args.hands.now.rows.items c.push_reserved-in-Kept.new.self.items
+    c.push_reserved.new.self.items c.in_ok-row.row c.in_ok-again.again c.in_ok-row.ensures c.in_ok-again.ensures
+    (search rules) (search rules) (twice ∙ once)
 
-pub returns-clause-known : goal.returns-clause-known
-returns-clause-known g c =
-    knows_both (seen_by c.args.hands.now.seat) (seen_by c.settle_once.new.hands.seat)
-    (seen_by c.settle_once-2.new.hands.seat) c.settle_once.ensures.known
-    c.settle_once-2.ensures.known
+pub returns-in-Double-clause-rows : goal.returns-in-Double-clause-rows
+returns-in-Double-clause-rows g c =
+    let v = seen_by c.args.hands.now.seat in
+    let w = seen_by c.settle-first.new.seat in
+    let x = seen_by c.settle-second.new.seat in
+    let once : w.kept ≡ v.kept = ap (λ (z : View). z.kept) c.in-Double.ensures.settled in
+    let twice : x.kept ≡ w.kept =
+    settles_known w x c.args.lease c.settle-second.result c.settle-second.ensures.settled
+    (known_after v w c.args.lease Double c.in-Double.ensures.settled) in
+    holds_same (study_of c.args.study.now) c.args.hands.now.rows.items c.reserve.new.self.items v.kept x.kept
+    c.requires.rows (search rules) (twice ∙ once)
+
+pub returns-in-Double-clause-held : goal.returns-in-Double-clause-held
+returns-in-Double-clause-held g c =
+    let v = seen_by c.args.hands.now.seat in
+    let w = seen_by c.settle-first.new.seat in
+    let x = seen_by c.settle-second.new.seat in
+    let once : w.kept ≡ v.kept = ap (λ (z : View). z.kept) c.in-Double.ensures.settled in
+    let twice : x.kept ≡ w.kept =
+    settles_known w x c.args.lease c.settle-second.result c.settle-second.ensures.settled
+    (known_after v w c.args.lease Double c.in-Double.ensures.settled) in
+    more_none (study_of c.args.study.now) c.args.lease.job v x c.args.hands.now.rows.items c.reserve.new.self.items 2
+    (search rules) (twice ∙ once)
+
+pub returns-in-Kept-clause-told : goal.returns-in-Kept-clause-told
+returns-in-Kept-clause-told g c = λ told.
+    let was_told = g.G.Gate.was_told c.args.gate.now in
+    let w = seen_by c.settle-first.new.seat in
+    told_more was_told w (seen_by c.settle-second.new.seat) c.args.lease c.settle-second.result
+    c.settle-second.ensures.settled c.after-2.ensures.told
+    (told_more was_told (seen_by c.args.hands.now.seat) w c.args.lease c.settle-first.result
+    c.settle-first.ensures.settled c.after.ensures.told told)
+
+pub returns-in-Kept-clause-known : goal.returns-in-Kept-clause-known
+returns-in-Kept-clause-known g c =
+    let v = seen_by c.args.hands.now.seat in
+    let w = seen_by c.settle-first.new.seat in
+    let x = seen_by c.settle-second.new.seat in
+    knows_both v w x (knows_settled v w c.args.lease c.settle-first.result c.settle-first.ensures.settled)
+    (knows_settled w x c.args.lease c.settle-second.result c.settle-second.ensures.settled)
+
+pub returns-in-Kept-clause-settled : goal.returns-in-Kept-clause-settled
+returns-in-Kept-clause-settled g c =
+    known_after (seen_by c.settle-first.new.seat) (seen_by c.settle-second.new.seat) c.args.lease
+    c.settle-second.result c.settle-second.ensures.settled
+
+pub returns-in-Kept-clause-heard : goal.returns-in-Kept-clause-heard
+returns-in-Kept-clause-heard g c = (
+  seen_by c.settle-first.new.seat,
+  (c.settle-first.result, c.settle-first.ensures.settled, c.after.ensures.told),
+  (c.settle-second.result, c.settle-second.ensures.settled, c.after-2.ensures.told),
+)
+
+pub returns-in-Double-clause-told : goal.returns-in-Double-clause-told
+returns-in-Double-clause-told g c = λ told.
+    let was_told = g.G.Gate.was_told c.args.gate.now in
+    let w = seen_by c.settle-first.new.seat in
+    told_more was_told w (seen_by c.settle-second.new.seat) c.args.lease c.settle-second.result
+    c.settle-second.ensures.settled c.after-2.ensures.told
+    (told_more was_told (seen_by c.args.hands.now.seat) w c.args.lease c.settle-first.result
+    c.settle-first.ensures.settled c.after.ensures.told told)
+
+pub returns-in-Double-clause-known : goal.returns-in-Double-clause-known
+returns-in-Double-clause-known g c =
+    let v = seen_by c.args.hands.now.seat in
+    let w = seen_by c.settle-first.new.seat in
+    let x = seen_by c.settle-second.new.seat in
+    knows_both v w x (knows_settled v w c.args.lease c.settle-first.result c.settle-first.ensures.settled)
+    (knows_settled w x c.args.lease c.settle-second.result c.settle-second.ensures.settled)
+
+pub returns-in-Double-clause-settled : goal.returns-in-Double-clause-settled
+returns-in-Double-clause-settled g c =
+    known_after (seen_by c.settle-first.new.seat) (seen_by c.settle-second.new.seat) c.args.lease
+    c.settle-second.result c.settle-second.ensures.settled
+
+pub returns-in-Double-clause-heard : goal.returns-in-Double-clause-heard
+returns-in-Double-clause-heard g c = (
+  seen_by c.settle-first.new.seat,
+  (c.settle-first.result, c.settle-first.ensures.settled, c.after.ensures.told),
+  (c.settle-second.result, c.settle-second.ensures.settled, c.after-2.ensures.told),
+)

@@ -3,6 +3,7 @@
 import numpy as np
 
 from ...prepare.fields import Whole, clock
+from ...records import shown
 from ..base import NO_ROW
 from ..choice import stops_named
 from ..days import service_named
@@ -35,7 +36,9 @@ def add_line(state: State, entry: Entry) -> list[str]:
             trip = Trip(label, -1, True, route, service, str(direction), stops, arrive, depart, none, redrawn=True)
             state.add(in_range(entry, trip))
     length = int(run.sum()) + dwell * (len(way) - 2)
-    return [f"route {route}: {len(way):,} stops in {clock(length)}; {len(times):,} departures from each end"]
+    told = f"route {route}: {len(way):,} stops in {clock(length)}; {len(times):,} departures from each end"
+    agency = entry.text("agency", "") or state.base.first_agency
+    return [told, *([f"route {route}: of the agency {shown(agency)}"] if agency else [])]
 
 
 def named(entry: Entry) -> Entry:

@@ -9,16 +9,14 @@ import numpy.typing as npt
 from ... import progress
 from ...faults import BadInput
 from ...feed import Floats, Stops
-from ...matrices import Matrix, Share, lacking, pair_of
+from ...matrices import Matrix, Share, lacking
 from ...measures.access import STEP, Decay
-from ...measures.comparison import CUT_OFF, NEW, compare
 from ...measures.opportunities import Counts, read_counts
 from ...records import shown
 from .parts import Bytes, minutes_of
 from .places import Places, places_of
 
 MOST_CELLS = 60_000_000  # that a page takes
-CUT, JOINED = 1, 2  # origins that lose half of the stops that they reached, or more; that gain so many
 Numbers = npt.NDArray[np.intp]
 
 
@@ -54,11 +52,10 @@ class Ground:
 
 @dataclass(frozen=True)
 class Times:
-    """Of a scenario and a share: the cells, access by origin and measure, and which origins are cut off or joined."""
+    """Of a scenario and a share: the cells, and access by origin and measure."""
 
     cells: Bytes
     access: Floats
-    marks: Bytes
 
 
 @dataclass(frozen=True)
@@ -78,6 +75,7 @@ class Content:
     counts: Counts  # by place
     people: int  # the last so many columns of counts are people
     hidden: list[str]  # what is counted, and lies in part at stops that aren't shown
+    away: list[str]  # what is counted, and lies at no place at which journeys end
     measures: list[Measure]
     times: list[list[Times]]  # by scenario and share
 
@@ -122,10 +120,10 @@ def counts_of(known: Sequence[str], asked: Asked) -> tuple[Counts, int]:
     return Counts(names, np.concatenate([it.numbers for it in found], axis=1)), len(found[1].names)
 
 
-def measures_of(matrix: Matrix, counts: Counts, asked: Asked, unit: str) -> list[Measure]:
+def measures_of(matrix: Matrix, names_there: Sequence[str], asked: Asked, unit: str) -> list[Measure]:
     """What access is told: that of the matrix, then stops (or points) and what is counted, within each cutoff."""
     own = [Measure(f"{unit} (as ttm counted them)", unit, limit) for limit in matrix.layout.limits]
-    names = [asked.what, *counts.names]
+    names = [asked.what, *names_there]
     return own + [Measure(name, name, round(60 * cutoff)) for name in names for cutoff in asked.cutoffs]
 
 
@@ -137,15 +135,16 @@ def content_of(whole: Matrix, matrix: Matrix, stops: Stops, asked: Asked, unit: 
     counts, people = counts_of(known, asked)
     at = {name: number for number, name in enumerate(known)}
     there = counts.numbers[[at[name] for name in ground.places.identifiers]]
-    lost = counts.numbers.sum(axis=0) > counts.numbers[[at[name] for name in ground.columns]].sum(axis=0)
+    whole_sums, sums = counts.numbers.sum(axis=0), counts.numbers[[at[name] for name in ground.columns]].sum(axis=0)
+    ends = counts.numbers[: len(whole.stops)]
     shown_there = np.isin(whole.stops, ground.columns).astype(np.float64)[:, None]
-    read = Reading(
-        whole, matrix, ground, np.concatenate([shown_there, counts.numbers[: len(whole.stops)]], axis=1), asked
-    )
+    reached = ends.sum(axis=0) > 0
+    read = Reading(whole, ground, np.concatenate([shown_there, ends[:, reached]], axis=1), asked)
     times = [[read.times(name, share) for share in asked.shares] for name in asked.scenarios]
-    hidden = [name for name, is_lost in zip(counts.names, lost.tolist()) if is_lost]
-    measures = measures_of(matrix, counts, asked, unit)
-    return Content(ground, Counts(counts.names, there), people, hidden, measures, times)
+    away = [name for name, is_there in zip(counts.names, reached.tolist()) if not is_there]
+    hidden = [name for name, lost in zip(counts.names, (whole_sums > sums).tolist()) if lost and name not in away]
+    measures = measures_of(matrix, [name for name in counts.names if name not in away], asked, unit)
+    return Content(ground, Counts(counts.names, there), people, hidden, away, measures, times)
 
 
 @dataclass(frozen=True)
@@ -153,7 +152,6 @@ class Reading:
     """How a matrix is read for a page."""
 
     whole: Matrix
-    shown: Matrix  # the same, or a part of it
     ground: Ground
     numbers: Floats  # a row for each column of the whole matrix, a column for each thing that is counted
     asked: Asked
@@ -165,7 +163,7 @@ class Reading:
         own = self.whole.access(scenario, share).astype(np.float64)
         cells, sums = self.cells_and_sums(scenario, share)
         access = np.concatenate([own, sums], axis=1)[order]
-        return Times(cells, access, self.marks(scenario, share))
+        return Times(cells, access)
 
     def cells_and_sums(self, scenario: str, share: Share) -> tuple[Bytes, Floats]:
         """The cells of the page's rows, and the sums of all rows in the matrix' order."""
@@ -186,17 +184,4 @@ class Reading:
         decay = Decay(STEP)
         found = np.stack([decay.weights(seconds, cutoff) @ self.numbers for cutoff in self.asked.cutoffs], axis=2)
         made: Floats = found.reshape(len(seconds), -1)
-        return made
-
-    def marks(self, scenario: str, share: Share) -> Bytes:
-        """CUT, JOINED or 0 for each of the page's origins, as a map has these classes."""
-        made = np.zeros(len(self.ground.origins), np.uint8)
-        if scenario == self.asked.scenarios[0]:
-            return made
-        pair = pair_of(self.shown, self.asked.scenarios[0], scenario, share)
-        numbers = {name: number for number, name in enumerate(pair.origins)}
-        order = np.array([numbers[name] for name in self.ground.origins], dtype=np.intp)
-        found = compare(pair, 0, with_pairs=False)
-        for mark, kind, reached in ((JOINED, NEW, found.reached_after), (CUT, CUT_OFF, found.reached_before)):
-            made[((2 * found.counts[:, kind] >= reached) & (reached > 0))[order]] = mark
         return made

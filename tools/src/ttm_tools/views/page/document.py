@@ -60,6 +60,7 @@ def parts_of(content: Content, lines: Lines) -> Iterator[Part]:
     ground = content.ground
     yield part("places", ground.places.degrees())
     yield part("widths", ground.places.widths.astype(np.float32))
+    yield part("heights", ground.places.heights.astype(np.float32))
     for name, names in (("columns", ground.columns), ("origins", ground.origins), ("rows", ground.rows)):
         yield part(name, ground.at(names))
     yield part("counts", content.counts.numbers.T)
@@ -71,7 +72,6 @@ def parts_of(content: Content, lines: Lines) -> Iterator[Part]:
         for share, times in enumerate(by_share):
             key = f"{scenario}-{share}"
             yield part(f"access-{key}", times.access.T)
-            yield part(f"marks-{key}", times.marks)
             below = content.times[0][share].cells if scenario else None
             for number, block in enumerate(blocks_of(times.cells, below)):
                 yield part(f"cells-{key}-{number}", block)
@@ -93,7 +93,7 @@ def head_of(content: Content, lines: Lines, frame: Frame) -> dict[str, Any]:
         "rowsInBlock": rows_in_block(len(ground.columns)),
         "counts": names,
         "people": names[len(names) - content.people :],
-        "reached": [number for number, name in enumerate(names) if name not in content.hidden],
+        "reached": [number for number, name in enumerate(names) if name not in (*content.hidden, *content.away)],
         "measures": [asdict(measure) for measure in content.measures],
         "meanings": frame.meanings,
         "lines": {"source": lines.source},

@@ -2,11 +2,10 @@
 
 import math
 import os
-import sys
 from dataclasses import dataclass, replace
 from typing import BinaryIO
 
-from ...faults import BadInput
+from ...faults import BadInput, say
 from ...feed import read_list
 from ...matrices import Matrix, Share
 from ...points.shown import points_in, shown_of
@@ -41,6 +40,7 @@ class Wish:
     tiles: str | None
     attribution: str | None
     leaflet: str = LEAFLET
+    within: int | None = None  # seconds, the limit with which the page opens; without it, the first of the matrix
 
 
 @dataclass(frozen=True)
@@ -102,16 +102,16 @@ def frame_of(matrix: Matrix, content: Content, asked: Asked, wish: Wish) -> Fram
         [sources.meaning(share, words) for share in asked.shares],
         sources.table(files, wish.feed, words),
         told_rows(content, asked),
-        first_minutes(matrix),
+        first_minutes(matrix, wish.within),
         wish.tiles,
         wish.attribution or "",
         wish.leaflet,
     )
 
 
-def first_minutes(matrix: Matrix) -> int:
-    """Where the slider stands first: at the first limit of the matrix, where it has one."""
-    limit = matrix.layout.limits[0]
+def first_minutes(matrix: Matrix, within: int | None) -> int:
+    """Where the slider stands first: at the limit that is named, or the first one of the matrix, where it has one."""
+    limit = within or matrix.layout.limits[0]
     return MINUTES if limit is None else min(max(1, math.ceil(limit / 60)), MOST_MINUTES)
 
 
@@ -137,6 +137,4 @@ def tell(path: str, page: Page) -> None:
     """Says on the standard error what was written."""
     ground = page.content.ground
     count, rows = len(ground.places.identifiers), len(ground.rows)
-    print(f"{path}: {count:,} places, travel times from {rows:,} of them", file=sys.stderr)
-    for line in page.frame.told:
-        print(line, file=sys.stderr)
+    say(f"{path}: {count:,} places, travel times from {rows:,} of them", *page.frame.told)

@@ -21,13 +21,14 @@ class Places:
     names: list[str]  # for people
     latitudes: Floats  # degrees, NaN where there is no place
     longitudes: Floats
-    widths: Floats  # metres of a square, 0 where it is no square
+    widths: Floats  # metres of a cell, 0 where it is none
+    heights: Floats  # the same to the north
 
     def chosen(self, order: Sequence[int]) -> "Places":
         identifiers, names = ([texts[place] for place in order] for texts in (self.identifiers, self.names))
-        numbers = (self.latitudes, self.longitudes, self.widths)
-        latitudes, longitudes, widths = (it[np.array(order, dtype=np.intp)] for it in numbers)
-        return Places(identifiers, names, latitudes, longitudes, widths)
+        numbers = (self.latitudes, self.longitudes, self.widths, self.heights)
+        chosen = [it[np.array(order, dtype=np.intp)] for it in numbers]
+        return Places(identifiers, names, *chosen)
 
     def in_order(self) -> "Places":
         """The same, neighbours together; those without a place last."""
@@ -42,8 +43,7 @@ class Places:
 def places_of(stops: Stops, identifiers: Sequence[str]) -> Places:
     """The places of some stops or points, which the feed has."""
     found = stops.of(identifiers)
-    widths = np.zeros(len(identifiers)) if found.widths is None else np.nan_to_num(found.widths)
-    return Places(found.identifiers, found.names, found.latitudes, found.longitudes, widths)
+    return Places(found.identifiers, found.names, found.latitudes, found.longitudes, *np.nan_to_num(found.sides()).T)
 
 
 def ranks(latitudes: Floats, longitudes: Floats) -> Floats:

@@ -116,23 +116,34 @@ function accessClasses(least, most) {
   return { marks, classOf: (number) => grade(breaks, number) };
 }
 
-/** The change of access in percent: of nothing to something it is a whole. */
-function percentOf(before, after) {
-  return before === after ? 0 : before === 0 ? 100 : (100 * (after - before)) / before;
+/** On which side an origin is by its access before and after: it loses some or gains some, however little; it is cut off
+    where it had some and has none now, and newly reached where it had none. */
+function sideOf(before, after) {
+  return { lose: after < before, gain: after > before, cut: after < before && after === 0,
+    joined: after > before && before === 0 };
 }
 
-/** The marks of changed access, and which of them an origin is in, by its access and its mark in the page. */
+/** How many origins are on which side, as maps and tables tell it. */
+function sidesTold(before, now) {
+  const sides = Array.from(now, (after, origin) => sideOf(before[origin], after));
+  const [lose, gain, cut, joined] = ["lose", "gain", "cut", "joined"].map((name) =>
+    sides.filter((side) => side[name]).length);
+  return `${told(lose)} lose${cut ? ` (${told(cut)} of them cut off)` : ""}, `
+    + `${told(gain)} gain${joined ? ` (${told(joined)} of them newly reached)` : ""}`;
+}
+
+/** The marks of changed access, and which of them an origin is in, by its access before and after. */
 function accessChangeClasses() {
   const words = {
-    unit: "%", lost: "lost", gained: "gained", gone: "cut off from half of the stops or more",
-    joined: "joined to half of its stops or more", same: `less than ${PERCENT[0]} % either way`,
-    between: (low, high) => `${low} to ${high} %`,
+    unit: "%", lost: "lost", gained: "gained", gone: "cut off: all of it lost", joined: "newly reached: none before",
+    same: `less than ${PERCENT[0]} % either way`, between: (low, high) => `${low} to ${high} %`,
   };
   const marks = [...differenceMarks(PERCENT, words), NO_ORIGIN];
   const middle = PERCENT.length + 1;
-  const classOf = (before, after, mark) => {
-    const percent = percentOf(before, after), grades = Math.sign(percent) * grade(PERCENT, Math.abs(percent));
-    return mark === 1 ? 0 : mark === 2 ? marks.length - 2 : middle + grades;
+  const classOf = (before, after) => {
+    const side = sideOf(before, after), percent = before === 0 ? 0 : (100 * (after - before)) / before;
+    const grades = Math.sign(percent) * grade(PERCENT, Math.abs(percent));
+    return side.cut ? 0 : side.joined ? marks.length - 2 : middle + grades;
   };
   return { marks, classOf };
 }

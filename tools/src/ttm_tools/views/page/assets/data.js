@@ -25,7 +25,7 @@ const numbers = {}; // what `readNumbers` has read, by the names of the parts
 
 /** Reads all that is shown before a place is chosen. */
 async function readNumbers() {
-  const kinds = { places: Int32Array, widths: Float32Array, counts: Float64Array, running: Int32Array };
+  const kinds = { places: Int32Array, widths: Float32Array, heights: Float32Array, counts: Float64Array, running: Int32Array };
   for (const name of ["columns", "origins", "rows"]) {
     kinds[name] = Int32Array;
   }
@@ -35,7 +35,6 @@ async function readNumbers() {
     }
     for (let share = 0; share < head.shares.length; share++) {
       kinds[`access-${scenario}-${share}`] = Float64Array;
-      kinds[`marks-${scenario}-${share}`] = Uint8Array;
     }
   }
   await Promise.all(Object.entries(kinds).map(async ([name, Kind]) => {
@@ -89,11 +88,6 @@ async function minutesFrom(place, scenario, share) {
 function accessOf(scenario, share, measure) {
   const begin = measure * head.origins;
   return numbers[`access-${scenario}-${share}`].subarray(begin, begin + head.origins);
-}
-
-/** For each origin 1 where it is cut off from half of what it reached, 2 where it is joined to so much, else 0. */
-function marksOf(scenario, share) {
-  return numbers[`marks-${scenario}-${share}`];
 }
 
 /** A column of counts, a number for each place. */

@@ -7,6 +7,7 @@ const REACH = 22; // pixels from a place at which a click still takes it
 const LEAST_SQUARE = 2; // pixels
 const EDGED = 2.5; // pixels, the radius above which a mark has an edge
 const DEGREE = 111195; // metres of latitude
+const MANY_LINES = 2000, FAINT = "#dcdcdc"; // pieces of lines from which on they are thin, and their colour
 const LINES = {
   running: { colour: "#b9b9b9", width: 1.1, dash: [], label: "where vehicles run" },
   taken: { colour: "#222222", width: 3.2, dash: [], label: "trips that are taken out" },
@@ -131,7 +132,8 @@ class PageMap {
     for (let place = 0; place < head.names.length; place++) {
       if (isPlaced(place)) {
         const latitude = numbers.places[2 * place] / 1e6, longitude = numbers.places[2 * place + 1] / 1e6;
-        const half = numbers.widths[place] / 2 / DEGREE, wide = half / Math.cos((latitude * Math.PI) / 180);
+        const half = numbers.heights[place] / 2 / DEGREE;
+        const wide = numbers.widths[place] / 2 / DEGREE / Math.cos((latitude * Math.PI) / 180);
         [west, east] = [Math.min(west, longitude - wide), Math.max(east, longitude + wide)];
         [south, north] = [Math.min(south, latitude - half), Math.max(north, latitude + half)];
       }
@@ -171,8 +173,8 @@ class PageMap {
     for (let place = 0; place < head.names.length; place++) {
       const east = this.points[2 * place] - x, south = this.points[2 * place + 1] - y;
       const far = east * east + south * south;
-      const half = numbers.widths[place] > 0 ? this.sideOf(place) / 2 : 0;
-      if (far < least || (half > 0 && Math.max(Math.abs(east), Math.abs(south)) <= half && found < 0)) {
+      const [wide, high] = [this.sideOf(place) / 2, this.sideOf(place, numbers.heights) / 2];
+      if (far < least || (wide > 0 && Math.abs(east) <= wide && Math.abs(south) <= high && found < 0)) {
         found = place;
         least = Math.min(far, least);
       }
@@ -180,10 +182,10 @@ class PageMap {
     return found;
   }
 
-  /** The side of a place's square on the map of zoom 0. */
-  sideOf(place) {
+  /** How wide a place's cell is, or by its heights how high, on the map of zoom 0. */
+  sideOf(place, sides = numbers.widths) {
     const latitude = (numbers.places[2 * place] / 1e6) * (Math.PI / 180);
-    return (numbers.widths[place] * 256) / (2 * Math.PI * L.CRS.EPSG3857.R * Math.cos(latitude));
+    return (sides[place] * 256) / (2 * Math.PI * L.CRS.EPSG3857.R * Math.cos(latitude));
   }
 
   paint(pen, view) {
@@ -220,9 +222,10 @@ class PageMap {
       pen.moveTo(ends[place] * view.scale - view.x, ends[place + 1] * view.scale - view.y);
       pen.lineTo(ends[place + 2] * view.scale - view.x, ends[place + 3] * view.scale - view.y);
     }
+    const many = name === "running" && ends.length > 4 * MANY_LINES; // a city's lines would hide its places
     pen.setLineDash(how.dash);
-    pen.lineWidth = how.width;
-    pen.strokeStyle = how.colour;
+    pen.lineWidth = many ? how.width / 2 : how.width;
+    pen.strokeStyle = many ? FAINT : how.colour;
     pen.stroke();
     pen.setLineDash([]);
   }
@@ -256,7 +259,8 @@ class PageMap {
     for (const place of some) {
       const [x, y] = this.at(place, view);
       if (numbers.widths[place] > 0) {
-        paintSquare(pen, mark, x, y, Math.max(this.sideOf(place) * view.scale, LEAST_SQUARE));
+        const sides = [this.sideOf(place), this.sideOf(place, numbers.heights)];
+        paintCell(pen, mark, x, y, ...sides.map((side) => Math.max(side * view.scale, LEAST_SQUARE)));
       } else {
         paintMark(pen, mark, x, y, radius * mark.size);
       }
@@ -271,10 +275,11 @@ class PageMap {
   }
 }
 
-/** A place's square with a mark of its class in it. */
-function paintSquare(pen, mark, x, y, size) {
+/** A place's cell with a mark of its class in it. */
+function paintCell(pen, mark, x, y, wide, high) {
+  const size = Math.min(wide, high);
   pen.fillStyle = mark.shape === "thin" || mark.shape === "dot" ? "#e4e4e4" : mark.colour;
-  pen.fillRect(x - size / 2, y - size / 2, size, size);
+  pen.fillRect(x - wide / 2, y - high / 2, wide, high);
   if (size >= 9 && mark.shape !== "circle" && mark.shape !== "dot") {
     const colour = mark.shape === "cross" ? "#ffffff" : mark.shape === "thin" ? "#8a8a8a" : "#333333";
     paintMark(pen, { ...mark, colour, inside: true }, x, y, size * 0.22);

@@ -131,7 +131,7 @@ function showAccess() {
   const { number, words } = chosenMeasure();
   const now = accessOf(state.scenario, state.share, number);
   const before = state.difference ? accessOf(0, state.share, number) : null;
-  showAccessTold(words, now, before, marksOf(state.scenario, state.share));
+  showAccessTold(words, now, before);
   showPlaceAccess(state.place, words, now, before);
   element("losers-part").hidden = before === null;
   if (before === null) {
@@ -144,11 +144,11 @@ function showAccess() {
 }
 
 function showAccessChange(words, now, before) {
-  const { marks, classOf } = accessChangeClasses(), changes = marksOf(state.scenario, state.share);
+  const { marks, classOf } = accessChangeClasses();
   const colourOf = (value) => (value < 0 ? LOST[4][2] : value > 0 ? GAINED[4][2] : "#d8d8d8");
   showHistogram(words, Array.from(now, (access, origin) => access - before[origin]), state.weight, colourOf);
   showLosers(now, before, choose);
-  const classes = Array.from(now, (access, origin) => classOf(before[origin], access, changes[origin]));
+  const classes = Array.from(now, (access, origin) => classOf(before[origin], access));
   showOnMap("Change of access", classesOfOrigins(classes, marks.length - 1), marks, null);
 }
 
@@ -227,14 +227,16 @@ function readAddress() {
   };
   const minutes = Math.round(Number(words.get("minutes"))), names = head.measures.map((measure) => measure.of);
   const views = ["times", "access"];
-  state.view = views[place(views, "view", Number(several))];
+  state.view = views[place(views, "view", 1)]; // before a place is chosen, access alone has something to show
   state.scenario = place(head.scenarios, "scenario", Number(several));
   state.difference = state.scenario > 0 && words.get("difference") !== "0";
   state.share = place(head.shares.map(String), "share", Math.floor((head.shares.length - 1) / 2));
   state.place = place(head.identifiers, "from", -1);
   state.minutes = minutes >= 1 && minutes <= MOST_MINUTES ? minutes : head.minutes;
   state.of = names[place(names, "of", 0)];
-  state.within = Math.max(0, Math.round(Number(words.get("within"))) || 0);
+  const limits = head.measures.filter((it) => it.of === state.of).map((it) => it.seconds);
+  const first = Math.max(0, limits.indexOf(60 * head.minutes));
+  state.within = words.has("within") ? Math.max(0, Math.round(Number(words.get("within"))) || 0) : first;
 }
 
 /** Options of a list, with their numbers as values. */

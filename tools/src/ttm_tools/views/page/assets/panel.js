@@ -168,7 +168,7 @@ function showAll(now, before) {
     ...(more > 0 ? [line(`${places(more)} more: find them by name, or on the map`, [])] : []));
 }
 
-function showAccessTold(words, now, before, marks) {
+function showAccessTold(words, now, before) {
   element("heading").textContent = `Access: ${words.of} within ${words.within}`;
   if (before === null) {
     const sorted = Float64Array.from(now).sort(), half = sorted[Math.floor((sorted.length - 1) / 2)];
@@ -176,14 +176,8 @@ function showAccessTold(words, now, before, marks) {
       + `${words.short} are reached, at most ${told(sorted[sorted.length - 1])}.`;
     return;
   }
-  let [lose, gain, cut] = [0, 0, 0];
-  now.forEach((after, origin) => {
-    lose += after < before[origin];
-    gain += after > before[origin];
-    cut += marks[origin] === 1;
-  });
   element("told").textContent = `${words.scenario} beside ${head.scenarios[0]}: of ${places(now.length)} `
-    + `${told(lose)} lose, ${told(gain)} gain; ${told(cut)} are cut off from half of what they reached.`;
+    + `${sidesTold(before, now)}.`;
 }
 
 /** Access before and after, its change, and that in percent. */

@@ -1,0 +1,87 @@
+"""The public functions of the crates, and which of them a test or a planted bug names; and whether each planted bug can
+be planted: `rt ci` passes over one that can't.
+
+An edit's name has its function's. A test names what it is of in the first line of its doc comment, as `Type::function`
+or `function`. It goes by the layout of `rt fmt`.
+"""
+
+from __future__ import annotations
+
+import re
+from collections.abc import Iterator
+from pathlib import Path
+
+import repository
+from edits import Edit
+
+WITHOUT = re.compile(r"_tests$|_trials$|^measure$")  # crates that promise nothing
+FUNCTION = re.compile(r"( *)(pub )?(?:(?:const|unsafe|final) )*fn (\w+)")
+IMPL = re.compile(r"impl\b(?:<.*?>(?= \w))? ?(?:[\w:]+(?:<.*>)? (for) )?(\w+)")
+TEST = re.compile(r"((?:[ \t]*///.*\n)*)(?:[ \t]*#\[.*\]\n)*[ \t]*#\[test\]\n")
+NAME = re.compile(r"`((?:\w+::)?\w+)`")
+LAWS = "laws"  # modules whose functions have nothing but a contract, which is a theorem
+NOTHING = {"known", "none"}  # they show an invariant, and make what stands before anything is read
+
+
+def functions_of(root: Path, crate: str) -> Iterator[tuple[str, str]]:
+    """Each public function that computes something, as its module and `Type::function` or `function`. What a trait asks
+    for is named where it is called by the trait.
+    """
+    folder = root / "crates" / crate / "src"
+    shown = shown_by(folder)
+    for file in repository.files_of(folder):
+        module = file.stem
+        if file.suffix != ".rt" or file.name in repository.test_modules(folder) or module == LAWS:
+            continue
+        owner, of_trait = "", False
+        lines = iter([it for it in file.read_text().splitlines() if not it.strip().startswith("//")])
+        for line in lines:
+            made = IMPL.match(line)
+            if line == "}" or made:
+                owner, of_trait = (made[2], bool(made[1])) if made else ("", False)
+            found = FUNCTION.match(line)
+            if not found:
+                continue
+            head = repository.head_of(line, lines, found[1])
+            if found[2] and not of_trait and (owner or found[3]) in shown and found[3] not in NOTHING:
+                if not head[-1].endswith("{}"):
+                    yield module, f"{owner}::{found[3]}" if owner else found[3]
+
+
+def shown_by(folder: Path) -> set[str]:
+    """The names that a crate's root shows to other crates."""
+    texts = [(folder / it).read_text() for it in ("lib.rt", "main.rt") if (folder / it).is_file()]
+    used = [re.findall(r"\w+", it) for text in texts for it in re.findall(r"(?m)^pub use ([^;]+);", text)]
+    return {name for names in used for name in names}.union(*(re.findall(r"(?m)^pub fn (\w+)", it) for it in texts))
+
+
+def named_by_tests(root: Path, crates: repository.Crates) -> set[str]:
+    """The names in the first lines of the doc comments of all tests."""
+    files = [it for crate in crates for it in repository.files_of(root / "crates" / crate / "src")]
+    firsts = [it.split("\n")[0] for file in files if file.suffix == ".rt" for it in TEST.findall(file.read_text())]
+    return {name for line in firsts for name in NAME.findall(line)}
+
+
+def can_be_planted(path: Path) -> bool:
+    """Whether each text that an edit replaces stands in its file once, when those before it are replaced."""
+    edit = Edit(path)
+    crate = path.parent.parent
+    files = {file for file, _, _ in edit.replacements}
+    texts = {file: (crate / file).read_text() for file in files if (crate / file).is_file()}
+    return bool(edit.replacements) and len(texts) == len(files) and edit.applied(texts.__getitem__) is not None
+
+
+def judged(root: Path) -> Iterator[tuple[str, bool]]:
+    """Each public function, and whether something names it; and each test, whether it names one."""
+    crates = repository.crates_of(root)
+    tests = named_by_tests(root, crates)
+    for crate in crates:
+        if WITHOUT.search(crate):
+            continue
+        paths = repository.edits_of(root, crate) + repository.edits_of(root, crate, "planted")
+        edits = {tuple(it.name.split(".")[:2]) for it in paths}
+        for path in paths:
+            yield f"{crate}: what {path.parent.name}/{path.name} replaces isn't there once", can_be_planted(path)
+        for module, name in functions_of(root, crate):
+            known = name in tests or (module, name.split("::")[-1]) in edits
+            yield f"{crate}: no test and no planted bug names {name}", known

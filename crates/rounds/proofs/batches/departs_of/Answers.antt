@@ -1,0 +1,69 @@
+use Rattle.std.proofs.Common.{◌≡◌, ◌≢◌, ℕ, ◌+◌, ◌*◌, ◌<◌, inl, inr, slice_index, sym, ◌∙◌, subst}
+use Rattle.std.proofs.Common.{arith}
+use Rattle.std.proofs.lemmas.Bool.{cases_lt}
+use Rattle.useful_minutes.proofs.Planning.{no_sooner}
+use Rattle.rounds.specs.Batches.{IsSearchedAt}
+use Rattle.rounds.proofs.batches.departs_of.Goals as goal
+use Rattle.rounds.proofs.batches.departs_of.Goals.{then-from-l, else-from-l}
+
+pub overflow_sub-time : goal.overflow_sub-time
+overflow_sub-time g c =
+    let q = c.args.query in
+    let s = no_sooner q.window.minutes q.searched.now c.requires.asked.searched c.args.from c.loop-l.l c.if-from-l.true
+    in
+    omega (arith, s.0, c.requires.base)
+
+pub alight-departs-requires-clause-arrive : goal.alight-departs-requires-clause-arrive
+alight-departs-requires-clause-arrive g c =
+    let q = c.args.query in
+    let s = no_sooner q.window.minutes q.searched.now c.requires.asked.searched c.args.from c.loop-l.l c.if-from-l.true
+    in
+    omega (arith, s.0, s.1, c.requires.base, c.requires.near, c.loop-l-test.true, c.LANES-lanes.ensures)
+
+pub loop-l-preserved : goal.loop-l-preserved
+loop-l-preserved g c =
+    let q = c.args.query in
+    let lanes = g.R.Row.LANES in
+    let labels = g.R.Row.labels in
+    let old = c.loop-l.invariant in
+    let l = c.loop-l.l in
+    let here : l < lanes = omega (arith, c.loop-l-test.true, c.LANES-lanes.ensures) in
+    let number : (k : ℕ) → k < lanes → slice_index (labels c.minutely-numbers.result) k ≡ 60 * k =
+    λ k h. (let e = (c.minutely-numbers.ensures k h).live (omega (arith, h, c.LANES-lanes.ensures)) in
+    omega (arith, e)) in
+    elim c.if-from-l.branch [
+      | then-from-l w ↦
+          let s = no_sooner q.window.minutes q.searched.now c.requires.asked.searched c.args.from l w.if-from-l.true in
+          let told = w.alight-departs.ensures in
+          let same : (k : ℕ) → k < lanes → k ≢ l →
+          slice_index (labels w.alight-departs.result) k ≡ slice_index (labels c.loop-l.departs) k =
+          λ k h ne. told.others k h (λ e. let n = number k h in ne (omega (arith, e, n))) in
+          rw w.departs-is (record {
+            done = λ k below h. elim (cases_lt k l) [
+              | inl lt ↦ subst (λ (x : ℕ). IsSearchedAt q.window q.searched.now c.args.base g.R.Row.NEVER (c.args.from
+                  + k) x) (sym (same k h (λ e. omega (arith, e, lt)))) (old.done k lt h)
+              | inr ge ↦
+                  let e : l ≡ k = omega (arith, ge, below) in
+                  let is = told.rides l here (number l here) in
+                  subst (λ (j : ℕ). IsSearchedAt q.window q.searched.now c.args.base g.R.Row.NEVER (c.args.from + j)
+                  (slice_index (labels w.alight-departs.result) j)) e (record {
+                    live = λ _. omega (arith, is, s.0, c.requires.base);
+                    dead = λ past. absurd (omega (arith, past, w.if-from-l.true));
+                  })
+            ];
+            rest = λ k from h. same k h (λ e. omega (arith, e, from)) ∙ old.rest k (omega (arith, from)) h;
+          })
+      | else-from-l w ↦
+          rw w.departs-is (record {
+            done = λ k below h. elim (cases_lt k l) [
+              | inl lt ↦ old.done k lt h
+              | inr ge ↦
+                  let e : l ≡ k = omega (arith, ge, below) in
+                  record {
+                    live = λ some. absurd (omega (arith, some, w.if-from-l.false, e));
+                    dead = λ _. old.rest k (omega (arith, e)) h;
+                  }
+            ];
+            rest = λ k from h. old.rest k (omega (arith, from)) h;
+          })
+    ]

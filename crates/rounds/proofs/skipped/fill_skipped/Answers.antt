@@ -1,0 +1,88 @@
+use Rattle.std.proofs.Common.{◌≡◌, ℕ, ◌-◌, ◌*◌, inl, inr, length, slice_index, sym}
+use Rattle.std.proofs.Common.{◌∙◌, ap}
+use Rattle.std.proofs.Common.{arith}
+use Rattle.std.proofs.lemmas.Bool.{cases_lt}
+use Rattle.std.proofs.lemmas.List.{get_or_default}
+use Rattle.useful_minutes.proofs.Planning.{few_searched}
+use Rattle.rounds.specs.Table.{batches_of, label_of}
+use Rattle.rounds.specs.Window.{departure}
+use Rattle.rounds.proofs.Skipping.{filled_in}
+use Rattle.rounds.proofs.skipped.fill_skipped.Goals as goal
+
+pub fill_in-requires-clause-rows : goal.fill_in-requires-clause-rows
+fill_in-requires-clause-rows c =
+    let e = ap length c.as_mut_slice-room.ensures.value in (
+      batches_of c.args.query.window.minutes,
+      omega (arith, e, c.in_ok-near.ensures.len, c.in_ok-near.near.ok.0),
+      c.requires.packed.size ∙ ap (λ (x : ℕ). x * batches_of c.args.query.window.minutes) (sym c.stops-stops.ensures),
+    )
+
+pub fill_in-requires-clause-positions : goal.fill_in-requires-clause-positions
+fill_in-requires-clause-positions c =
+    let e = ap length c.as_mut_slice-room.ensures.value in
+    omega (arith, e, c.in_ok-near.ensures.len, c.in_ok-near.near.ok.0, c.requires.plan.long)
+
+pub fill_in-requires-clause-waits : goal.fill_in-requires-clause-waits
+fill_in-requires-clause-waits c =
+    let e = ap length c.as_mut_slice-room.ensures.value in
+    omega (arith, e, c.in_ok-near.ensures.len, c.in_ok-near.near.ok.0, c.requires.plan.too)
+
+pub fill_in-requires-clause-within : goal.fill_in-requires-clause-within
+fill_in-requires-clause-within c k d l =
+    let e = ap length c.as_mut_slice-room.ensures.value in
+    let q = c.args.query in
+    let plan = c.requires.plan in
+    let positions = c.args.positions.now in
+    let few = few_searched q.window.minutes q.searched.now plan.are in
+    let same = get_or_default positions k d 0 l in
+    let room : 16 * batches_of q.window.minutes ≡ length c.as_mut_slice-room.result.now =
+    omega (arith, e, c.in_ok-near.ensures.len, c.in_ok-near.near.ok.0) in
+    elim (cases_lt k q.window.minutes) [
+      | inl lt ↦
+          let s = (plan.each k lt).within in
+          omega (arith, same, s, few, room)
+      | inr ge ↦
+          let s = plan.past k ge (omega (arith, l, plan.long)) in
+          omega (arith, same, s, l, plan.long, room)
+    ]
+
+pub returns : goal.returns
+returns c =
+    let q = c.args.query in
+    let n = q.network.now in
+    let w = q.window in
+    let plan = c.requires.plan in
+    let packed = c.requires.packed in
+    let positions = c.args.positions.now in
+    let searched = q.searched.now in
+    let rows = batches_of w.minutes in
+    let e = ap length c.as_mut_slice-room.ensures.value in
+    let room : length c.as_mut_slice-room.result.now ≡ 16 * rows =
+    omega (arith, e, c.in_ok-near.ensures.len, c.in_ok-near.near.ok.0) in
+    let filled = c.fill_in.ensures in
+    let walked = c.walk_alone.ensures in
+    let stops : c.stops-stops.result ≡ n.stops = c.stops-stops.ensures in
+    let few = few_searched w.minutes searched plan.are in
+    record {
+      size = walked.same ∙ (filled.same ∙ packed.size);
+      each = λ p m there l.
+          let s = plan.each m l in
+          let j = slice_index positions m in
+          let label = filled.filled rows p m room (omega (arith, there, stops)) (omega (arith, l, room)) in
+          let wait : slice_index c.args.waits.now m ≡ departure w (slice_index searched j) - departure w m =
+          let waits = s.waits in let up = s.no_earlier in omega (arith, waits, up) in
+          let up = s.no_earlier in
+          filled_in n q.origin.0 (departure w m) (departure w (slice_index searched j)) (omega (arith, up))
+          (c.requires.skips m l) c.known.ensures c.requires.asked.origin
+          (c.requires.asked.fits.on_axis (slice_index searched j) (plan.are.within j s.within)) q.rides p
+          (label_of w.minutes c.args.labels.now p j) (slice_index c.args.waits.now m)
+          (label_of w.minutes c.fill_in.new.labels p m) (label_of w.minutes c.walk_alone.new.labels p m)
+          (packed.each p j there s.within) wait label (walked.walked p m there l);
+      dead = λ p m there past l.
+          let kept = walked.kept p m there past l in
+          let label = filled.filled rows p m room (omega (arith, there, stops)) (omega (arith, l, room)) in
+          let itself = plan.past m past l in
+          let none = packed.dead p m there (omega (arith, few, past)) l in
+          let same = ap (λ (x : ℕ). label_of w.minutes c.args.labels.now p x) itself in
+          omega (arith, kept, label, same, none);
+    }

@@ -1,0 +1,70 @@
+//! The minutes of a window that aren't searched: which they are, and their durations.
+ghost use Rattle.std.specs.Prelude.{◌≡◌, ◌*◌, ◌<◌, IfOk, OnOk};
+ghost use Rattle.useful_minutes.specs.Plan.{IsPlan, SkipsNothing};
+ghost use Rattle.trip_lanes.specs.declared.lanes.TheConstants.{LANES};
+ghost use Rattle.rounds.specs.Batches.{AreLabels, ArePacked};
+ghost use Rattle.rounds.specs.Query.{IsAsked};
+ghost use Rattle.rounds.specs.Table.{batches_of};
+ghost use Rattle.rounds.specs.Window.{Fits};
+
+use crate::query::Query;
+use crate::window::Window;
+use std::alloc::{AllocError, Global};
+use timetable::{NEVER, Network, StopNo};
+use trip_lanes::{LANES, Lanes};
+use useful_minutes::{Plan, fill_in, plan_for, walk_alone};
+
+/// Which minutes of a window are searched from an origin, and which of them stands in for each minute.
+pub(crate) fn plan_of(
+    alloc: Global,
+    network: &Network,
+    origin: StopNo,
+    window: Window,
+) -> Result<Plan, AllocError>
+    requires origin { origin.0 < network.now.stops }
+    requires fits { Fits window }
+    ensures plan { IfOk result (λ plan. IsPlan window.minutes (LANES * batches_of window.minutes) plan.minutes.items
+        plan.positions.items plan.waits.items) }
+    ensures skips { IfOk result (λ plan. SkipsNothing network.now origin.0 window.first window.minutes
+        plan.minutes.items plan.positions.items) }
+{
+    let batches = (window.minutes as usize + (LANES - 1)) / LANES;
+    plan_for(
+        alloc,
+        network,
+        origin,
+        window.first,
+        window.minutes,
+        (LANES * batches) as u32,
+    )
+}
+
+/// Fills in the durations of all minutes of a window, where those of the searched minutes stand first: each is that of
+/// the minute that stands in for it and the wait until then, or that of a walk alone. Out of memory is the only error.
+pub(crate) fn fill_skipped(
+    alloc: Global,
+    query: Query<'_>,
+    positions: &[u32],
+    waits: &[u32],
+    labels: &mut [Lanes],
+) -> Result<(), AllocError>
+    requires asked { IsAsked query }
+    requires plan { IsPlan query.window.minutes (LANES * batches_of query.window.minutes) query.searched.now
+        positions.now waits.now }
+    requires skips { SkipsNothing query.network.now query.origin.0 query.window.first query.window.minutes
+        query.searched.now positions.now }
+    requires packed { ArePacked query.network.now query.origin.0 query.window query.rides query.searched.now
+        labels.old }
+    ensures { OnOk result (AreLabels query.entry.network.now query.entry.origin.0 query.entry.window
+        query.entry.rides labels.new) }
+{
+    query.network.known();
+    let minutes = query.window.minutes as usize;
+    let batches = (minutes + (LANES - 1)) / LANES;
+    let mut near = vec![in alloc; NEVER; LANES * batches]?;
+    let room = near.as_mut_slice();
+    let stops = query.network.stops() as usize;
+    fill_in(labels, room, positions, waits, stops);
+    walk_alone(labels, query.network, query.origin, batches, minutes);
+    Ok(())
+}

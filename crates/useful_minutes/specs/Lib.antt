@@ -1,0 +1,4 @@
+pub mod Boarding
+pub mod Marks
+pub mod Plan
+pub mod Waits

@@ -1,0 +1,133 @@
+//! Which minutes of a window are searched.
+ghost use Rattle.std.specs.Prelude.{◌≡◌, ℕ, ◌<◌, ◌≤◌, length, IfOk, OnOk};
+ghost use Rattle.useful_minutes.specs.Plan.{AreMinutes, HasMarked, AreStandIns, ArePadded, IsPlan, SkipsNothing};
+ghost use Rattle.timetable.specs.declared.limits.TheConstants.{END_OF_AXIS};
+
+use crate::marks::mark_useful;
+use std::alloc::{AllocError, Global};
+use timetable::{Network, StopNo};
+
+/// How many minutes lie between one searched minute and the next at most: so a batch of them spans some hours only,
+/// and narrow labels keep most of their reach.
+pub const MOST_GAP: u32 = 8;
+
+/// The minutes to search: those that are marked, the last, and one wherever the next would be too far away.
+fn minutes_of(alloc: Global, marks: &[bool]) -> Result<Vec<u32>, AllocError>
+    requires some { 0 < length marks.now }
+    requires few { length marks.now ≤ 1440 }
+    ensures minutes { IfOk result (λ searched. AreMinutes (length marks.now) searched.items) }
+    ensures marked { IfOk result (λ searched. HasMarked marks.now searched.items) }
+{
+    let mut searched = Vec::new(alloc);
+    let mut next = MOST_GAP;
+    for m in 0..marks.len() {
+        if marks[m] || m + 1 == marks.len() || next <= m as u32 {
+            searched.push(m as u32)?;
+            next = m as u32 + MOST_GAP;
+        }
+    }
+    Ok(searched)
+}
+
+/// Which searched minute stands in for each minute of a window, and how long one waits for it.
+fn stand_ins(
+    alloc: Global,
+    searched: &[u32],
+    minutes: u32,
+) -> Result<(Vec<u32>, Vec<u32>), AllocError>
+    requires minutes { AreMinutes minutes searched.now }
+    requires few { minutes ≤ 1440 }
+    ensures { IfOk result (λ found. AreStandIns minutes searched.now found.0.items found.1.items) }
+{
+    let mut positions = Vec::new(alloc);
+    let mut waits = Vec::new(alloc);
+    let mut at = 0;
+    for m in 0..minutes {
+        if searched[at] < m {
+            at += 1;
+        }
+        positions.push(at as u32)?;
+        waits.push(60 * (searched[at] - m))?;
+    }
+    Ok((positions, waits))
+}
+
+/// Appends each position from a minute on, with no wait: lanes past the window stand in for themselves.
+fn pad(
+    positions: &mut Vec<u32>,
+    waits: &mut Vec<u32>,
+    minutes: u32,
+    lanes: u32,
+) -> Result<(), AllocError>
+    requires positions { length positions.old.items ≡ minutes }
+    requires waits { length waits.old.items ≡ minutes }
+    requires lanes { minutes ≤ lanes }
+    ensures { OnOk result (ArePadded minutes lanes positions.old.items waits.old.items positions.new.items
+        waits.new.items) }
+{
+    for m in minutes..lanes {
+        positions.push(m)?;
+        waits.push(0)?;
+    }
+    Ok(())
+}
+
+/// What is searched of a window.
+#[derive(Drop)]
+pub struct Plan {
+    /// The minutes to search, in ascending order; the window's last is one of them.
+    pub minutes: Vec<u32>,
+    /// For each minute of the window, the position among these of the first that is no earlier.
+    pub positions: Vec<u32>,
+    /// How many seconds each minute waits for it.
+    pub waits: Vec<u32>,
+}
+
+/// The plan for the minutes that are marked. It has positions for so many lanes: those past the window stand in for
+/// themselves.
+fn plan_of(alloc: Global, marks: &[bool], lanes: u32) -> Result<Plan, AllocError>
+    requires some { 0 < length marks.now }
+    requires few { length marks.now ≤ 1440 }
+    requires lanes { length marks.now ≤ lanes }
+    ensures plan { IfOk result (λ plan. IsPlan (length marks.now) lanes plan.minutes.items plan.positions.items
+        plan.waits.items) }
+    ensures marked { IfOk result (λ plan. HasMarked marks.now plan.minutes.items) }
+{
+    let minutes = minutes_of(alloc, marks)?;
+    let found = stand_ins(alloc, &minutes, marks.len() as u32)?;
+    let mut positions = found.0;
+    let mut waits = found.1;
+    pad(&mut positions, &mut waits, marks.len() as u32, lanes)?;
+    Ok(Plan {
+        minutes,
+        positions,
+        waits,
+    })
+}
+
+/// Which minutes of a window are searched from an origin, where the window begins at a second. There are positions for
+/// so many lanes. Out of memory is the only error.
+pub fn plan_for(
+    alloc: Global,
+    network: &Network,
+    origin: StopNo,
+    first: u32,
+    minutes: u32,
+    lanes: u32,
+) -> Result<Plan, AllocError>
+    requires origin { origin.0 < network.now.stops }
+    requires first { first < END_OF_AXIS }
+    requires some { 0 < minutes }
+    requires few { minutes ≤ 1440 }
+    requires lanes { minutes ≤ lanes }
+    ensures plan { IfOk result (λ plan. IsPlan minutes lanes plan.minutes.items plan.positions.items
+        plan.waits.items) }
+    ensures skips { IfOk result (λ plan. SkipsNothing network.now origin.0 first minutes plan.minutes.items
+        plan.positions.items) }
+{
+    let mut marks = vec![in alloc; false; minutes as usize]?;
+    let useful = marks.as_mut_slice();
+    mark_useful(network, origin, first, useful);
+    let plan = plan_of(alloc, useful, lanes)?;
+    Ok(plan)
+}

@@ -1,0 +1,43 @@
+"""Hostile use of the built program (bench/hostile.py): whatever the system refuses, the answer is the whole right text,
+or a line and the status that belong to what was refused.
+"""
+
+from __future__ import annotations
+
+from pathlib import Path
+
+import pytest
+
+import hostile
+
+
+@pytest.fixture
+def trial(one_build: str, tmp_path: Path) -> hostile.Trial:
+    return hostile.Trial(one_build, str(tmp_path))
+
+
+@pytest.mark.parametrize("what", hostile.TOLD)
+@pytest.mark.parametrize("study", range(len(hostile.STUDIES)))
+def test_each_call_refused_in_turn(trial: hostile.Trial, study: int, what: str) -> None:
+    refused = trial.refuse_each(hostile.STUDIES[study].split(), what)
+    assert refused > 0 or what == "start"
+    assert trial.failed == 0
+
+
+@pytest.mark.parametrize("what", ["read", "write"])
+@pytest.mark.parametrize("study", range(len(hostile.STUDIES)))
+def test_one_byte_at_a_time(trial: hostile.Trial, study: int, what: str) -> None:
+    assert trial.refuse_each(hostile.STUDIES[study].split(), what, slow=True) > 0
+    assert trial.failed == 0
+
+
+def test_each_file_cut_short_after_every_byte(trial: hostile.Trial) -> None:
+    tried, accepted = trial.cut_each(hostile.STUDIES[2].split())
+    assert 0 < accepted < tried
+    assert trial.failed == 0
+
+
+def test_each_call_that_takes_memory_refused_each_growth(trial: hostile.Trial, trials: Path) -> None:
+    trial.refuse_calls(str(trials))
+    assert trial.passed > 0
+    assert trial.failed == 0

@@ -1,0 +1,147 @@
+"""The built program as a user runs it, with arguments that name folders and files: both outputs and the exit status
+are compared byte for byte.
+"""
+
+from __future__ import annotations
+
+import os
+import re
+import subprocess
+import tempfile
+import threading
+import tty
+from pathlib import Path
+
+import pytest
+
+from run_cases import ASKED, FEED, HOUR, OWN_WORDS, REFUSED, REPORTS, RUNS, VARYING, Report, Run, Text
+from running import SECONDS, Left, Words, in_a_room, left_by, start
+
+README = Path(__file__).resolve().parents[2] / "README.md"
+TOOLCHAIN = re.compile(r"    (rattle-kit-\S+ logic (\S+))\n")
+FEW = 6  # files that may be open at once: three are before the first is read
+NO_OPTION = """error: unexpected argument '--nothing' found
+
+  tip: a similar argument exists: '--within'
+
+Usage: ttm --feed <DIR> --date <YYYYMMDD> --from <HH:MM> --to <HH:MM> --trips <K> --walk <S> --share <P> --within <S> \
+--workers <N> --tries <N> [SCENARIO]...
+
+For more information, try '--help'.
+"""
+
+# The line that moves on a terminal; the next one covers it, and the last one is ended.
+MOVING = re.compile(r"(ttm: rows done: \d+ of \d+, \d+ percent(?:, about \d+:\d\d:\d\d left)?) *\r")
+MOVED = re.compile(rf"(?:{MOVING.pattern})+\n")
+
+
+@pytest.mark.parametrize("run", RUNS + REFUSED, ids=lambda run: run.name)
+def test_run(program: str, run: Run) -> None:
+    """What a run leaves; with a report that is told besides, and nothing else differs."""
+    was = left_by(program, run.words.split(), run.changes)
+    assert was == (run.out, run.err, run.status)
+    if run.words:
+        out, err, status = left_by(program, [*run.words.split(), "--report"], run.changes)
+        assert (out, status) == (was[0], was[2])
+        assert was[1] in err and (len(err) > len(was[1]) or status != 0)
+
+
+def steady(told: str) -> str:
+    """What a report tells, without what varies from run to run."""
+    for varies, stays in VARYING:
+        told = varies.sub(stays, told)
+    return told
+
+
+@pytest.mark.parametrize("report", REPORTS, ids=lambda report: report.name)
+def test_report(program: str, report: Report) -> None:
+    """What a report tells; all else is as without one."""
+    out, err, status = left_by(program, [*report.words.split(), "--report"])
+    plain = left_by(program, report.words.split())
+    assert (out, steady(err), status) == (plain[0], report.told, plain[2])
+
+
+def test_a_matrix_that_cannot_be_written_is_told(program: str) -> None:
+    with open("/dev/full", "wb") as full:
+        assert left_by(program, [], stdout=full) == ("", "ttm: write fault\n", 5)
+
+
+def test_a_matrix_that_nobody_reads_is_told(program: str) -> None:
+    reader, writer = os.pipe()
+    os.close(reader)
+    try:
+        assert left_by(program, [], stdout=writer) == ("", "ttm: write fault\n", 5)
+    finally:
+        os.close(writer)
+
+
+def test_help_is_a_success_on_the_standard_output_alone(program: str) -> None:
+    out, err, status = left_by(program, ["--help"])
+    first = "Travel time matrices over a GTFS feed, for a base network and for scenarios."
+    assert (out.splitlines()[:1], err, status) == ([first], "", 0)
+
+
+def test_the_version_names_the_toolchain_that_readme_does_of_the_logic_at_hand(program: str) -> None:
+    found = TOOLCHAIN.search(README.read_text())
+    assert found, "README.md names no toolchain"
+    named, logic = found.groups()
+    at_hand = subprocess.run(["rt", "version"], stdout=subprocess.PIPE, text=True, check=True).stdout.split()[-1]
+    told = left_by(program, ["--version"])
+    assert (*told, at_hand) == (f"ttm 2.0.0\nproved with {named}\n", "", 0, logic)
+
+
+def test_wrong_arguments_are_told_with_the_name_that_the_program_was_called_by(program: str) -> None:
+    called = NO_OPTION.replace("Usage: ttm ", f"Usage: {os.path.basename(program)} ")
+    assert left_by(program, ["--nothing"]) == ("", called, 2)
+
+
+def test_a_file_that_was_read_is_closed(program: str) -> None:
+    """More are read than may be open at once."""
+    words = f"--feed feed {ASKED} 300 {OWN_WORDS} --destinations b.csv cut.csv late.csv".split()
+    limited = ["-c", f'ulimit -n {FEW}; exec "$0" "$@"', program, *words]
+    wanted = "scenario,origin,share,access_1800,B\n" + "".join(
+        f"{scenario},C,50,15,120\n{scenario},A,50,{access},{to_b}\n"
+        for scenario, access, to_b in (("base", 15, 600), ("cut", 10, 600), ("late", 15, 900))
+    )
+    assert left_by("/bin/sh", limited) == (wanted, "", 0)
+
+
+def test_arguments_that_are_no_utf_8_are_told(program: str) -> None:
+    assert left_by(program, [b"--feed", b"\xff"]) == ("", "ttm: words that are not UTF-8\n", 2)
+
+
+def on_terminal(program: str, words: Words, room: Path) -> Left:
+    """What a run leaves whose standard error is a terminal, which changes nothing of what it is sent."""
+    reader, terminal = os.openpty()
+    tty.setraw(terminal)
+    told = b""
+    with os.fdopen(reader, "rb", buffering=0) as sent, tempfile.TemporaryFile() as out:
+        started = start(program, words, room, stdout=out, stderr=terminal)
+        os.close(terminal)
+        limit = threading.Timer(SECONDS, started.kill)
+        limit.start()
+        try:
+            while more := sent.read(1 << 16):
+                told += more
+        except OSError:
+            pass  # so a terminal says that nobody writes any more
+        status = started.wait()
+        limit.cancel()
+        out.seek(0)
+        return out.read().decode(errors="replace"), told.decode(errors="replace"), status
+
+
+def test_on_a_terminal_a_line_moves_until_the_rows_are_done(program: str) -> None:
+    """Each line is at least as long as the text that it covers, and all else is told as elsewhere."""
+    words = f"--feed feed {HOUR} --report".split()
+    for more in (1 << it for it in range(6, 13)):
+        stops = Text("feed/stops.txt", FEED["stops.txt"] + "".join(f"{it},\n" for it in range(more)))
+        out, told, status = in_a_room([stops], lambda room: on_terminal(program, words, room))
+        moved = list(MOVING.finditer(told))
+        # it moves by the clock: where the rows were done too soon to see that, there are twice as many
+        if len(moved) > 1:
+            break
+    plain = left_by(program, words, [stops])
+    assert len(moved) > 1
+    assert all(len(over[0]) > len(under[1]) for under, over in zip(moved, moved[1:]))
+    assert (out, steady(MOVED.sub("", told)), status) == (plain[0], steady(plain[1]), plain[2])

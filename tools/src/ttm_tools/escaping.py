@@ -1,0 +1,28 @@
+"""Texts of people where they have no power: on a terminal, in Markdown, in HTML, in a shell's command."""
+
+import html
+import unicodedata
+
+NO_SIGNS = {"Cc", "Cf", "Zl", "Zp"}  # what Unicode calls control, format and separators of lines
+SPECIAL = "\\`*_[]|~"
+
+
+def printed(text: str) -> str:
+    """A text as a terminal shows it: `?` in place of each sign that isn't printed, as `ttm` writes it."""
+    if text.isascii() and text.isprintable():
+        return text
+    return "".join("?" if unicodedata.category(sign) in NO_SIGNS else sign for sign in text)
+
+
+def as_text(text: str) -> str:
+    """A line of Markdown in which nothing is HTML or a link, and that else is as it was written."""
+    return html.escape(printed(text), quote=False).replace("[", "\\[").replace("`", "\\`")
+
+
+def markdown(text: str) -> str:
+    """A text that Markdown shows as it is, whatever it is rendered by."""
+    made = " ".join(printed(text.replace("\n", " ").replace("\t", " ")).split())
+    made = html.escape(made, quote=False)
+    for sign in SPECIAL:
+        made = made.replace(sign, "\\" + sign)
+    return made

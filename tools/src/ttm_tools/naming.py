@@ -1,0 +1,42 @@
+"""Files that are called by people's names: short, of signs that every disk takes, and no two alike."""
+
+import hashlib
+import itertools
+import re
+from typing import Iterable, Sequence
+
+from .records import shown
+
+LONGEST = 80  # bytes of a name in a file's name
+SIGNS_OF_SUM = 8
+
+
+def file_name(name: str) -> str:
+    """A name as a file may be called; a long one is cut, and ends with some signs of its sum."""
+    made = re.sub(r"[^\w.-]", "_", shown(name)).lstrip(".") or "_"
+    written = made.encode("utf-8", "replace")
+    if len(written) <= LONGEST:
+        return made
+    return f"{written[:LONGEST].decode('utf-8', 'ignore')}_{sum_of_name(name)}"
+
+
+def sum_of_name(name: str) -> str:
+    return hashlib.sha256(name.encode("utf-8", "surrogateescape")).hexdigest()[:SIGNS_OF_SUM]
+
+
+def file_names(names: Sequence[str], ends: Sequence[str] = ("",), taken: Iterable[str] = ()) -> dict[str, str]:
+    """The names of files, such that no file of one name, with any of the ends, is called as one of another name is,
+    however a disk takes capitals.
+    """
+    used, made = {it.casefold() for it in taken}, dict[str, str]()
+    for name in names:
+        plain = file_name(name)
+        tries = itertools.chain([plain, f"{plain}_{sum_of_name(name)}"], (f"{plain}_{it}" for it in itertools.count(2)))
+        made[name] = next(it for it in tries if used.isdisjoint(f"{it}{end}".casefold() for end in ends))
+        used.update(f"{made[name]}{end}".casefold() for end in ends)
+    return made
+
+
+def told_names(names: dict[str, str]) -> list[str]:
+    """Which names files don't have as they are."""
+    return [f"files of {shown(name)} are called {file}" for name, file in names.items() if shown(name) != file]

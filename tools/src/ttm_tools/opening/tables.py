@@ -1,0 +1,38 @@
+"""Tables: in UTF-8, with lines and headers of a size that any feed has."""
+
+import csv
+import os
+from functools import lru_cache
+from pathlib import Path
+
+from ..faults import BadInput
+from .paths import regular
+
+MOST_LINE = 1 << 20  # bytes
+MOST_COLUMNS = 10_000
+UTF_16 = (b"\xff\xfe", b"\xfe\xff")
+
+csv.field_size_limit(MOST_LINE)
+
+
+def looked_at(path: str | Path) -> str | Path:
+    """A table's path, after a look at its kind, its code and the length of its lines."""
+    found = regular(path)
+    look(os.path.abspath(path), found.st_ino, found.st_size, found.st_mtime_ns, str(path))
+    return path
+
+
+@lru_cache(maxsize=64)
+def look(path: str, inode: int, size: int, changed: int, named: str) -> None:
+    """Looks at the bytes of a file, once for each state in which it is found."""
+    length = 0  # of the line that goes on
+    with open(path, "rb") as file:
+        if file.read(2) in UTF_16:
+            raise BadInput(named, "is UTF-16, and tables are UTF-8: save it as UTF-8")
+        file.seek(0)
+        while block := file.read(MOST_LINE):
+            first = min((place for place in (block.find(b"\n"), block.find(b"\r")) if place >= 0), default=-1)
+            if length + (first if first >= 0 else len(block)) > MOST_LINE:
+                raise BadInput(named, f"a line of more than {MOST_LINE:,} bytes")
+            last = max(block.rfind(b"\n"), block.rfind(b"\r"))
+            length = length + len(block) if last < 0 else len(block) - last - 1

@@ -1,0 +1,32 @@
+"""Texts of TOML and JSON that are read as a whole."""
+
+import json
+import tomllib
+from decimal import Decimal
+from pathlib import Path
+from typing import Any
+
+from .paths import as_one_line, sized
+
+MOST_TOML = 4_000_000  # bytes
+MOST_JSON = 200_000_000
+
+
+def read_text(path: str | Path, most: int, what: str) -> str:
+    sized(path, most, what)
+    with as_one_line(path, f"is no {what}"):
+        return Path(path).read_text(encoding="utf-8-sig")
+
+
+def read_toml(path: str | Path) -> tuple[str, dict[str, Any]]:
+    """The text of a TOML file, and what it says."""
+    text = read_text(path, MOST_TOML, "TOML file")
+    with as_one_line(path, "is no TOML file"):
+        return text, tomllib.loads(text, parse_float=Decimal)
+
+
+def read_json(path: str | Path, what: str) -> Any:
+    """What a file of JSON says."""
+    text = read_text(path, MOST_JSON, what)
+    with as_one_line(path, f"is no {what}"):
+        return json.loads(text)

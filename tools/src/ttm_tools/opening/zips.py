@@ -1,0 +1,76 @@
+"""Zip files: members are counted and measured before one of them is unpacked, and only what is read is unpacked."""
+
+import os
+import shutil
+import zipfile
+from collections.abc import Mapping, MutableMapping
+from pathlib import Path
+from typing import Iterable, Iterator
+
+from ..faults import BadInput
+from ..files import writing_to
+from .paths import as_one_line, regular
+
+MOST_UNPACKED = 8_000_000_000  # bytes
+BYTES_AT_ONCE = 1 << 20
+
+
+def members_of(path: Path) -> dict[str, int]:
+    """The files in a zip file, with their sizes when unpacked."""
+    regular(path)
+    with as_one_line(path, "can't be unzipped"), zipfile.ZipFile(path) as packed:
+        found = [(it.filename, it.file_size) for it in packed.infolist() if not it.is_dir()]
+    made: dict[str, int] = {}
+    for name, size in found:
+        if name in made:
+            raise BadInput(path, f"{name} is in it twice")
+        made[name] = size
+    return made
+
+
+def refuse_size(path: Path, sizes: Iterable[int], room: Path) -> None:
+    """Refuses members that have more bytes than a feed has, or than the disk takes."""
+    total, there = sum(sizes), room
+    while not there.exists():
+        there = there.parent
+    if total > MOST_UNPACKED:
+        raise BadInput(path, f"unpacked it has {total:,} bytes, and a feed at most {MOST_UNPACKED:,}")
+    free = shutil.disk_usage(there).free
+    if total > free:
+        raise BadInput(path, f"unpacked it has {total:,} bytes, and {there} has {free:,} free")
+
+
+def unpack_member(path: Path, member: str, target: Path) -> Path:
+    """Unpacks one member."""
+    target.parent.mkdir(exist_ok=True)
+    with as_one_line(path, f"{os.path.basename(member)} can't be unzipped"):
+        with zipfile.ZipFile(path) as packed, packed.open(member) as source:
+            with open(target, "wb") as file, writing_to(target):
+                shutil.copyfileobj(source, file, BYTES_AT_ONCE)
+    return target
+
+
+class Unread(MutableMapping[str, Path]):
+    """Members that nothing reads yet, by their names: each is unpacked when it is asked for."""
+
+    def __init__(self, path: Path, members: Mapping[str, str], room: Path) -> None:
+        self.path, self.members, self.room = path, dict(members), room
+        self.unpacked: dict[str, Path] = {}
+
+    def __getitem__(self, name: str) -> Path:
+        if name not in self.unpacked:
+            self.unpacked[name] = unpack_member(self.path, self.members[name], self.room / name)
+        return self.unpacked[name]
+
+    def __setitem__(self, name: str, path: Path) -> None:
+        self.members[name], self.unpacked[name] = name, path
+
+    def __delitem__(self, name: str) -> None:
+        del self.members[name]
+        self.unpacked.pop(name, None)
+
+    def __iter__(self) -> Iterator[str]:
+        return iter(self.members)
+
+    def __len__(self) -> int:
+        return len(self.members)

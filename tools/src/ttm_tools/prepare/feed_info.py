@@ -1,0 +1,32 @@
+"""The one record of feed_info.txt of several feeds."""
+
+from pathlib import Path
+from typing import Sequence
+
+import numpy as np
+
+from ..records import Column
+from .fields import date
+from .tables import Table, read_table
+
+NAME = "feed_info.txt"
+MANY = "mul"  # the language of a feed of several
+
+
+def feed_info_of(paths: Sequence[Path | None]) -> Table | None:
+    """The publishers of all feeds, the days on which all are complete, and for the rest what the first one says."""
+    tables = [read_table(NAME, path) for path in paths if path is not None]
+    records = [{name: table.text(name, 0) for name in table.columns} for table in tables if len(table)]
+    if not records:
+        return None
+    made = {name: text for record in reversed(records) for name, text in record.items()}
+    publishers = dict.fromkeys(it for record in records if (it := record.get("feed_publisher_name")))
+    made["feed_publisher_name"] = ", ".join(publishers)
+    if len({record.get("feed_lang", "") for record in records}) > 1:
+        made["feed_lang"] = MANY
+    for name, chosen in (("feed_start_date", max), ("feed_end_date", min)):
+        days = [it for record in records if date(it := record.get(name, "")) > 0]
+        if name in made:
+            made[name] = chosen(days) if days else ""
+    columns = {name: Column([text], np.zeros(1, np.int32)) for name, text in made.items()}
+    return Table(NAME, columns, np.zeros(1, np.int64))

@@ -1,0 +1,98 @@
+"""What a repair leaves of a feed beside what was there, and whether that is enough to go on with."""
+
+import datetime
+from typing import Iterator, Mapping, Sequence
+
+import numpy as np
+
+from ..faults import BadInput
+from . import likely
+from .check import check
+from .clip import on_days
+from .days import days_of, runs_by_day, runs_of_trips
+from .fields import FILES
+from .report import Change
+from .rules import repair
+from .tables import Feed
+
+MOST_LOST = 0.1  # of a file's records, that one rule may leave out
+CALENDARS = ("calendar.txt", "calendar_dates.txt")
+NEEDED = ("stops.txt", "routes.txt", "trips.txt", "stop_times.txt")
+NO_LOSS = "same"  # the rule that leaves out a record of which another one is there
+HELP = "(--allow-loss takes what is left; --check tells all)"
+NO_RUNS = "no trip runs on any day"
+
+
+def counts_of(feed: Feed) -> dict[str, int]:
+    """How many records each file has."""
+    return {name: len(feed.tables[name]) for name in FILES if name in feed.tables}
+
+
+def left(before: Mapping[str, int], feed: Feed) -> str:
+    """What is left of each file beside what was there."""
+    after = counts_of(feed)
+    return "records left: " + ", ".join(f"{name} {after[name]:,} of {count:,}" for name, count in before.items())
+
+
+def taken(changes: Sequence[Change]) -> dict[tuple[str, str], int]:
+    """How many records each rule left out of each file."""
+    made: dict[tuple[str, str], int] = {}
+    for change in changes:
+        whole = "trips.txt" if change.done.startswith("trip ") else change.file.rpartition("/")[2]
+        if change.done.endswith("left out") and change.rule != NO_LOSS:
+            made[change.rule, whole] = made.get((change.rule, whole), 0) + 1
+    return made
+
+
+def losses(before: Mapping[str, int], changes: Sequence[Change], feed: Feed) -> Iterator[str]:
+    """Why what a repair leaves isn't the feed any more: a file that is empty, or a rule that took a lot of one."""
+    for (rule, name), count in taken(changes).items():
+        if count > MOST_LOST * before[name]:
+            yield f"rule {rule} takes {count:,} of {before[name]:,} records of {name}"
+    for name in NEEDED:
+        if not len(feed.get(name)):
+            yield f"{name} has no records"
+    if not any(len(feed.get(name)) for name in CALENDARS):
+        yield f"{' and '.join(CALENDARS)} have no records"
+
+
+def no_runs(feed: Feed, day: datetime.date | None = None) -> str | None:
+    """What is told where no trip runs: on a day, or on any."""
+    days = days_of(feed)
+    busy = np.flatnonzero(runs_by_day(feed, days)).tolist()
+    if day is None:
+        return None if busy else NO_RUNS
+    if (on_days(feed, [day]) & (runs_of_trips(feed) > 0)).any():
+        return None
+    return f"no trip runs on {day}, " + (
+        f"but from {days.day(busy[0])} to {days.day(busy[-1])}" if busy else "or any day"
+    )
+
+
+def told(feed: Feed, has_faults: bool) -> Iterator[str]:
+    """What is told of a feed beside its faults; where it has some, the feed is mended, and its days are those that this
+    leaves.
+    """
+    yield from likely.told(feed, with_days=not has_faults)
+    if not has_faults:
+        return
+    before = counts_of(feed)
+    done = repair(feed)
+    if any(not fault.is_limit for fault in check(feed)):
+        return
+    lines = [*losses(before, done, feed), *(likely.of_days(feed))]
+    yield from (f"after --repair: {line}" for line in lines)
+
+
+def refuse_losses(path: str, before: Mapping[str, int], changes: Sequence[Change], feed: Feed) -> None:
+    """Ends a repair that takes a lot of a feed, or leaves nothing that runs."""
+    told = [*losses(before, changes, feed), *filter(None, [no_runs(feed)])]
+    if told:
+        raise BadInput(path, f"{'; '.join(told)} {HELP}")
+
+
+def refuse_day(path: str, feed: Feed, day: datetime.date | None) -> None:
+    """Ends where no trip runs on the day of the departures."""
+    told = no_runs(feed, day) if day is not None else None
+    if told:
+        raise BadInput(path, f"{told} {HELP}")

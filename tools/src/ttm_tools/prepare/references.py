@@ -1,0 +1,100 @@
+"""What of a feed's files refers to records that were left out of others, and is left out with them."""
+
+from typing import Iterator, Mapping, Sequence
+
+import numpy as np
+
+from ..faults import BadInput
+from ..records import names_of
+from .check import unlike
+from .days import texts
+from .kinds import NAMING, TRANSLATED, ZONES, kind_of
+from .tables import Feed, Mask, Table, read_table, used
+
+GIVEN = {  # what is left out of a feed, and where it was given
+    "stop": ("stops.txt", "stop_id"),
+    "route": ("routes.txt", "route_id"),
+    "trip": ("trips.txt", "trip_id"),
+    "service": ("trips.txt", "service_id"),
+    "shape": ("trips.txt", "shape_id"),
+    "zone": ("stops.txt", "zone_id"),
+}
+NAMES = (*NAMING, *ZONES, "table_name")
+Gone = Mapping[str, set[str]]
+There = Mapping[str, set[str]]
+
+
+def there(feed: Feed) -> There:
+    """The identifiers of each kind that a feed has."""
+    return {kind: set(used(feed.get(name)[column])) - {""} for kind, (name, column) in GIVEN.items()}
+
+
+def leave_out_references(feed: Feed, before: There) -> list[str]:
+    """Leaves out the records of all files that name what a feed had before and has no more; what was left out, a
+    sentence a line.
+    """
+    after = there(feed)
+    gone = {kind: names - after[kind] for kind, names in before.items()}
+    counts, lines = dict[str, int](), list[str]()
+    for name in [*feed.tables, *sorted(feed.others)]:
+        table = feed.tables.get(name)
+        if name in feed.others:
+            table = None
+            try:
+                if name.endswith(".txt") and set(names_of(feed.others[name])) & set(NAMES):
+                    table = read_table(name, feed.others[name])
+            except BadInput as fault:
+                lines.append(f"{name}: not read, and copied as it is ({fault})")
+        if table is None or name in {file for file, _ in GIVEN.values()} | {"stop_times.txt"}:
+            continue
+        count = len(table)
+        table.keep(named_still(table, gone, feed))
+        counts[name] = count - len(table)
+        if name in feed.others and counts[name]:
+            feed.tables[name] = table
+            del feed.others[name]
+    counts |= leave_out_fares(feed)
+    told = ", ".join(f"{name} {count:,} records" for name, count in counts.items() if count)
+    return [*lines, *([f"left out with what they name: {told}"] if told else [])]
+
+
+def named_still(table: Table, gone: Gone, feed: Feed) -> Mask:
+    """The records of a table that name nothing that is gone."""
+    kept: Mask = np.ones(len(table), dtype=np.bool_)
+    for column in table.columns:
+        kept &= unlike(table[column], gone.get(kind_of(table.name, column) or "", ()), among=False)
+    if table.name == "translations.txt":
+        kept &= np.array(list(translated_still(table, gone, feed)) or [True], dtype=np.bool_)[: len(table)]
+    return kept
+
+
+def translated_still(table: Table, gone: Gone, feed: Feed) -> Iterator[bool]:
+    """Whether what each record of translations.txt translates is there still; a call by its trip and its number."""
+    columns = [texts(table, name) for name in ("table_name", "record_id", "record_sub_id")]
+    times = feed.get("stop_times.txt")
+    calls = set(zip(texts(times, "trip_id"), texts(times, "stop_sequence"))) if "stop_times" in columns[0] else set()
+    for name, record, part in zip(*columns):
+        is_gone = record in gone.get(TRANSLATED.get(name, ""), ())
+        yield not is_gone and (name != "stop_times" or not part or (record, part) in calls)
+
+
+def leave_out_fares(feed: Feed) -> dict[str, int]:
+    """Leaves out fares that lost all their rules, as one without a rule would hold everywhere."""
+    rules, path = feed.tables.get("fare_rules.txt"), feed.others.get("fare_attributes.txt")
+    if rules is None or path is None or rules.source is not None:
+        return {}
+    column, table = rules["fare_id"], read_table("fare_attributes.txt", path)
+    lost = set(column.values) - set(used(column))
+    count = len(table)
+    table.keep(unlike(table["fare_id"], lost, among=False))
+    if len(table) < count:
+        feed.tables[table.name] = table
+        del feed.others[table.name]
+    return {table.name: count - len(table)}
+
+
+def left_out_by(feed: Feed, names: Sequence[str], counts: Mapping[str, int]) -> str:
+    """How many records of some files were left out."""
+    lost = {name: counts[name] - len(feed.get(name)) for name in names if name in counts}
+    told = [f"{name} {count:,} of {counts[name]:,}" for name, count in lost.items() if count]
+    return f"left out: {', '.join(told)}" if told else "nothing is left out"

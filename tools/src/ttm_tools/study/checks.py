@@ -1,0 +1,84 @@
+"""A study's files looked at beside each other, before any work that takes long."""
+
+from pathlib import Path
+from typing import Collection, Sequence
+
+from ..faults import BadInput
+from ..measures.opportunities import called, columns_of, numbers_of
+from ..parts import origins_in, origins_of_feed
+from ..points import read_points
+from ..records import rows, shown
+from .wishes import Study
+
+OF_STUDY, OF_ORIGINS = "point of the study", "point at which journeys begin"
+
+
+def check_points(study: Study) -> None:
+    """Looks at the points of a study, and at what other files say of them; without points at the columns alone."""
+    wish = study.points
+    read = {path: read_points(study.at(path)) for path in wish.all}
+    columns = [name for points in read.values() for name in points.columns]
+    check_columns(study, columns)
+    if not wish.all:
+        return
+    names = names_of({path: points.identifiers for path, points in read.items()})
+    for path in study.opportunities.files:
+        check_names(study.at(path), names, OF_STUDY)
+    origins = names_of({path: read[path].identifiers for path in (*wish.files, *wish.origins)})
+    if study.opportunities.people:
+        check_names(study.at(study.opportunities.people), origins, OF_ORIGINS)
+    check_map_origins(study, origins)
+
+
+def check_stops(study: Study, feed: str) -> None:
+    """Looks at what a study's files say of the stops of its feed."""
+    stops = set(origins_of_feed(feed))
+    named = study.at(study.run.origins) if study.run.origins else None
+    for path in study.opportunities.files:
+        check_names(study.at(path), stops, "stop of the feed")
+    origins = stops if named is None else set(origins_in(named))
+    if named is not None:
+        check_origins(named, stops)
+    if study.opportunities.people:
+        check_names(study.at(study.opportunities.people), origins, "origin of the study")
+    check_map_origins(study, origins)
+
+
+def names_of(files: dict[str, list[str]]) -> set[str]:
+    """The points of some files by their names in the feed, which may begin with that of their file."""
+    return {name for path, own in files.items() for it in own for name in (it, f"{Path(path).stem}:{it}")}
+
+
+def check_columns(study: Study, own: Sequence[str]) -> None:
+    """Looks at the columns of opportunities and people that a study names."""
+    wish = study.opportunities
+    found = [*own, *(called(name, study.at(path)) for path in wish.files for name in columns_of(study.at(path)))]
+    for name in (*wish.columns, *([wish.column] if wish.column else [])):
+        if name not in found:
+            there = ", ".join(map(shown, found)) or "no columns of numbers"
+            raise BadInput(study.path, f"[opportunities] names a column {shown(name)}; there are {there}")
+    groups = columns_of(study.at(wish.people)) if wish.people else []
+    for name in wish.groups:
+        if name not in groups:
+            told = f"[opportunities] names a group {shown(name)}; there are {', '.join(map(shown, groups))}"
+            raise BadInput(study.path, told)
+
+
+def check_names(path: str, known: Collection[str], kind: str) -> None:
+    """Tells the first record that names what isn't known, or has no number."""
+    numbers_of(path, columns_of(path), {name: place for place, name in enumerate(known)}, kind)
+
+
+def check_origins(path: str, stops: Collection[str]) -> None:
+    """Tells the first origin that is no stop."""
+    for number, (name,) in rows(path, ["stop_id"]):
+        if name not in stops:
+            raise BadInput(path, f"{shown(name)} is no stop of the feed", record=number)
+
+
+def check_map_origins(study: Study, origins: Collection[str]) -> None:
+    """Tells an origin of a map that is none of the study."""
+    shows = study.results.maps or study.results.page
+    lost = next((it for it in study.results.map_origins if it not in origins), None) if shows else None
+    if lost is not None:
+        raise BadInput(study.path, f"map_origins of [results]: {lost} is no origin of the study")

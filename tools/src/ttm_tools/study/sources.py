@@ -1,0 +1,82 @@
+"""What a study reads from outside, bound to the sums that it states: what changes while it is read ends the stage."""
+
+import os
+from dataclasses import dataclass
+from pathlib import Path
+from typing import Callable, Iterable, Mapping
+
+from ..faults import BadInput
+from ..files import sum_of
+from ..opening.paths import regular
+from .stages import files_in
+
+Signature = tuple[int, int, int]  # inode, bytes, and when it was written
+CHANGED = "changed while the study read it; the same command reads it again"
+
+
+@dataclass(frozen=True)
+class Source:
+    """A file as it was when its sum was taken."""
+
+    path: Path
+    stated: str  # by the path that the study's file gives
+    name: str  # without the folder in which it, or its own folder, lies
+    sum: str
+    signature: Signature
+
+
+def signature_of(path: Path) -> Signature:
+    found = regular(path)
+    return found.st_ino, found.st_size, found.st_mtime_ns
+
+
+def source_of(path: Path, stated: str, name: str) -> Source:
+    """Takes the sum of a file that stays as it is meanwhile."""
+    before = signature_of(path)
+    made = Source(path, stated, name, sum_of(path), before)
+    if signature_of(path) != before:
+        raise BadInput(path, CHANGED)
+    return made
+
+
+class Sources:
+    """Files and folders that a stage reads, by the paths that the study's file gives."""
+
+    def __init__(self, at: Callable[[str], str], given: Iterable[str]) -> None:
+        self.at, self.given = at, list(dict.fromkeys(given))
+        self.files = [source_of(*it) for it in self.listed()]
+
+    def listed(self) -> list[tuple[Path, str, str]]:
+        """All files, with what they are stated as, and their names."""
+        made = list[tuple[Path, str, str]]()
+        for given in self.given:
+            path = Path(self.at(given))
+            for file in files_in(path):
+                more = file.relative_to(path)
+                made.append((file, str(Path(given) / more), str(Path(path.name) / more)))
+        return made
+
+    @property
+    def sums(self) -> list[list[str]]:
+        """The sums by the names of the files, wherever these lie: what outputs depend on."""
+        return [[it.name, it.sum] for it in self.files]
+
+    @property
+    def stated(self) -> dict[str, str]:
+        """The sums by the paths that the study's file gives."""
+        return {it.stated: it.sum for it in self.files}
+
+    def refuse_changed(self) -> None:
+        """Refuses files that aren't as they were when their sums were taken."""
+        if [path for path, _, _ in self.listed()] != [it.path for it in self.files]:
+            raise BadInput(", ".join(self.given), CHANGED)
+        for it in self.files:
+            if signature_of(it.path) != it.signature:
+                raise BadInput(it.path, CHANGED)
+
+
+def refuse_other_sums(sums: Mapping[str, str]) -> None:
+    """Refuses files of the study that changed while a run read them."""
+    for name, was in sums.items():
+        if not os.path.isfile(name) or sum_of(name) != was:
+            raise BadInput(name, "changed while ttm read it; the same command makes it again")

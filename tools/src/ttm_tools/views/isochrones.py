@@ -1,0 +1,190 @@
+"""Isochrones: the area that is reached from an origin within so many minutes, dissolved into one shape for each band.
+
+A point with a shape of its own, a square or the polygon of its file, counts whole where it is reached in time. From any
+other point, such as a stop, one walks on for the time that is left, up to the longest walk, in a circle.
+"""
+
+import json
+from dataclasses import dataclass
+from pathlib import Path
+from typing import Any, BinaryIO, Mapping, Sequence
+
+import numpy as np
+
+from ..faults import BadInput, needs
+from ..feed import Floats, Projection, Stops
+from ..matrices import Matrix, Share
+from ..measures.opportunities import Counts
+from ..points.table import AREAS, read_frame, text_of
+from ..records import shown
+from .gis import write_layer
+
+LAYER = "isochrones"
+QUARTER = 12  # corners of a quarter of a circle
+DECIMALS = 6  # of degrees, some tenths of a metre
+
+
+@dataclass(frozen=True)
+class Walking:
+    """How one walks on from a stop."""
+
+    speed: float = 1.33  # metres a second
+    detour: float = 1.3  # metres of way for a metre of straight line
+    most: float = 600.0  # seconds
+
+    def radii(self, left: Floats) -> Floats:
+        """How far one comes as the crow flies in the seconds that are left, in kilometres."""
+        made: Floats = np.minimum(left, self.most) * self.speed / self.detour / 1000
+        return made
+
+
+@dataclass(frozen=True)
+class Isochrone:
+    """What is reached within a band."""
+
+    scenario: str
+    share: Share
+    minutes: float
+    shape: Any  # of shapely, in degrees
+    area: float  # square kilometres
+    reached: int  # stops or points
+    counts: dict[str, float]  # what is there, by the columns of the file of people
+
+
+@dataclass(frozen=True)
+class Ground:
+    """Where the stops or points of a matrix lie, and which of them have a shape of their own; all in kilometres."""
+
+    projection: Projection
+    east: Floats
+    north: Floats
+    shapes: list[Any]  # polygons; None where there is none
+    placed: Any  # whether it has a place
+
+    def shape_within(self, seconds: Floats, limit: float, walking: Walking) -> Any:
+        """What is reached within a limit of seconds."""
+        from shapely.geometry import Point
+        from shapely.ops import unary_union
+
+        near = np.flatnonzero(self.placed & (seconds <= limit))
+        radii, parts = walking.radii(limit - seconds[near]), []
+        for place, radius in zip(near.tolist(), radii.tolist()):
+            if self.shapes[place] is not None:
+                parts.append(self.shapes[place])
+            elif radius > 0:
+                parts.append(Point(self.east[place], self.north[place]).buffer(radius, QUARTER))
+        return unary_union(parts)
+
+    def in_degrees(self, shape: Any) -> Any:
+        """A shape in degrees, its outer rings against the clock, as GeoJSON asks."""
+        from shapely.geometry import MultiPolygon
+        from shapely.geometry.polygon import orient
+        from shapely.ops import transform
+        from shapely.validation import make_valid
+
+        def degrees(east: Any, north: Any) -> tuple[Any, Any]:
+            longitude = np.asarray(east) / (self.projection.degree * self.projection.narrow) + self.projection.longitude
+            latitude = np.asarray(north) / self.projection.degree + self.projection.latitude
+            return np.round((longitude + 180) % 360 - 180, DECIMALS), np.round(latitude, DECIMALS)
+
+        made = make_valid(transform(degrees, shape)) if not shape.is_empty else shape
+        parts = getattr(made, "geoms", [made])
+        return MultiPolygon([orient(part) for part in parts if part.geom_type == "Polygon" and not part.is_empty])
+
+
+def ground_of(stops: Stops, polygons: Mapping[str, Any]) -> Ground:
+    """Where these stops lie: each with its polygon, else its square, else none."""
+    from shapely.geometry import box
+    from shapely.ops import transform
+
+    if not stops.placed.any():
+        raise BadInput(stops.path, "no stop has stop_lat and stop_lon, so there is nothing to draw")
+    projection = Projection(stops.latitudes, stops.longitudes)
+    east, north = projection.east(stops.longitudes), projection.north(stops.latitudes)
+    halves = stops.sides() / 2000
+    shapes: list[Any] = [None] * len(east)
+    for place in np.flatnonzero(stops.placed & ~np.isnan(halves[:, 0])).tolist():
+        x, y, (wide, high) = east[place], north[place], halves[place]
+        shapes[place] = box(x - wide, y - high, x + wide, y + high)
+
+    def kilometres(longitudes: Any, latitudes: Any) -> tuple[Any, Any]:
+        return projection.east(np.asarray(longitudes)), projection.north(np.asarray(latitudes))
+
+    for identifier in polygons.keys() & stops.places.keys():
+        shapes[stops.places[identifier]] = transform(kilometres, polygons[identifier])
+    return Ground(projection, east, north, shapes, stops.placed)
+
+
+def polygons_of(path: str | None) -> dict[str, Any]:
+    """The polygons of a file of points, by their identifiers; none where it has points, or is a table."""
+    if path is None or Path(path).suffix.lower() not in AREAS:
+        return {}
+    frame = read_frame(path).to_crs(4326)
+    shapes = zip(frame["id"], frame.geometry)
+    return {text_of(own): shape for own, shape in shapes if shape.geom_type in ("Polygon", "MultiPolygon")}
+
+
+@dataclass(frozen=True)
+class Bands:
+    """Which isochrones are wanted."""
+
+    origin: str
+    scenarios: Sequence[str]
+    shares: Sequence[Share]
+    minutes: Sequence[float]  # ascending
+    walking: Walking
+
+
+def isochrones_of(matrix: Matrix, ground: Ground, bands: Bands, counts: Counts | None) -> list[Isochrone]:
+    """The isochrones of each scenario, share and band, in this order; ground and counts are of the matrix's stops."""
+    made = []
+    for scenario in bands.scenarios:
+        for share in bands.shares:
+            seconds = matrix.seconds(scenario, share, bands.origin).astype(np.float64)
+            for minutes in bands.minutes:
+                limit = minutes * 60
+                shape, near = ground.shape_within(seconds, limit, bands.walking), seconds <= limit
+                there = {} if counts is None else {it: float(counts.named(it)[near].sum()) for it in counts.names}
+                made.append(
+                    Isochrone(
+                        scenario, share, minutes, ground.in_degrees(shape), float(shape.area), int(near.sum()), there
+                    )
+                )
+    return made
+
+
+def properties_of(isochrone: Isochrone, origin: str) -> dict[str, Any]:
+    """What a file says of an isochrone beside its shape."""
+    known: dict[str, Any] = {"origin": shown(origin), "scenario": shown(isochrone.scenario)}
+    if isochrone.share is not None:
+        known["percentile"] = isochrone.share
+    known |= {"minutes": whole(isochrone.minutes), "square_km": round(isochrone.area, 4), "reached": isochrone.reached}
+    return known | {shown(name): whole(number) for name, number in isochrone.counts.items()}
+
+
+def whole(number: float) -> float:
+    """A number without needless decimals."""
+    return int(number) if number.is_integer() else number
+
+
+def write_geojson(out: BinaryIO, isochrones: Sequence[Isochrone], origin: str) -> None:
+    """A collection of features, one a line (RFC 7946), the widest band first, so that the others lie on it."""
+    from shapely.geometry import mapping
+
+    out.write(b'{"type": "FeatureCollection", "features": [')
+    for number, isochrone in enumerate(sorted(isochrones, key=lambda it: -it.minutes)):
+        feature = {"type": "Feature", "geometry": mapping(isochrone.shape)}
+        feature["properties"] = properties_of(isochrone, origin)
+        out.write((",\n" if number else "\n").encode() + json.dumps(feature, ensure_ascii=False).encode("utf-8"))
+    out.write(b"\n]}\n")
+
+
+def write_geopackage(path: str, isochrones: Sequence[Isochrone], origin: str) -> None:
+    """A layer of polygons in WGS 84, in the same order."""
+    needs("geopandas")
+    import geopandas
+
+    ordered = sorted(isochrones, key=lambda it: -it.minutes)
+    rows = [properties_of(isochrone, origin) for isochrone in ordered]
+    frame = geopandas.GeoDataFrame(rows, geometry=[it.shape for it in ordered], crs="EPSG:4326")
+    write_layer(path, frame, LAYER)

@@ -1,0 +1,41 @@
+"""Ways between places, counted while they are found: more than `ttm` takes are told before they fill the memory."""
+
+from typing import Callable
+
+import numpy as np
+import numpy.typing as npt
+
+from ..faults import BadInput
+from ..feed import Floats
+
+Places = npt.NDArray[np.int64]
+MOST_PAIRS = 4_000_000  # walks that `ttm` takes
+Ways = tuple[Places, Places, Floats]  # from where, to where, metres
+
+
+class Found:
+    """Ways as they are found, of which several may be between two places."""
+
+    def __init__(self, path: str, first: int | None, least: Callable[[list[Ways]], Ways], directions: int) -> None:
+        self.path, self.first, self.least, self.directions = path, first, least, directions
+        self.ways: list[Ways] = []
+        self.count = 0
+
+    def take(self, a: Places, b: Places, metres: Floats) -> None:
+        """Takes some ways: where it is said which places come first, those alone with one of them at an end."""
+        if self.first is not None:
+            kept = (a < self.first) | (b < self.first)
+            a, b, metres = a[kept], b[kept], metres[kept]
+        self.ways.append((a, b, metres))
+        self.count += len(a)
+        if self.count * self.directions > 2 * MOST_PAIRS:
+            self.all()
+
+    def all(self) -> Ways:
+        """The shortest way between any two places."""
+        made = self.least(self.ways)
+        self.ways, self.count = [made], len(made[0])
+        if self.count * self.directions > MOST_PAIRS:
+            told = f"more than the {MOST_PAIRS:,} walks that ttm takes: a shorter --limit, or fewer places"
+            raise BadInput(self.path, told)
+        return made

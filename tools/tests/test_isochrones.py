@@ -1,0 +1,95 @@
+"""Isochrones: areas by hand of circles, squares and polygons, sums of people, and what is refused."""
+
+import json
+import math
+from pathlib import Path
+from typing import Any
+
+import pytest
+
+from helpers import Town, town_matrix
+
+pytest.importorskip("shapely")
+CORNERS = 48  # of a circle
+ROUND = math.sin(2 * math.pi / CORNERS) / (2 * math.pi / CORNERS)  # the part of a circle that its corners enclose
+PLAIN = ["--speed", "1", "--detour", "1"]  # a metre a second, as the crow flies
+
+
+def isochrones(town: Town, *words: str) -> list[dict[str, Any]]:
+    """The features that the command writes, and that it ends well."""
+    out = town.path("areas.geojson")
+    ran = town.ran("isochrones", "--feed", town.feed, "--origin", "A", *PLAIN, *words, "--out", out, town.file)
+    assert (ran[0], ran[2]) == ("", 0), ran[1]
+    features = json.loads(Path(out).read_text())["features"]
+    assert isinstance(features, list)
+    return features
+
+
+def signed_area(ring: list[list[float]]) -> float:
+    return sum(x * v - u * y for (x, y), (u, v) in zip(ring, ring[1:])) / 2
+
+
+def test_circles_have_the_radius_that_the_time_left_allows(town: Town) -> None:
+    town.matrix(town_matrix(True))
+    wide, narrow = isochrones(town, "--scenario", "base", "--bands", "5,10")
+    # after 10 minutes 600 m around A, 300 m around B, which lie 1,112 m apart; after 5 minutes 300 m around A alone
+    assert wide["properties"]["square_km"] == pytest.approx(math.pi * (0.36 + 0.09) * ROUND, abs=1e-4)
+    assert narrow["properties"]["square_km"] == pytest.approx(math.pi * 0.09 * ROUND, abs=1e-4)
+    known = {"origin": "A", "scenario": "base", "percentile": 50}
+    assert {name: wide["properties"][name] for name in known} == known
+    assert [(it["properties"]["minutes"], it["properties"]["reached"]) for it in (wide, narrow)] == [(10, 2), (5, 2)]
+
+
+def test_circles_that_meet_are_one_shape_and_the_walk_has_a_limit(town: Town) -> None:
+    town.matrix(town_matrix(True))
+    (area,) = isochrones(town, "--scenario", "base", "--bands", "20", "--walk", "560")
+    # A and B have 560 m each, and overlap; C, with 300 s left, lies 1,112 m north of B
+    assert area["geometry"]["type"] == "MultiPolygon" and len(area["geometry"]["coordinates"]) == 2
+    half = 1112 / 2
+    lens = 2 * (560**2 * math.acos(half / 560) - half * math.sqrt(560**2 - half**2)) / 1e6
+    wanted = math.pi * (2 * 0.56**2 + 0.3**2) - lens
+    assert area["properties"]["square_km"] == pytest.approx(wanted, rel=0.01)
+    assert all(signed_area(part[0]) > 0 for part in area["geometry"]["coordinates"])
+
+
+def test_a_square_counts_whole_and_people_are_summed(town: Town) -> None:
+    town.matrix(town_matrix(True))
+    points = town.write("mine.csv", "id,lat,lon,width", [["A", 0, 9, 400], ["D", 0.02, 9, 200]])
+    people = town.write("people.csv", "id,people,jobs", [["A", 70, 1], ["D", 5, 2.5]])
+    words = ["--points", points, "--people", people, "--scenario", "base", "--bands", "10,40"]
+    wide, narrow = isochrones(town, *words)
+    assert narrow["properties"]["square_km"] == pytest.approx(0.16, abs=1e-4)
+    assert wide["properties"]["square_km"] == pytest.approx(0.16 + 0.04, abs=1e-4)
+    assert [(it["properties"]["people"], it["properties"]["jobs"]) for it in (wide, narrow)] == [(75, 3.5), (70, 1)]
+
+
+def test_polygons_of_the_points_are_taken_in_a_geopackage(town: Town) -> None:
+    geopandas = pytest.importorskip("geopandas")
+    from shapely.geometry import box
+
+    town.matrix(town_matrix(False))
+    side = 1000 / 111_195  # a kilometre on the equator, in degrees
+    areas = geopandas.GeoDataFrame({"id": ["A", "C"]}, geometry=[box(9, 0, 9 + side, side), box(9.01, 0, 9.02, 0.01)])
+    areas.set_crs("EPSG:4326").to_file(town.path("areas.gpkg"), driver="GPKG")
+    out = town.path("isochrones.gpkg")
+    words = ["--points", town.path("areas.gpkg"), "--bands", "10", "--scenario", "cut", "--out", out, town.file]
+    assert town.ran("isochrones", "--feed", town.feed, "--origin", "A", *words)[2] == 0
+    made = geopandas.read_file(out)
+    assert (list(made.scenario), list(made.reached), made.crs.to_epsg()) == (["cut"], [1], 4326)
+    assert made.square_km[0] == pytest.approx(1.0, rel=1e-3) and made.geometry[0].bounds[2] == pytest.approx(9 + side)
+
+
+def test_an_empty_band_has_an_empty_shape(town: Town) -> None:
+    town.matrix(town_matrix(True, {"base": {"A": ["", "", "", 2400]}}))
+    (area,) = isochrones(town, "--bands", "30")
+    assert area["geometry"] == {"type": "MultiPolygon", "coordinates": []}
+    assert (area["properties"]["reached"], area["properties"]["square_km"]) == (0, 0)
+
+
+def test_what_is_refused(town: Town) -> None:
+    town.matrix(town_matrix(True))
+    words = ["isochrones", "--feed", town.feed, "--out", town.path("a.geojson"), "--origin"]
+    town.refused(f"{town.file}: B is no origin of the scenario base", *words, "B", town.file)
+    people = town.write("people.csv", "stop_id,people", [["Z", 1]])
+    town.refused(f"{people}: record 2: Z is no column", *words, "A", "--people", people, town.file)
+    assert town.ran(*words[:4], town.path("a.shp"), "--origin", "A", town.file)[2] == 2

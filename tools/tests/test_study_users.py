@@ -1,0 +1,203 @@
+"""Studies as people ask for them: homes here and schools there, plans of one scenario, files that don't fit."""
+
+import signal
+import subprocess
+import sys
+import time
+from pathlib import Path
+
+import pytest
+
+from helpers import LAUNCHER, as_in_a_terminal
+from test_study import STUDY, Place, bare, place  # noqa: F401
+from ttm_tools.engine import Run
+from ttm_tools.matrices import open_matrix
+from ttm_tools.study.report import told_apart
+from ttm_tools.study.running import Pool
+from ttm_tools.study.study_file import read_study
+
+DOORS = STUDY[: STUDY.index("[opportunities]")] + '[points]\norigins = ["homes.csv"]\ndestinations = ["schools.csv"]\n'
+RESULTS = "[results]\nmaps = false\npage = false\n"
+PLAN = """\
+[[scenario]]
+name = "tram"
+[[scenario.action]]
+do = "add_line"
+route = "TRAM"
+stops = ["S0", "S8"]
+seconds = [60]
+departures = [{ first = "08:00", last = "08:30", every = 300 }]
+days = "daily"
+"""
+
+
+def doors(room: Place) -> str:
+    """A study with two homes near S0 and three schools near S8, in files of their own with columns of their own."""
+    path = room.lay_out(DOORS + RESULTS)
+    homes = [[f"h{n}", 50 + n / 10_000, 7, 10 * n + 10] for n in range(2)]
+    room.write("homes.csv", "id,lat,lon,residents", homes)
+    room.write("schools.csv", "id,lat,lon,schools", [[f"s{n}", 50.032 + n / 10_000, 7, n] for n in range(3)])
+    return path
+
+
+def planned(room: Place, more: str = "") -> str:
+    study = STUDY[: STUDY.index("[scenarios]")] + f'[scenarios]\nplan = "plan.toml"\n{RESULTS}{more}'
+    path = room.lay_out(study)
+    (room.folder / "plan.toml").write_text(PLAN)
+    return path
+
+
+def report_of(room: Place) -> str:
+    return (room.folder / "nine" / "report.md").read_text()
+
+
+def test_homes_and_schools_in_files_of_their_own(place: Place) -> None:  # noqa: F811
+    assert place.ran("study", doors(place))[1:][1] == 0
+    matrix = open_matrix(place.path("nine/matrix.omx"))
+    assert (matrix.origins("base", 50), matrix.stops) == (["h0", "h1"], ["s0", "s1", "s2"])
+    assert "| schools | 30 | " in report_of(place) and "residents" not in report_of(place)
+    sizes = [it.stat().st_size for it in (place.folder / "nine").rglob("matrix.csv")]
+    assert sizes == []  # the parts' matrices are gone
+
+
+def test_the_parts_have_the_columns_of_destinations_alone(place: Place) -> None:  # noqa: F811
+    path = doors(place)
+    place.say((place.folder / "nine.toml").read_text() + "csv = true\n")
+    assert place.ran("study", path)[2] == 0
+    header = (place.folder / "nine" / "matrix.csv").read_text().splitlines()[0]
+    assert header == "scenario,origin,share,access_600,access_1800,s0,s1,s2"
+
+
+def test_people_at_points_that_are_left_out_are_told(place: Place) -> None:  # noqa: F811
+    path = doors(place)
+    place.write("homes.csv", "id,lat,lon", [["h0", 50, 7], ["far", 51, 7]])
+    place.write("people.csv", "id,residents", [["h0", 3], ["far", 4]])
+    study = (place.folder / "nine.toml").read_text().replace("[points]", "[points]\nleave_out = true")
+    place.say(study + '[opportunities]\npeople = "people.csv"\n')
+    _, told, status = place.ran("study", path)
+    assert status == 0 and "not counted, at points that are left out: 4 residents" in told
+
+
+@pytest.mark.parametrize(
+    "name, header, rows, told",
+    [
+        ("people.csv", "id,residents", [["s0", 3]], "people.csv: record 2: s0 is no point at which journeys begin"),
+        ("jobs.csv", "id,jobs", [["S0", 3]], "jobs.csv: record 2: S0 is no point of the study"),
+        ("jobs.csv", "id,shops", [["h0", 3]], "nine.toml: [opportunities] names a column jobs"),
+    ],
+)
+def test_files_that_do_not_fit_are_told_before_any_work(
+    bare: Place, name: str, header: str, rows: list[list[object]], told: str  # noqa: F811
+) -> None:
+    path = doors(bare)
+    bare.write("people.csv", "id,residents", [["h0", 3]])
+    bare.write("jobs.csv", "id,jobs", [["h0", 3]])
+    bare.write(name, header, rows)
+    more = '[opportunities]\nfiles = ["jobs.csv"]\ncolumn = "jobs"\npeople = "people.csv"\n'
+    bare.say((bare.folder / "nine.toml").read_text() + more)
+    monkey = pytest.MonkeyPatch()
+    monkey.setenv("TTM_PROGRAM", "/bin/echo")
+    _, said, status = bare.ran("study", path)
+    monkey.undo()
+    assert status == 1 and told in said, said
+    assert not (bare.folder / "nine" / "inputs").exists()
+
+
+def test_a_plan_of_one_scenario_neither_warns_nor_runs_base(place: Place) -> None:  # noqa: F811
+    assert place.ran("study", planned(place))[2] == 0
+    report = report_of(place)
+    assert "Warnings: none." in report
+    assert "the rows of tram are those of base, as its file takes nothing out" in report
+    assert open_matrix(place.path("nine/matrix.omx")).scenarios == ["today", "tram"]
+    told = place.ran("study", "--verify", place.path("nine"))
+    assert told[2] == 0, told
+
+
+def test_the_rows_of_base_are_those_of_the_scenario_that_takes_nothing_out(place: Place) -> None:  # noqa: F811
+    assert place.ran("study", planned(place))[2] == 0
+    saved = place.folder / "saved.omx"
+    (place.folder / "nine" / "matrix.omx").rename(saved)
+    place.say((place.folder / "nine.toml").read_text() + "csv = true\n")
+    assert place.ran("study", place.path("nine.toml"))[2] == 0
+    assert "base has the trips of all scenarios; its rows, one in 3 of the run, aren't shown" in report_of(place)
+    one, other = open_matrix(str(saved)), open_matrix(place.path("nine/matrix.omx"))
+    assert one.scenarios == other.scenarios == ["today", "tram"]
+    for name in one.scenarios:
+        for share in one.shares:
+            assert one.rows(name, share, 0, 9).tobytes() == other.rows(name, share, 0, 9).tobytes()
+            assert one.access(name, share).tolist() == other.access(name, share).tolist()
+
+
+def test_walks_longer_than_ttm_takes_are_refused_and_shorter_ones_told(place: Place) -> None:  # noqa: F811
+    path = place.lay_out(STUDY + "[walks]\nlimit = 700\n")
+    told = place.ran("study", path)
+    assert told[2] == 1 and "limit '700' is more than walk of [run], 600" in told[1]
+    place.say(STUDY + "[walks]\nlimit = 500\n")
+    assert place.ran("study", path)[2] == 0
+    sentence = "a single walk takes 500 seconds at most ([walks] limit), one of several in turn 600 ([run] walk)"
+    assert sentence.replace("[", "\\[").replace("]", "\\]") in report_of(place)
+
+
+def test_a_date_without_trips_is_refused(place: Place) -> None:  # noqa: F811
+    path = place.lay_out(STUDY.replace("2026-05-04", "2027-05-04"))
+    _, told, status = place.ran("study", path)
+    assert status == 1 and "no trip runs on 2027-05-04, but from 2026-05-04 to 2026-05-31" in told
+    assert (
+        place.ran(
+            "study",
+            place.say(
+                STUDY.replace("2026-05-04", "2027-05-04").replace(
+                    'files = ["published"]', 'files = ["published"]\nallow_loss = true'
+                )
+            ),
+        )[2]
+        == 0
+    )
+
+
+def test_numbers_have_the_digits_that_show_a_change() -> None:
+    assert told_apart([0.31, 0.32]) == ["0.31", "0.32"]
+    assert told_apart([1234.5, 1234.5]) == ["1,234.5", "1,234.5"]
+    assert told_apart([1.00001, 1.00002, 1.00001]) == ["1.00001", "1.00002", "1.00001"]
+
+
+def test_the_report_is_whole_in_one_file(place: Place) -> None:  # noqa: F811
+    people = [[f"S{n}", *range(n, n + 60)] for n in range(9)]
+    path = place.lay_out()
+    place.write("people.csv", "stop_id," + ",".join(f"g{n}" for n in range(60)), people)
+    assert place.ran("study", path)[2] == 0
+    page = (Path(place.path("nine")) / "report.html").read_text()
+    assert page.count('<img src="data:image/png;base64,') == page.count("<img") > 0
+    assert all(f"<td>g{n}</td>" in page for n in range(60))
+    assert "<main>" in page and page.count("<caption>") == page.count("<table>") > 3
+    assert "@media print" in page and "least tenth change" in page
+
+
+def test_limits_are_named_in_minutes_too(bare: Place) -> None:  # noqa: F811
+    path = bare.lay_out(STUDY.replace("limits = [600, 1800]", "cutoffs = [10, 30]") + "\n")
+    study = read_study(path)
+    assert (study.run.limits, study.within) == ((600, 1800), 1800)
+    bare.say(STUDY.replace("page = false", "page = false\ncutoff = 10"))
+    assert read_study(path).within == 600
+    bare.say(STUDY.replace("limits", "cutoffs = [10]\nlimits"))
+    assert "doesn't go with limits" in bare.ran("study", path)[1]
+
+
+def test_an_interruption_says_that_the_same_command_goes_on(place: Place) -> None:  # noqa: F811
+    path = place.lay_out(STUDY.replace("count = 4", "count = 9"))
+    ran = subprocess.Popen(
+        [sys.executable, LAUNCHER, "study", path], stderr=subprocess.PIPE, preexec_fn=as_in_a_terminal
+    )
+    while not (place.folder / "nine" / "inputs").exists():
+        time.sleep(0.01)
+    ran.send_signal(signal.SIGINT)
+    told = ran.communicate()[1].decode().splitlines()
+    assert "what is done is kept: the same command goes on with what is missing" in told and ran.returncode == 130
+
+
+def test_parts_that_go_on_are_told_where_there_is_no_terminal(
+    monkeypatch: pytest.MonkeyPatch, capsys: pytest.CaptureFixture[str]
+) -> None:
+    monkeypatch.setattr("ttm_tools.study.running.SECONDS_BETWEEN_LINES", -1.0)
+    pool = Pool(Run("feed", "20260504", ("08:00", "08:00")), [], 1, 1)
+    assert pool.over() == [] and capsys.readouterr().err == "parts: 0 go on, 0 wait\n"
