@@ -10,6 +10,7 @@ import subprocess
 import tempfile
 import threading
 import tty
+from operator import attrgetter
 from pathlib import Path
 
 import pytest
@@ -35,7 +36,7 @@ MOVING = re.compile(r"(ttm: rows done: \d+ of \d+, \d+ percent(?:, about \d+:\d\
 MOVED = re.compile(rf"(?:{MOVING.pattern})+\n")
 
 
-@pytest.mark.parametrize("run", RUNS + REFUSED, ids=lambda run: run.name)
+@pytest.mark.parametrize("run", RUNS + REFUSED, ids=attrgetter("name"))
 def test_run(program: str, run: Run) -> None:
     """What a run leaves; with a report that is told besides, and nothing else differs."""
     was = left_by(program, run.words.split(), run.changes)
@@ -53,7 +54,7 @@ def steady(told: str) -> str:
     return told
 
 
-@pytest.mark.parametrize("report", REPORTS, ids=lambda report: report.name)
+@pytest.mark.parametrize("report", REPORTS, ids=attrgetter("name"))
 def test_report(program: str, report: Report) -> None:
     """What a report tells; all else is as without one."""
     out, err, status = left_by(program, [*report.words.split(), "--report"])

@@ -14,6 +14,7 @@ import subprocess
 import sys
 from collections.abc import Callable, Iterator
 from dataclasses import dataclass
+from operator import attrgetter
 from pathlib import Path
 
 import pytest
@@ -299,7 +300,7 @@ def first_difference(was: Left, wanted: Left) -> str:
     return f"status {was[2]} in place of {wanted[2]}"
 
 
-@pytest.mark.parametrize("lay_out", RUNS, ids=lambda it: it.__name__)
+@pytest.mark.parametrize("lay_out", RUNS, ids=attrgetter("__name__"))
 def test_size(one_build: str, tmp_path: Path, lay_out: Callable[[Path], Run]) -> None:
     run = lay_out(tmp_path)
     was, wanted = left_by(one_build, run.words, tmp_path), (run.out, run.err, run.status)

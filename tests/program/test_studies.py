@@ -4,6 +4,7 @@ case whose line a report explains is run with one as well.
 
 from __future__ import annotations
 
+from operator import attrgetter
 from pathlib import Path
 
 import pytest
@@ -44,7 +45,7 @@ def lay_out(case: Case, room: Path) -> list[str]:
     return words
 
 
-@pytest.mark.parametrize("case", [*study_cases.CASES, *fault_cases.CASES], ids=lambda case: case.name)
+@pytest.mark.parametrize("case", [*study_cases.CASES, *fault_cases.CASES], ids=attrgetter("name"))
 def test_study(program: str, open_room: Path, case: Case) -> None:
     words = lay_out(case, open_room)
     wanted = (case.prints, case.tells, 2 if case.tells else 0)
