@@ -1,12 +1,11 @@
-"""Tries must-fail edits, many by one check: those that change different functions are planted together.
+"""Tries planted bugs, many by one check: those that change different functions are planted together.
 
 A function is proved from its own body and the contracts of what it calls, so whether the prover refuses it has nothing
 to do with what was planted in other bodies. An edit is refused where the check says of its function that it is not
 proved. Where it says that a function has no proof, since one that it calls isn't proved, the edit waits for the next
 check; so does one whose function or text another edit has taken. What can't be told so (an edit of a constant or a
 definition, or of one of two functions of one name) is tried alone: then the crate must not be proved. An edit that the
-prover can't read is not refused, and no edit is where the crate isn't proved without any. What a check that was cut off
-would have told is unknown: its edits are skipped, and never called refused.
+prover can't read is not refused, and no edit is where the crate isn't proved without any.
 
 Each crate is tried in a copy of its own, since only one `rt` at a time works in a crate's folder; the libraries below
 it are built once and handed to each copy. Standard library only.
@@ -25,7 +24,6 @@ from pathlib import Path
 from typing import Optional
 
 import repository
-from clock import Clock, TimeUp
 
 PROVED, REFUSED, WAITS, UNKNOWN = "proved", "refused", "waits", "unknown"
 VERDICT = re.compile(r"(fn|impl) (\S+): (proved|not proved|no proof: expected answers|no proof: it calls)\b")
@@ -35,6 +33,20 @@ UNREADABLE = re.compile(r"is not in scope|has no field|is no name|operand is mis
 
 Texts = Callable[[str], str]
 Span = tuple[str, int, int, str]
+
+
+def lines_of(command: list[str], folder: Path) -> list[str]:
+    """What a command prints, line by line."""
+    ran = subprocess.run(
+        command,
+        cwd=folder,
+        stdin=subprocess.DEVNULL,
+        stdout=subprocess.PIPE,
+        stderr=subprocess.STDOUT,
+        text=True,
+        errors="replace",
+    )
+    return ran.stdout.split("\n")
 
 
 class Edit:
@@ -145,27 +157,23 @@ def logic_of(lines: list[str]) -> Optional[str]:
 
 @dataclass
 class Outcome:
-    """What came of a crate's edits: the names of those refused, why each other one wasn't, and the names of those that
-    there was no time for.
-    """
+    """What came of a crate's edits: the names of those refused, and why each other one wasn't."""
 
     crate: str
     refused: list[str] = field(default_factory=list)
     others: dict[str, str] = field(default_factory=dict)
-    skipped: list[str] = field(default_factory=list)
 
     def tell(self) -> None:
         told = [f"{self.crate}/{name}: NOT REFUSED: {why}" for name, why in self.others.items()]
-        told += [f"{self.crate}/{name}: skipped, for want of time" for name in self.skipped]
-        count = len(self.refused) + len(self.others) + len(self.skipped)
+        count = len(self.refused) + len(self.others)
         print("\n".join([*told, f"{self.crate}: {len(self.refused)} of {count} edits refused"]), flush=True)
 
 
 class Trial:
     """The edits of a crate, tried in a copy of it."""
 
-    def __init__(self, folder: Path, clock: Clock, jobs: int) -> None:
-        self.folder, self.crate, self.clock, self.jobs = folder, folder.name, clock, jobs
+    def __init__(self, folder: Path, jobs: int) -> None:
+        self.folder, self.crate, self.jobs = folder, folder.name, jobs
         self.base: dict[str, str] = {}
 
     def texts(self, file: str) -> str:
@@ -178,7 +186,7 @@ class Trial:
         for file, text in made.items():
             (self.folder / file).write_text(text)
         try:
-            return self.clock.lines_of(["rt", "check", "--jobs", str(self.jobs)], self.folder)
+            return lines_of(["rt", "check", "--jobs", str(self.jobs)], self.folder)
         finally:
             for file in made:
                 (self.folder / file).write_text(self.base[file])
@@ -230,19 +238,15 @@ class Trial:
 
     def run(self, edits: list[Edit]) -> Outcome:
         outcome = Outcome(self.crate)
-        try:
-            if logic_of(self.check({})) != "proved":
-                outcome.others = {it.name: "the crate isn't proved without it" for it in edits}
-                return outcome
-            for edit in self.run_joint(edits, outcome):
-                why = self.alone(edit)
-                if why:
-                    outcome.others[edit.name] = why
-                else:
-                    outcome.refused.append(edit.name)
-        except TimeUp:
-            known = {*outcome.refused, *outcome.others}
-            outcome.skipped = [it.name for it in edits if it.name not in known]
+        if logic_of(self.check({})) != "proved":
+            outcome.others = {it.name: "the crate isn't proved without it" for it in edits}
+            return outcome
+        for edit in self.run_joint(edits, outcome):
+            why = self.alone(edit)
+            if why:
+                outcome.others[edit.name] = why
+            else:
+                outcome.refused.append(edit.name)
         return outcome
 
 
@@ -251,8 +255,8 @@ class Rooms:
     into the other copies.
     """
 
-    def __init__(self, root: Path, top: Path, clock: Clock) -> None:
-        self.root, self.top, self.clock = root, top, clock
+    def __init__(self, root: Path, top: Path) -> None:
+        self.root, self.top = root, top
         self.crates = repository.crates_of(root)
 
     def folder(self, name: str) -> Path:
@@ -275,17 +279,14 @@ class Rooms:
                 subprocess.run(["cp", "-al", str(built), str(to)], check=True)
 
     def build(self, name: str) -> None:
-        """Builds the library of a crate; what isn't proved, and what was cut off, shows in the trials."""
+        """Builds the library of a crate; what isn't proved shows in the trials."""
         self.lay_out(name)
-        try:
-            self.clock.lines_of(["rt", "lib", "--jobs", "1"], self.folder(name))
-        except TimeUp:
-            pass
+        lines_of(["rt", "lib", "--jobs", "1"], self.folder(name))
 
     def try_edits(self, name: str, paths: list[Path], jobs: int) -> Outcome:
         if not self.folder(name).is_dir():
             self.lay_out(name)
-        outcome = Trial(self.folder(name), self.clock, jobs).run([Edit(it) for it in paths])
+        outcome = Trial(self.folder(name), jobs).run([Edit(it) for it in paths])
         outcome.tell()
         return outcome
 
@@ -316,13 +317,13 @@ def run_tasks(tasks: dict[str, Task], at_once: int) -> Iterator[Outcome]:
                     yield outcome
 
 
-def try_all(root: Path, room: Path, paths: dict[str, list[Path]], clock: Clock, jobs: int) -> Iterator[Outcome]:
+def try_all(root: Path, room: Path, paths: dict[str, list[Path]], jobs: int) -> Iterator[Outcome]:
     """Tries the edits that lie at these paths, given by their crate, the first crate first; gives what came of each
     crate as it is done.
 
     The crates' files are those below `root`; the copies stand in `room`.
     """
-    rooms = Rooms(root, room, clock)
+    rooms = Rooms(root, room)
     each = max(1, jobs // max(1, len(paths)))
     tasks: dict[str, Task] = {}
     for rank, (name, edits) in enumerate(paths.items()):

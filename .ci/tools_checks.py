@@ -125,8 +125,8 @@ def there(*modules: str) -> bool:
     return subprocess.run([PYTHON, "-c", f"import {', '.join(modules)}"], stderr=subprocess.DEVNULL).returncode == 0
 
 
-def test(counts: Counts, program: str | None) -> None:
-    """The tests that run this program; without one the others."""
+def test(counts: Counts, program: str | None, without_browser: bool) -> None:
+    """The tests that run this program; without one the others. Those of the gate take long, like a browser."""
     if not there("pytest", "numpy"):
         print("the tests of the tools are skipped: without python3-pytest and python3-numpy")
         counts.add(0, 0, 1)
@@ -140,6 +140,8 @@ def test(counts: Counts, program: str | None) -> None:
         add_tests(counts, [*common, *at_once, *chosen[2:]], OF_PROGRAM)
     else:
         add_tests(counts, common, "bench")
+        if not without_browser:
+            add_tests(counts, common, ".ci")
 
 
 def add_tests(counts: Counts, words: list[str], folder: str) -> None:
@@ -162,7 +164,7 @@ def main() -> int:
         print(f"what needs {', '.join(missing)} is skipped: it isn't installed")
     if not program:
         lint(counts)
-    test(counts, program)
+    test(counts, program, without_browser)
     print(f"{counts.passed} passed, {counts.failed} failed, {counts.skipped} skipped")
     return 1 if counts.failed else 0
 

@@ -1,0 +1,319 @@
+"""Tests of the gate: what it runs, what it counts, which planted bugs it tries together, and that a bug that proves
+makes it fail.
+
+Most run over a stand-in for `rt`; the last goes through the toolchain itself.
+"""
+
+from __future__ import annotations
+
+import subprocess
+import sys
+from pathlib import Path
+
+import pytest
+
+sys.path.insert(0, str(Path(__file__).resolve().parent))
+import edits  # noqa: E402
+import gate  # noqa: E402
+import names  # noqa: E402
+
+# what stands in for `rt`: it refuses each edit that adds another number, and notes what it was asked
+STAND_IN = """#!/bin/sh
+crate=$(basename "$PWD")
+echo "$1 $crate" >> "$RT_LOG"
+case $1 in
+ci)
+    echo "rt ci sees $(ls crates/*/must-fail/*.edit | wc -l) edits and lists $(cut -d: -f1 crates.txt | tr '\\n' ' ')"
+    echo "5 passed, 0 failed" ;;
+try)
+    if grep -q 'count + 1' src/lib.rt; then
+        echo "test result: ok. 3 passed; 0 failed; 0 ignored; 0 filtered out"
+    else
+        echo "test result: FAILED. 1 passed; 2 failed; 0 ignored; 0 filtered out"
+        exit 4
+    fi ;;
+check)
+    if grep -q 'count + [2-9]' src/lib.rt; then
+        echo "fn $crate::bump: not proved"
+        echo "logic=not-proved"
+    else
+        echo "fn $crate::bump: proved"
+        echo "logic=proved"
+    fi ;;
+esac
+"""
+
+LOWER = """//! Counts.
+#![tactic(auto)]
+
+ghost use Rattle.std.specs.Prelude.{◌≡◌, ◌+◌, ◌<◌};
+
+/// One more.
+pub fn bump(count: u32) -> u32
+    requires { count < 1000 }
+    ensures { result ≡ count + 1 }
+{
+    count + 1
+}
+"""
+TWICE = (
+    LOWER
+    + """
+/// Two more.
+pub fn twice(count: u32) -> u32
+    requires { count < 500 }
+    ensures { result ≡ count + 2 }
+{
+    bump(bump(count))
+}
+"""
+)
+TESTED = LOWER + "\n#[cfg(test)]\nmod tests {\n    #[test]\n    fn counts() {}\n}\n"
+
+TWO_MORE = "file: src/lib.rt\nold:     count + 1\nnew:     count + 2\n"
+PROVES = "file: src/lib.rt\nold:     count + 1\nnew:     1 + count\n"
+ONCE = "file: src/lib.rt\nold:     bump(bump(count))\nnew:     bump(count)\n"
+UNKNOWN_NAME = "file: src/lib.rt\nold:     count + 1\nnew:     counts + 1\n"
+UNREADABLE = "file: src/lib.rt\nold:     bump(bump(count))\nnew:     bump(bump(count)\n"
+SCRIPT = "import os, sys\nprint(f'{len(sys.argv)} passed, 0 failed, 2 skipped')\n"
+
+
+class Repository:
+    """A small repository, with a bug planted in each crate."""
+
+    def __init__(self, root: Path, crates: dict[str, str]) -> None:
+        self.root = root
+        self.write("crates.txt", "".join(f"{name}: {below}".rstrip() + "\n" for name, below in crates.items()))
+        self.write("HANDLES", "Handles allowed: none.\n")
+        for name in crates:
+            self.write(f"crates/{name}/src/lib.rt", LOWER)
+            self.write(f"crates/{name}/must-fail/lib.bump.two_more.edit", TWO_MORE)
+            self.write(f"crates/{name}/planted/lib.bump.three_more.edit", TWO_MORE.replace("+ 2", "+ 3"))
+        subprocess.run(["git", "init", "-q"], cwd=root, check=True)
+
+    def write(self, name: str, text: str) -> None:
+        (self.root / name).parent.mkdir(parents=True, exist_ok=True)
+        (self.root / name).write_text(text)
+
+
+class Run:
+    """What a run of the gate came to: its exit status, its lines, and what it asked of `rt`."""
+
+    def __init__(self, status: int, lines: list[str], log: Path) -> None:
+        self.status, self.lines = status, lines
+        self.calls = log.read_text().splitlines() if log.is_file() else []
+        log.unlink(missing_ok=True)
+
+
+class Gate:
+    """The gate over four crates: `upper` stands on `lower`, `one` and `two` on nothing; `rt` is the stand-in."""
+
+    def __init__(self, folder: Path, capsys: pytest.CaptureFixture[str]) -> None:
+        self.folder, self.capsys = folder, capsys
+        self.repository = Repository(folder / "repository", {"lower": "", "upper": "lower", "one": "", "two": ""})
+        self.stand_in(STAND_IN)
+
+    def stand_in(self, text: str) -> None:
+        (self.folder / "bin").mkdir(exist_ok=True)
+        (self.folder / "bin/rt").write_text(text)
+        (self.folder / "bin/rt").chmod(0o755)
+
+    def run(self, *words: str) -> Run:
+        status = gate.run(self.repository.root, list(words))
+        return Run(status, self.capsys.readouterr().out.splitlines(), self.folder / "log")
+
+
+@pytest.fixture
+def small(tmp_path: Path, monkeypatch: pytest.MonkeyPatch, capsys: pytest.CaptureFixture[str]) -> Gate:
+    monkeypatch.setenv("PATH", f"{tmp_path / 'bin'}:/usr/bin:/bin")
+    monkeypatch.setenv("RT_LOG", str(tmp_path / "log"))
+    return Gate(tmp_path, capsys)
+
+
+def test_rt_ci_sees_the_repository_whole(small: Gate) -> None:
+    run = small.run()
+    assert (run.status, run.lines[-1]) == (0, "5 passed, 0 failed")
+    assert "rt ci sees 4 edits and lists lower upper one two " in run.lines
+    assert run.calls == ["ci repository"]
+
+
+def test_scripts_are_counted_and_those_on_the_program_get_its_path(small: Gate) -> None:
+    for name in (".ci/names.py", ".ci/packaging_checks.py", "bench/hostile.py"):
+        small.repository.write(name, SCRIPT)
+    run = small.run()
+    assert (run.status, run.lines[-1]) == (0, f"{5 + 1 + 2 + 3} passed, 0 failed, 6 skipped")
+
+
+def test_what_needs_no_program_runs_beside_rt_ci_and_gives_way_to_it(small: Gate) -> None:
+    """The stand-in's proof waits for a file that the script writes; the script passes as often as it is nice."""
+    waits = 'for _ in $(seq 200); do [ -e "$RT_LOG.made" ] || sleep 0.05; done; [ -e "$RT_LOG.made" ] || exit 1'
+    small.stand_in(STAND_IN.replace("ci)\n", f"ci)\n    {waits}\n"))
+    script = "import os\nopen(os.environ['RT_LOG'] + '.made', 'w').close()\nprint(f'{os.nice(0)} passed, 0 failed')\n"
+    small.repository.write(".ci/names.py", script)
+    assert small.run().lines[-1] == "24 passed, 0 failed"
+
+
+@pytest.mark.parametrize(
+    "ending, closing",
+    [
+        ('echo "4 passed, 1 failed"; exit 1', "4 passed, 1 failed"),
+        ("exit 2", "0 passed, 1 failed"),
+        ('echo "5 passed, 0 failed"; exit 1', "5 passed, 1 failed"),
+    ],
+)
+def test_a_proof_that_fails_fails_the_gate(small: Gate, ending: str, closing: str) -> None:
+    small.stand_in(STAND_IN.replace("ci)\n", f"ci)\n    {ending}\n"))
+    run = small.run()
+    assert (run.status, run.lines[-1]) == (1, closing)
+
+
+def test_a_script_that_crashes_fails_the_gate(small: Gate) -> None:
+    small.repository.write(".ci/same.py", "raise ValueError\n")
+    run = small.run()
+    assert (run.status, run.lines[-1]) == (1, "5 passed, 1 failed")
+
+
+def test_quick_proves_nothing_and_tries_every_test(small: Gate) -> None:
+    for name in ("one", "two"):
+        small.repository.write(f"crates/{name}/src/lib.rt", TESTED)
+    small.repository.write("crates/ttm/src/lib.rt", LOWER)
+    small.repository.write(".ci/names.py", SCRIPT)
+    run = small.run("--quick")
+    assert (run.status, run.lines[-1]) == (0, f"{1 + 3 + 3 + 1} passed, 0 failed, 2 skipped")
+    assert sorted(run.calls) == ["try one", "try ttm", "try two"]
+
+
+def test_quick_fails_where_a_test_fails(small: Gate) -> None:
+    small.repository.write("crates/one/src/lib.rt", TESTED.replace("count + 1", "count"))
+    small.repository.write("crates/ttm/src/lib.rt", LOWER)
+    run = small.run("--quick")
+    assert (run.status, run.lines[-1]) == (1, "2 passed, 2 failed")
+
+
+def test_planted_bugs_of_all_crates_are_tried(small: Gate) -> None:
+    run = small.run("--planted")
+    assert (run.status, run.lines[-1]) == (0, "4 passed, 0 failed")
+    assert run.calls.count("lib lower") == 1
+    assert run.calls.index("lib lower") < run.calls.index("check upper")
+
+
+def test_planted_bugs_of_one_crate_are_tried(small: Gate) -> None:
+    run = small.run("--planted", "upper")
+    assert (run.status, run.lines[-1]) == (0, "1 passed, 0 failed")
+    assert "check one" not in run.calls
+
+
+def test_a_planted_bug_that_proves_fails(small: Gate) -> None:
+    small.repository.write("crates/one/planted/lib.bump.turned_round.edit", PROVES)
+    run = small.run("--planted")
+    assert (run.status, run.lines[-1]) == (1, "4 passed, 1 failed")
+    assert "one/lib.bump.turned_round.edit: NOT REFUSED: the crate is still proved with it" in run.lines
+
+
+README = (
+    "# x\n\n## What is proved\n\n1. **Sums.** Added: `lower::bump`, `gone`.\n2. **Hopes.** `lower::bare`.\n\n## Else\n"
+)
+TABLE = (
+    "\n## Where is it decided\n\n| Crate | What | Words | On the way | Beside |\n|---|---|---|---|---|\n"
+    "| `lower`: counts | more | Sums, Hopes | `bump`, `Count::up` | `lost`, `bare` |\n"
+    "| | less | `src/lib.rt` | `bare`, `Count::down`, `MOST` | `Other::up` |\n\n## Else\n"
+)
+COUNT = """
+pub const MOST: u32 = 9;
+pub struct Count {
+    number: u32,
+}
+impl Count {
+    // calls bare()
+    pub fn up(self) -> u32
+        ensures { result ≡ bare() }
+    {
+        let more = self.number;
+        bump(more)
+    }
+    pub fn down(self) -> u32 {
+        self.number
+    }
+}
+pub fn bare() {
+}
+"""
+MAIN = "fn main() {\n    let count = lower::make();\n    count.up();\n}\nfn other() {\n    lower::bare();\n}\n"
+
+
+def wrong_names(root: Path, source: str) -> list[str]:
+    """What is wrong with the pages above, where the crate below the program has this source."""
+    repository = Repository(root, {"lower": "", "ttm": "lower"})
+    repository.write("crates/lower/src/lib.rt", LOWER + source)
+    repository.write("crates/lower/specs/Sums.antt", "")
+    repository.write("crates/ttm/src/main.rt", MAIN)
+    repository.write("README.md", README)
+    repository.write("docs/ARCHITECTURE.md", TABLE)
+    repository.write("docs/DEFINITIONS.md", "**Sum.** What is added. [lower/Sums, Adds; seen in ttm/Seen]\n")
+    return [why for why, right in names.judged(root) if not right]
+
+
+def test_a_name_that_is_not_there_or_has_no_contract_or_is_not_reached_is_reported(tmp_path: Path) -> None:
+    wrong = wrong_names(tmp_path / "r", COUNT + "pub fn make() -> Count {\n    Count { number: 1 }\n}\n")
+    assert sorted(wrong) == sorted(
+        [
+            "README: 'Hopes' names no function with a contract",
+            "README: lower has no gone",
+            "ARCHITECTURE: lower has no lost",
+            "ARCHITECTURE: lower has no Other::up",
+            "ARCHITECTURE: ttm doesn't come to lower's bare",
+            "ARCHITECTURE: ttm doesn't come to lower's Count::down",
+            "ARCHITECTURE: ttm doesn't come to lower's MOST",
+            "ARCHITECTURE: lower has no spec Hopes",
+            "DEFINITIONS: lower has no spec Adds",
+            "DEFINITIONS: ttm has no spec Seen",
+            "lower: no test and no planted bug names bare",
+            "lower: no test and no planted bug names make",
+        ]
+    )
+
+
+def test_a_method_of_a_type_that_is_not_met_is_not_reached(tmp_path: Path) -> None:
+    wrong = wrong_names(tmp_path / "r", COUNT + "pub fn make() -> u32 {\n    MOST\n}\n")
+    assert "ARCHITECTURE: ttm doesn't come to lower's Count::up" in wrong
+    assert "ARCHITECTURE: ttm doesn't come to lower's bump" in wrong
+    assert "ARCHITECTURE: ttm doesn't come to lower's MOST" not in wrong
+
+
+def test_the_prover_refuses_what_it_should(
+    tmp_path: Path, monkeypatch: pytest.MonkeyPatch, capsys: pytest.CaptureFixture[str]
+) -> None:
+    """Through the toolchain itself. A check takes ten seconds, so one run shows what several bugs come to."""
+    repository = Repository(tmp_path / "r", {"counts": "", "wrong": ""})
+    repository.write("crates/counts/src/lib.rt", TWICE)
+    repository.write("crates/wrong/src/lib.rt", LOWER.replace("count + 1 }", "count + 3 }"))
+    (tmp_path / "r/crates/counts/planted/lib.bump.three_more.edit").unlink()
+    bugs = {
+        "lib.bump.another_name": UNKNOWN_NAME,
+        "lib.bump.turned_round": PROVES,
+        "lib.twice.half_a_call": UNREADABLE,
+        "lib.twice.once": ONCE,
+    }
+    for name, text in bugs.items():
+        repository.write(f"crates/counts/planted/{name}.edit", text)
+    together: list[tuple[set[str], set[str]]] = []
+    was = edits.Trial.together
+
+    def noted(trial: edits.Trial, asked: list[edits.Edit]) -> list[edits.Edit]:
+        chosen, _ = edits.choose(asked, trial.texts)
+        refused = was(trial, asked)
+        together.append(({it.name for it in chosen}, {it.name for it in refused}))
+        return refused
+
+    monkeypatch.setattr(edits.Trial, "together", noted)
+    status = gate.run(repository.root, ["--planted"])
+    lines = capsys.readouterr().out.splitlines()
+    assert (status, lines[-1]) == (1, "1 passed, 4 failed")
+    assert "counts: 1 of 4 edits refused" in lines
+    assert "counts/lib.bump.turned_round.edit: NOT REFUSED: the crate is still proved with it" in lines
+    for name in ("bump.another_name", "twice.half_a_call"):
+        start = f"counts/lib.{name}.edit: NOT REFUSED: the prover can't read it"
+        assert any(line.startswith(start) for line in lines)
+    # one check tells of two functions which of their bugs is refused
+    assert ({"lib.bump.turned_round.edit", "lib.twice.once.edit"}, {"lib.twice.once.edit"}) in together
+    assert "wrong/lib.bump.three_more.edit: NOT REFUSED: the crate isn't proved without it" in lines
