@@ -1,12 +1,15 @@
 #!/usr/bin/env python3
-"""Looks that the pages claim nothing of what isn't there.
+"""Checks that the pages name only what exists.
 
-Each function and law that README's list of promises and ARCHITECTURE's table name exists in its crate; each promise of
-README names a function that has a contract; the program's `main` comes to each function that the table has 'on the
-program's way', by a walk over the sources that goes by names (`calls.py` says what it misses); each spec that the table
-and DEFINITIONS name is a file; and so is each must-fail edit that ASSURANCE names, whose functions, types and constants
-are there, too. Each planted bug can be planted, and each public function is named by a test or a planted bug
-(`public.py`). The last line is 'N passed, M failed'. Standard library only.
+- Each function and law that README's promises or the table of architecture.md name exists in its crate, and each promise
+  names a function that has a contract.
+- The program's `main` reaches each function that the table lists 'on the program's way', by a walk over the sources
+  that goes by names (`calls.py` says what it misses).
+- Each spec that the table or definitions.md name is a file, and so is each must-fail edit that proofs.md names; the
+  functions, types and constants that proofs.md names exist.
+- Each planted bug can be planted, and a test or a planted bug names each public function (`public.py`).
+
+The last line is 'N passed, M failed'. Standard library only.
 """
 
 from __future__ import annotations
@@ -118,15 +121,15 @@ def claims_of_table(architecture: str, crates: list[str]) -> list[Claim]:
     """The names in the last two columns of the table: those that the program comes to, and those beside its way."""
     claims = []
     for crate, (_, _, on_way, beside) in rows_of_table(architecture, crates):
-        claims += [Claim("ARCHITECTURE", crate, it, True) for it in NAME.findall(on_way)]
-        claims += [Claim("ARCHITECTURE", crate, it) for it in NAME.findall(beside)]
+        claims += [Claim("architecture.md", crate, it, True) for it in NAME.findall(on_way)]
+        claims += [Claim("architecture.md", crate, it) for it in NAME.findall(beside)]
     return claims
 
 
 def specs_of_table(architecture: str, crates: list[str]) -> list[Claim]:
     """The spec files that the table names in its column of words."""
     rows = rows_of_table(architecture, crates)
-    return [Claim("ARCHITECTURE", crate, it[1]) for crate, cells in rows for it in SPEC.findall(cells[1])]
+    return [Claim("architecture.md", crate, it[1]) for crate, cells in rows for it in SPEC.findall(cells[1])]
 
 
 def specs_of_definitions(definitions: str, crates: list[str]) -> list[Claim]:
@@ -135,30 +138,30 @@ def specs_of_definitions(definitions: str, crates: list[str]) -> list[Claim]:
     for part in re.findall(r"\[([^\]]*/[^\]]*)\]", definitions):
         for named, spec in SPEC.findall(part):
             crate = named or crate
-            claims += [Claim("DEFINITIONS", crate, spec)] if crate in crates else []
+            claims += [Claim("definitions.md", crate, spec)] if crate in crates else []
     return claims
 
 
 def judged_assurance(root: Path, sources: Sources) -> Iterator[tuple[str, bool]]:
-    """What ASSURANCE names: edits, and functions, types, constants, crates, files and words of specs of any crate."""
-    page = root / "docs/ASSURANCE.md"
+    """What proofs.md names: edits, and functions, types, constants, crates, files and words of specs of any crate."""
+    page = root / "docs/explanation/proofs.md"
     text = page.read_text() if page.is_file() else ""
     for crate, edit in EDIT.findall(text):
-        yield f"ASSURANCE: {crate} has no edit {edit}", (root / f"crates/{crate}/must-fail/{edit}.edit").is_file()
+        yield f"proofs.md: {crate} has no edit {edit}", (root / f"crates/{crate}/must-fail/{edit}.edit").is_file()
     files = {it.stem for crate in sources.names for it in repository.files_of(root / f"crates/{crate}/src")}
     specs = "\n".join(it.read_text() for it in sorted((root / "crates").glob("*/specs/*.antt")))
     libraries = {it for crate in repository.crates_of(root).values() for it in crate.line.split(":")[1].split()}
     known = {*sources.names, *files, *libraries}
     for name in dict.fromkeys(NAME.findall(text)):
-        there = any(sources.has(Claim("ASSURANCE", crate, name)) for crate in sources.names)
+        there = any(sources.has(Claim("proofs.md", crate, name)) for crate in sources.names)
         word = re.search(rf"(?m)^(?:\w+ )*{re.escape(name)}\b", specs)
-        yield f"ASSURANCE: nothing is called {name}", name in known or there or bool(word)
+        yield f"proofs.md: nothing is called {name}", name in known or there or bool(word)
 
 
 def judged(root: Path) -> Iterator[tuple[str, bool]]:
     """Each thing that is looked at, and whether it is as it should be."""
     sources = Sources(root)
-    architecture = (root / "docs/ARCHITECTURE.md").read_text()
+    architecture = (root / "docs/explanation/architecture.md").read_text()
     claims = claims_of_table(architecture, sources.names)
     for title, text in promises((root / "README.md").read_text()):
         named = claims_of_promise(text, sources.names)
@@ -169,7 +172,7 @@ def judged(root: Path) -> Iterator[tuple[str, bool]]:
         if claim.on_way and sources.has(claim):
             said = f"{claim.page}: {PROGRAM} doesn't come to {claim.crate}'s {claim.name}"
             yield said, sources.walk.comes_to(claim.crate, claim.name)
-    specs = specs_of_definitions((root / "docs/DEFINITIONS.md").read_text(), sources.names)
+    specs = specs_of_definitions((root / "docs/explanation/definitions.md").read_text(), sources.names)
     for claim in specs_of_table(architecture, sources.names) + specs:
         yield f"{claim.page}: {claim.crate} has no spec {claim.name}", sources.has_spec(claim)
     yield from judged_assurance(root, sources)

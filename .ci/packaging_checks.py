@@ -115,9 +115,9 @@ def toolchain_is_named(of: Packages) -> None:
 
 def documents_are_there(of: Packages) -> None:
     """the changelog and the pages of docs are there"""
-    wanted = [ROOT / "README.md", ROOT / "CHANGELOG.md", *(ROOT / "docs").glob("*.md")]
-    for it in wanted:
-        assert of.share(f"doc/ttm/{it.name}") == it.read_text(), f"{it.name} differs"
+    for it in (ROOT / "README.md", ROOT / "CHANGELOG.md", *(ROOT / "docs").rglob("*.md")):
+        name = it.relative_to(ROOT)
+        assert of.share(f"doc/ttm/{name}") == it.read_text(), f"{name} differs"
 
 
 def licence_and_changes_are_said(of: Packages) -> None:

@@ -248,8 +248,10 @@ def wrong_names(root: Path, source: str) -> list[str]:
     repository.write("crates/lower/specs/Sums.antt", "")
     repository.write("crates/ttm/src/main.rt", MAIN)
     repository.write("README.md", README)
-    repository.write("docs/ARCHITECTURE.md", TABLE)
-    repository.write("docs/DEFINITIONS.md", "**Sum.** What is added. [lower/Sums, Adds; seen in ttm/Seen]\n")
+    repository.write("docs/explanation/architecture.md", TABLE)
+    repository.write(
+        "docs/explanation/definitions.md", "**Sum.** What is added. [lower/Sums, Adds; seen in ttm/Seen]\n"
+    )
     return [why for why, right in names.judged(root) if not right]
 
 
@@ -259,14 +261,14 @@ def test_a_name_that_is_not_there_or_has_no_contract_or_is_not_reached_is_report
         [
             "README: 'Hopes' names no function with a contract",
             "README: lower has no gone",
-            "ARCHITECTURE: lower has no lost",
-            "ARCHITECTURE: lower has no Other::up",
-            "ARCHITECTURE: ttm doesn't come to lower's bare",
-            "ARCHITECTURE: ttm doesn't come to lower's Count::down",
-            "ARCHITECTURE: ttm doesn't come to lower's MOST",
-            "ARCHITECTURE: lower has no spec Hopes",
-            "DEFINITIONS: lower has no spec Adds",
-            "DEFINITIONS: ttm has no spec Seen",
+            "architecture.md: lower has no lost",
+            "architecture.md: lower has no Other::up",
+            "architecture.md: ttm doesn't come to lower's bare",
+            "architecture.md: ttm doesn't come to lower's Count::down",
+            "architecture.md: ttm doesn't come to lower's MOST",
+            "architecture.md: lower has no spec Hopes",
+            "definitions.md: lower has no spec Adds",
+            "definitions.md: ttm has no spec Seen",
             "lower: no test and no planted bug names bare",
             "lower: no test and no planted bug names make",
         ]
@@ -275,9 +277,9 @@ def test_a_name_that_is_not_there_or_has_no_contract_or_is_not_reached_is_report
 
 def test_a_method_of_a_type_that_is_not_met_is_not_reached(tmp_path: Path) -> None:
     wrong = wrong_names(tmp_path / "r", COUNT + "pub fn make() -> u32 {\n    MOST\n}\n")
-    assert "ARCHITECTURE: ttm doesn't come to lower's Count::up" in wrong
-    assert "ARCHITECTURE: ttm doesn't come to lower's bump" in wrong
-    assert "ARCHITECTURE: ttm doesn't come to lower's MOST" not in wrong
+    assert "architecture.md: ttm doesn't come to lower's Count::up" in wrong
+    assert "architecture.md: ttm doesn't come to lower's bump" in wrong
+    assert "architecture.md: ttm doesn't come to lower's MOST" not in wrong
 
 
 def test_the_prover_refuses_what_it_should(

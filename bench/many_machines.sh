@@ -1,6 +1,6 @@
 #!/bin/sh
 # Computes a study of a feed whole, in parts by GNU parallel (here, and over ssh), and in parts by a Slurm job array, and compares the bytes. One part fails at
-# first, or is lost, and is computed again, as docs/ANALYSTS.md says. FOLDER has a scenario file cut.csv, and footpaths.csv and opportunities.csv where --walk
+# first, or is lost, and is computed again, as docs/howto/cluster.md says. FOLDER has a scenario file cut.csv, and footpaths.csv and opportunities.csv where --walk
 # and access shall mean something. Hosts are this machine by two names: an ssh server on a port of its own is started and ended where there is one.
 # Three minutes on the feed of a town: Slurm lets a task that is begun again wait for two.
 # usage: bench/many_machines.sh FOLDER        (after `rt run` in crates/ttm; as root; Debian: apt-get install python3-numpy parallel slurm-wlm openssh-server)

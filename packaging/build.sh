@@ -70,7 +70,8 @@ with zipfile.ZipFile(sys.argv[2], "w", zipfile.ZIP_DEFLATED, compresslevel=9) as
         member.external_attr, member.compress_type = 0o644 << 16, zipfile.ZIP_DEFLATED
         packed.writestr(member, (Path(sys.argv[1]) / f"{name}.txt").read_bytes())
 END
-cp "$here/README.md" "$here/CHANGELOG.md" "$here"/docs/*.md "$here"/docs/*.png "$docs"
+cp "$here/README.md" "$here/CHANGELOG.md" "$docs"
+cp -r "$here/docs" "$docs/docs"
 {
     echo "$said"
     ! at_hand=$(rt version 2> /dev/null) || echo "packed beside $at_hand"
@@ -81,9 +82,9 @@ cp "$here/README.md" "$here/CHANGELOG.md" "$here"/docs/*.md "$here"/docs/*.png "
 export PYTHONDONTWRITEBYTECODE=1
 for name in ttm ttm-tools; do
     set -- "$usr/bin/$name"
-    page=
-    if [ $name = ttm ]; then page=$here/docs/ANALYSTS.md; else set -- python3 "$@"; fi
-    python3 "$here/packaging/manual.py" $name "$@" --version "$version" --page "$page" > "$usr/share/man/man1/$name.1"
+    pages=
+    if [ $name = ttm ]; then pages=$here/docs; else set -- python3 "$@"; fi
+    python3 "$here/packaging/manual.py" $name "$@" --version "$version" --docs "$pages" > "$usr/share/man/man1/$name.1"
     gzip -9n "$usr/share/man/man1/$name.1"
     python3 "$here/packaging/completion.py" $name "$@" > "$completions/$name"
 done

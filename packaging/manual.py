@@ -1,11 +1,11 @@
 #!/usr/bin/env python3
-"""Writes the manual page of a program, from its `--help` and a page of docs/, to the standard output.
+"""Writes the manual page of a program, from its `--help` and pages of docs/, to the standard output.
 
-    manual.py ttm PROGRAM [--page docs/ANALYSTS.md]
+    manual.py ttm PROGRAM [--docs docs]
     manual.py ttm-tools PROGRAM
 
-Of the page the sections count that `SECTIONS` names: a manual has no stories and no pictures. The date is that of
-SOURCE_DATE_EPOCH. Standard library only.
+`PAGES` lists the pages that the manual includes; pictures are left out. The date is that of SOURCE_DATE_EPOCH. Standard
+library only.
 """
 import argparse
 import os
@@ -17,14 +17,15 @@ from typing import Iterable, Iterator, Sequence
 
 from helps import Help, Item, commands_of, read_help, text_of
 
-# the sections of docs/ANALYSTS.md that the manual has, and what they are called there
-SECTIONS = {
-    "Getting a feed ready": "THE FEED",
-    "One run": "A RUN",
-    "A report": "REPORT",
-    "Scenarios": "SCENARIOS",
-    "The matrix": "THE MATRIX",
-    "Refusals": "DIAGNOSTICS AND EXIT STATUS",
+# the pages of docs/ that the manual includes, and the titles of their sections there
+PAGES = {
+    "howto/feed.md": "PREPARE A FEED",
+    "reference/formats.md": "FILES",
+    "reference/options.md": "OPTIONS IN DETAIL",
+    "howto/report.md": "REPORT",
+    "reference/scenario-file.md": "SCENARIO FILES",
+    "reference/matrix.md": "THE MATRIX",
+    "reference/errors.md": "DIAGNOSTICS AND EXIT STATUS",
 }
 MARKER = re.compile(r"(-|\d+\.) +")
 
@@ -91,21 +92,27 @@ def section(text: str) -> Iterator[str]:
             yield from table(lines)
         elif MARKER.match(lines[0]):
             yield from list_of(lines)
+        elif lines[0].startswith("```"):
+            yield from code(lines[1:-1])
         elif all(line.startswith("    ") for line in lines):
             yield from code(lines)
         else:
             yield from (".PP", inline(block))
 
 
-def sections(page: Path) -> Iterator[str]:
-    """The troff of the sections of a page that the manual has."""
-    parts = re.split(r"^## (.*)\n", page.read_text(encoding="utf-8"), flags=re.M)
-    texts = dict(zip(parts[1::2], parts[2::2]))
-    for heading, name in SECTIONS.items():
-        if heading not in texts:
-            sys.exit("%s: no section '%s', which the manual has" % (page, heading))
+def sections(docs: Path) -> Iterator[str]:
+    """The troff of the pages that the manual includes."""
+    for page, name in PAGES.items():
+        try:
+            text = (docs / page).read_text(encoding="utf-8")
+        except OSError as why:
+            sys.exit(f"{docs / page}: {why.strerror}")
+        before, *parts = re.split(r"^## (.*)\n", text, flags=re.M)
         yield '.SH "%s"' % name
-        yield from section(texts[heading])
+        yield from section(before.split("\n", 1)[1])
+        for heading, part in zip(parts[::2], parts[1::2]):
+            yield '.SS "%s"' % escaped(re.sub("[`*]", "", heading))
+            yield from section(part)
 
 
 def items(given: Iterable[Item]) -> Iterator[str]:
@@ -144,7 +151,7 @@ def command(program: Sequence[str], name: str) -> Iterator[str]:
     yield from paragraphs(own.more)
 
 
-def manual(name: str, program: Sequence[str], version: str, page: str) -> Iterator[str]:
+def manual(name: str, program: Sequence[str], version: str, docs: str) -> Iterator[str]:
     """The whole page."""
     own = read_help(text_of(program))
     yield from head(name, " ".join(own.about[:1]).replace("\n", " "), version)
@@ -156,8 +163,8 @@ def manual(name: str, program: Sequence[str], version: str, page: str) -> Iterat
         yield ".SH COMMANDS"
     for it in commands:
         yield from command(program, it)
-    if page:
-        yield from sections(Path(page))
+    if docs:
+        yield from sections(Path(docs))
     other = "ttm\\-tools" if name == "ttm" else "ttm"
     yield from (".SH SEE ALSO", ".BR %s (1)" % other, ".PP", "\\fI/usr/share/doc/ttm\\fR has the exact words of all")
 
@@ -167,9 +174,9 @@ def main() -> None:
     words.add_argument("name", help="of the program as it is installed")
     words.add_argument("program", nargs="+", help="the program as it is run here, with its first words")
     words.add_argument("--version", default="", help="the version that the page names")
-    words.add_argument("--page", default="", help="a page of docs/ whose sections the manual has, too")
-    asked = words.parse_args()
-    sys.stdout.write("\n".join(manual(asked.name, asked.program, asked.version, asked.page)) + "\n")
+    words.add_argument("--docs", default="", help="the folder docs, whose pages the manual includes")
+    args = words.parse_args()
+    sys.stdout.write("\n".join(manual(args.name, args.program, args.version, args.docs)) + "\n")
 
 
 if __name__ == "__main__":

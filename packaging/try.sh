@@ -4,14 +4,16 @@
 # usage: packaging/try.sh [--room debian|dpkg|analysts] DEB
 #   debian    a Debian 12 that mmdebstrap or debootstrap makes: wants root and a mirror; its address may stand in MIRROR
 #   dpkg      an empty one by `dpkg --root`, over this machine's libraries: wants root
-#   analysts  a Debian 12 where apt installs the package with all that it recommends (some minutes); the commands of
-#             docs/ANALYSTS.md, all but those for many machines, run there, and print what the page says
+#   analysts  a Debian 12 where apt installs the package with all that it recommends (some minutes); the commands of the
+#             pages below run there, and print what the pages say
 # By default debian where that can be had, else dpkg. Status 0: all is right; 1: something isn't; 75: there is no room.
 set -eu
 umask 022
 export LC_ALL=C.UTF-8 PATH="$PATH:/usr/sbin:/sbin" DEBIAN_FRONTEND=noninteractive
 NO_ROOM=75
 SECONDS_FOR_A_ROOM=900
+# in the order in which their commands run; bench/many_machines.sh runs those of howto/cluster.md
+PAGES="tutorial howto/export howto/r5py howto/feed howto/plans reference/plan-file howto/measures howto/points howto/study"
 here=$(cd "$(dirname "$0")/.." && pwd)
 kind=
 if [ "${1:-}" = --room ]; then
@@ -68,8 +70,10 @@ if [ "$kind" = analysts ]; then
     # bash hands files over by /dev/fd, as a machine has it
     mount -t proc proc "$inside/proc"
     [ -e "$inside/dev/fd" ] || ln -s /proc/self/fd "$inside/dev/fd"
-    chroot "$inside" sh -c 'cd /study && python3 /tmp/pages.py /usr/share/doc/ttm/ANALYSTS.md' || exit 1
-    echo "the commands of docs/ANALYSTS.md ran in a Debian of their own, and printed what it says"
+    # shellcheck disable=SC2086
+    paths=$(printf '/usr/share/doc/ttm/docs/%s.md ' $PAGES)
+    chroot "$inside" sh -c "cd /study && python3 /tmp/pages.py $paths" || exit 1
+    echo "the commands of the pages ran in a Debian of their own, and printed what the pages say"
     exit
 fi
 if [ "$kind" = debian ]; then

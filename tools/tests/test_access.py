@@ -107,7 +107,7 @@ def test_words_that_do_not_go_together(small: Town) -> None:
 
 
 def plain_weight(decay: str, value: float, cutoff: float, minutes: float) -> float:
-    """The formulas of docs/MEASURES.md, one travel time at a time."""
+    """The formulas of docs/reference/measures.md, one travel time at a time."""
     if decay == "linear":
         return 1 - min(1, max(0, minutes - (cutoff - value / 2)) / value)
     if decay == "exponential":

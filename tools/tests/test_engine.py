@@ -16,7 +16,7 @@ from helpers import Room
 from ttm_tools.engine import EngineFault, Result, Run, program_at, run
 from ttm_tools.faults import Lacking, WrongWords
 
-PAGE = Path(__file__).resolve().parents[2] / "docs" / "PYTHON.md"
+PAGE = Path(__file__).resolve().parents[2] / "docs" / "howto" / "python.md"
 
 
 @contextlib.contextmanager
@@ -31,7 +31,7 @@ def standing_in(folder: Path) -> Iterator[None]:
 
 def test_each_block_of_the_page_runs(room: Room, program: str, monkeypatch: pytest.MonkeyPatch) -> None:
     if not PAGE.is_file():
-        pytest.skip("without docs/PYTHON.md")
+        pytest.skip("docs/howto/python.md is missing")
     monkeypatch.setenv("TTM_PROGRAM", program)
     blocks = re.findall(r"^```python\n(.*?)^```$", PAGE.read_text(), re.MULTILINE | re.DOTALL)
     assert len(blocks) == 9

@@ -1,4 +1,4 @@
-"""The page for analysts, from zip to picture: each of its commands runs, and prints what the page says."""
+"""The tutorial and the how-to pages: each command runs, and prints what its page says."""
 
 import os
 import shutil
@@ -16,14 +16,14 @@ ROOT = Path(__file__).resolve().parents[2]
 sys.path.insert(0, str(ROOT / "packaging"))
 import pages  # noqa: E402
 
-PAGE = ROOT / "docs" / "ANALYSTS.md"
+DOCS = ROOT / "docs"
 FEED = ("calendar.txt", "calendar_dates.txt", "routes.txt", "stop_times.txt", "stops.txt", "transfers.txt", "trips.txt")
 
 
 def make_town(room: Room, program: str) -> None:
-    """What the page takes for granted: the town, the program, and the tools."""
+    """What the pages assume: the town, the program, and the tools."""
     if any(shutil.which(name) is None for name in ("zip", "unzip")) or not (ROOT / "bench" / "feedgen.py").is_file():
-        pytest.skip("without zip and unzip, or without the maker of the town")
+        pytest.skip("zip, unzip or bench/feedgen.py is missing")
     words = [sys.executable, str(ROOT / "bench" / "feedgen.py"), "town", room.path("made")]
     subprocess.run(words, check=True, capture_output=True)
     with zipfile.ZipFile(room.path("town.zip"), "w") as zipped:
@@ -47,49 +47,50 @@ def environment_of(room: Room) -> dict[str, str]:
     return {**os.environ, "PATH": path, "LC_ALL": "C.UTF-8"}
 
 
-def prints_what_is_said(room: Room, *names: str, before: str = "true") -> int:
-    """Each command of some sections prints what the page says, after one that prints nothing; gives how many there
-    are.
+def text_of(page: str) -> str:
+    return (DOCS / f"{page}.md").read_text()
+
+
+def commands_run(room: Room, *names: str, before: str = "true") -> int:
+    """Runs each command of some pages, after one that prints nothing, and compares the output with the page; returns
+    the number of commands.
     """
-    known = pages.sections(PAGE.read_text())
-    page = [pages.Command(before), *(command for name in names for command in pages.commands(known[name]))]
+    page = [pages.Command(before), *(command for name in names for command in pages.commands(text_of(name)))]
     assert pages.differences(page, room.folder, environment_of(room)) == []
     return len(page) - 1
 
 
-def test_each_command_prints_what_the_page_says(room: Room, program: str) -> None:
+def test_the_tutorial_and_what_follows_it_print_what_the_pages_say(room: Room, program: str) -> None:
     pytest.importorskip("h5py")
     needs_maps_and_page()
     make_town(room, program)
-    assert prints_what_is_said(room, "One question, from zip to picture", "What a number means") > 15
+    assert commands_run(room, "tutorial", "howto/export", "howto/r5py", "howto/measures") > 15
 
 
-def test_a_damaged_feed_is_told_and_mended_as_the_page_says(room: Room, program: str) -> None:
+def test_a_damaged_feed_is_repaired_as_the_page_says(room: Room, program: str) -> None:
     make_town(room, program)
-    assert prints_what_is_said(room, "Getting a feed ready") > 7
+    assert commands_run(room, "howto/feed") > 7
 
 
-def test_travel_times_from_door_to_door_as_the_page_says(room: Room, program: str) -> None:
+def test_travel_times_from_door_to_door_are_as_the_page_says(room: Room, program: str) -> None:
     needs_maps_and_page()
     make_town(room, program)
     before = "export PATH=$PWD/crates/ttm/out:$PWD/tools:$PATH; unzip -q town.zip -d town"
     edits = "printf 'action,id,seconds\\nremove_route,L0013,\\n' > no13.csv"
-    section = "Access to jobs from 2,000 cells, before and after"
-    assert prints_what_is_said(room, section, before=f"{before}; {edits}") > 9
+    assert commands_run(room, "howto/points", before=f"{before}; {edits}") > 9
 
 
-def test_a_study_is_made_in_one_command_as_the_page_says(room: Room, program: str) -> None:
+def test_a_study_runs_in_one_command_as_the_page_says(room: Room, program: str) -> None:
     for package in ("matplotlib", "pandas", "h5py", "jinja2", "osmium", "scipy"):
         pytest.importorskip(package)
     if not LEAFLET.is_file():
         pytest.skip("without libjs-leaflet")
     make_town(room, program)
-    known = pages.sections(PAGE.read_text())
-    for name in ("A tram every ten minutes, and what it brings", "A study in one command"):
-        pages.write_files(known[name], room.folder)
-    ready = [it for it in pages.commands(known["Getting a feed ready"]) if not it.printed]
+    for name in ("howto/plans", "howto/study"):
+        pages.write_files(text_of(name), room.folder)
+    ready = [it for it in pages.commands(text_of("howto/feed")) if not it.printed]
     path = pages.Command("export PATH=$PWD/crates/ttm/out:$PWD/tools:$PATH")
-    page = [path, *ready, *pages.commands(known["A study in one command"])]
+    page = [path, *ready, *pages.commands(text_of("howto/study"))]
     assert len(page) > 14
     assert pages.differences(page, room.folder, environment_of(room)) == []
 
@@ -97,11 +98,9 @@ def test_a_study_is_made_in_one_command_as_the_page_says(room: Room, program: st
 def test_a_plan_is_carried_out_as_the_page_says(room: Room, program: str) -> None:
     needs_maps_and_page()
     make_town(room, program)
-    known = pages.sections(PAGE.read_text())
-    section = "A tram every ten minutes, and what it brings"
-    pages.write_files(known[section], room.folder)
+    pages.write_files(text_of("howto/plans"), room.folder)
     begin = ("export", "unzip", "ttm-tools walks", "printf", "ttm --feed")
-    page = [it for it in pages.commands(known["One question, from zip to picture"]) if it.text.startswith(begin)]
-    page += pages.commands(known[section])
+    page = [it for it in pages.commands(text_of("tutorial")) if it.text.startswith(begin)]
+    page += pages.commands(text_of("howto/plans")) + pages.commands(text_of("reference/plan-file"))
     assert len(page) > 20
     assert pages.differences(page, room.folder, environment_of(room)) == []

@@ -344,7 +344,7 @@ def test_the_file_that_new_prints_can_be_read_with_every_field(bare: Place) -> N
         (bare.folder / name).touch()
     study = read_study(bare.say(out))
     assert (study.run.first, study.run.shares, study.results.access) == ("07:30", (50,), True)
-    assert page() in (ROOT / "docs" / "STUDIES.md").read_text()
+    assert page() in (ROOT / "docs" / "reference" / "study-file.md").read_text()
 
 
 def test_words_that_do_not_go_together_are_wrong_words(bare: Place) -> None:

@@ -69,7 +69,7 @@ def refusal_of(told: bytes, status: int) -> list[str]:
 
 @dataclass(frozen=True)
 class Run:
-    """What is asked of `ttm`; docs/ANALYSTS.md says what each argument means."""
+    """What is asked of `ttm`; docs/reference/options.md says what each argument means."""
 
     feed: Pathlike  # the folder of an unpacked feed
     date: str | datetime.date  # as a text YYYYMMDD or YYYY-MM-DD

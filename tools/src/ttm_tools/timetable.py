@@ -1,6 +1,6 @@
 """A feed's timetable in columns: trips with their events, service days, headways, change times, and walks.
 
-All as docs/DEFINITIONS.md says. What `ttm` refuses isn't looked for here: a feed is one that it takes.
+All as docs/explanation/definitions.md says. What `ttm` refuses isn't looked for here: a feed is one that it takes.
 """
 
 import datetime

@@ -22,7 +22,7 @@ TOLD = "opportunities within limits, weighted by travel time, and the time to th
 HELP = """\
 Measures what is reached from each origin of a matrix: of each column of each file of opportunities the sum at all stops
 within each cutoff (--decay step), or the sum weighted by travel time (linear, exponential, logistic), as r5r does; or,
-with --nearest, the time to the nearest of them. docs/MEASURES.md has each formula and its source.
+with --nearest, the time to the nearest of them. docs/reference/measures.md has each formula and its source.
 
 A file of opportunities has the column stop_id (or id) and one or more columns of numbers from 0 on, with decimals or
 without; a stop that it doesn't name has none. Names and places (stop_name, stop_lat, stop_lon, name, lat, lon) don't

@@ -17,7 +17,7 @@ stops, route, trip, times, waits, changes and walks, for the feed as it is and f
 durations of all departures (minutes and seconds; a star at the departure of the journey, - where nobody gets there).
 --picture draws these, minute by minute.
 
-It is found by a second search, in Python, by the definitions of docs/DEFINITIONS.md. This search isn't proved; `ttm`
+It is found by a second search, in Python, by the definitions of docs/explanation/definitions.md. This search isn't proved; `ttm`
 runs as well (or a cell of --matrix is taken), and where its travel time is another an error tells both numbers. A time
 of 24:00:00 or more is of the day after the date. The words are those of `ttm`; scenario files stand directly behind the
 feed, or at the end where the feed stands there too. Memory:

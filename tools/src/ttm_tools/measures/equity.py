@@ -1,7 +1,7 @@
 """How access is spread over people: weighted means and medians, who loses, Gini, Palma, and tenths of the people.
 
 People who have the same access stand side by side: where a tenth ends among them, it takes the same part of the people
-of each of their points. docs/MEASURES.md has the formulas, and says which of them can mislead.
+of each of their points. docs/reference/measures.md has the formulas, and says which of them can mislead.
 """
 
 from dataclasses import dataclass

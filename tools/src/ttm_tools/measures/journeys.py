@@ -1,4 +1,4 @@
-"""The journey behind a cell: a second search, by the definitions of docs/DEFINITIONS.md, apart from `ttm`.
+"""The journey behind a cell: a second search, by the definitions of docs/explanation/definitions.md, apart from `ttm`.
 
 Round by round of rides each stop gets the least time at which a ride ends there: all events of all runs are looked at
 in each round, by arrays. Who sets out later is nowhere earlier; so once the last departure that gets there is known,

@@ -1,4 +1,4 @@
-"""A study's file with a comment for each field, and the same as a table for docs/STUDIES.md."""
+"""A study's file with a comment for each field, and the same as a table for docs/reference/study-file.md."""
 
 import textwrap
 from dataclasses import MISSING, Field, fields

@@ -42,7 +42,7 @@ class FeedWish:
 
 @dataclass(frozen=True)
 class RunWish:
-    """The arguments of ttm: docs/ANALYSTS.md, "One run"."""
+    """The arguments of ttm: docs/reference/options.md."""
 
     date: str = told(DATE, "the day of the departures", "2026-05-04")
     first: str = told(TIME, "the first departure of the window", '"07:30"')
@@ -91,7 +91,7 @@ class WalkWish:
 
 @dataclass(frozen=True)
 class PointWish:
-    """Points such as cells, homes or schools, in place of stops: docs/ANALYSTS.md."""
+    """Points such as cells, homes or schools, in place of stops: docs/howto/points.md."""
 
     files: tuple[str, ...] = told(FILES, "points at which journeys begin and end", '["cells.csv"]', ())
     origins: tuple[str, ...] = told(FILES, "points at which they only begin", '["homes.csv"]', ())
