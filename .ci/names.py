@@ -1,7 +1,7 @@
 #!/usr/bin/env python3
 """Checks that the pages name only what exists.
 
-- Each function and law that README's promises or the table of architecture.md name exists in its crate, and each promise
+- Each function and law that README or the table of architecture.md names exists in its crate, and each promise
   names a function that has a contract.
 - The program's `main` reaches each function that the table lists 'on the program's way', by a walk over the sources
   that goes by names (`calls.py` says what it misses).

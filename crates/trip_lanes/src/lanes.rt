@@ -3,7 +3,7 @@ ghost use Rattle.std.specs.Prelude.{◌≡◌};
 ghost use Rattle.trip_lanes.specs.declared.lanes.TheConstants as number;
 
 /// How many wide labels stand side by side: sixteen of 32 bits fill one cache line, and whole registers of every x86-64
-/// processor (docs/DECISIONS.md, "Two widths of labels").
+/// processor (docs/explanation/decisions.md, "Two widths of labels").
 pub const LANES: usize = 16;
 
 /// The wide labels of one stop, one for each lane: by when the stop is reached, in seconds, or `NEVER`.
