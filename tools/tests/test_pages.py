@@ -1,6 +1,7 @@
 """The tutorial and the how-to pages: each command runs, and prints what its page says."""
 
 import os
+import re
 import shutil
 import subprocess
 import sys
@@ -51,6 +52,9 @@ def text_of(page: str) -> str:
     return (DOCS / f"{page}.md").read_text()
 
 
+PATH = "export PATH=$PWD/crates/ttm/out:$PWD/tools:$PATH"
+
+
 def commands_run(room: Room, *names: str, before: str = "true") -> int:
     """Runs each command of some pages, after one that prints nothing, and compares the output with the page; returns
     the number of commands.
@@ -58,6 +62,21 @@ def commands_run(room: Room, *names: str, before: str = "true") -> int:
     page = [pages.Command(before), *(command for name in names for command in pages.commands(text_of(name)))]
     assert pages.differences(page, room.folder, environment_of(room)) == []
     return len(page) - 1
+
+
+def test_readme_prints_what_it_says_and_its_commands_take_another_feed(room: Room, program: str) -> None:
+    needs_maps_and_page()
+    make_town(room, program)
+    readme = (ROOT / "README.md").read_text()
+    page = [pages.Command(PATH), *pages.commands(readme)]
+    assert len(page) == 5
+    assert pages.differences(page, room.folder, environment_of(room)) == []
+    own = re.search(r"^\*\*On your own feed\*\*.*?\n\n((?:    .*\n)+)", readme, re.MULTILINE | re.DOTALL)
+    assert own is not None
+    shutil.copy(room.path("town.zip"), room.path("published.zip"))
+    script = ["bash", "-e", "-c", f"{PATH}\n{own[1]}"]
+    ran = subprocess.run(script, capture_output=True, text=True, cwd=room.folder, env=environment_of(room))
+    assert (ran.returncode, len((room.folder / "own.csv").read_text().splitlines())) == (0, 483), ran.stderr
 
 
 def test_the_tutorial_and_what_follows_it_print_what_the_pages_say(room: Room, program: str) -> None:
@@ -75,9 +94,8 @@ def test_a_damaged_feed_is_repaired_as_the_page_says(room: Room, program: str) -
 def test_travel_times_from_door_to_door_are_as_the_page_says(room: Room, program: str) -> None:
     needs_maps_and_page()
     make_town(room, program)
-    before = "export PATH=$PWD/crates/ttm/out:$PWD/tools:$PATH; unzip -q town.zip -d town"
     edits = "printf 'action,id,seconds\\nremove_route,L0013,\\n' > no13.csv"
-    assert commands_run(room, "howto/points", before=f"{before}; {edits}") > 9
+    assert commands_run(room, "howto/points", before=f"{PATH}; unzip -q town.zip -d town; {edits}") > 9
 
 
 def test_a_study_runs_in_one_command_as_the_page_says(room: Room, program: str) -> None:
@@ -89,8 +107,7 @@ def test_a_study_runs_in_one_command_as_the_page_says(room: Room, program: str) 
     for name in ("howto/plans", "howto/study"):
         pages.write_files(text_of(name), room.folder)
     ready = [it for it in pages.commands(text_of("howto/feed")) if not it.printed]
-    path = pages.Command("export PATH=$PWD/crates/ttm/out:$PWD/tools:$PATH")
-    page = [path, *ready, *pages.commands(text_of("howto/study"))]
+    page = [pages.Command(PATH), *ready, *pages.commands(text_of("howto/study"))]
     assert len(page) > 14
     assert pages.differences(page, room.folder, environment_of(room)) == []
 
