@@ -5,7 +5,6 @@ import re
 import shutil
 import subprocess
 import sys
-import zipfile
 from pathlib import Path
 
 import pytest
@@ -18,19 +17,33 @@ sys.path.insert(0, str(ROOT / "packaging"))
 import pages  # noqa: E402
 
 DOCS = ROOT / "docs"
-FEED = ("calendar.txt", "calendar_dates.txt", "routes.txt", "stop_times.txt", "stops.txt", "transfers.txt", "trips.txt")
+PATH = "export PATH=$PWD/crates/ttm/out:$PWD/tools:$PATH"
+
+
+def text_of(page: str) -> str:
+    return (DOCS / f"{page}.md").read_text()
+
+
+def block_after(start: str, text: str) -> str:
+    """The first indented block after the line that begins so."""
+    found = re.search(rf"^{re.escape(start)}(?:.+\n)*\n((?:    .*\n)+)", text, re.MULTILINE)
+    assert found is not None
+    return found[1]
+
+
+def script_run(room: Room, text: str) -> None:
+    ran = subprocess.run(
+        ["bash", "-e", "-c", text], capture_output=True, text=True, cwd=room.folder, env=environment_of(room)
+    )
+    assert ran.returncode == 0, ran.stderr
 
 
 def make_town(room: Room, program: str) -> None:
     """What the pages assume: the town, the program, and the tools."""
     if any(shutil.which(name) is None for name in ("zip", "unzip")) or not (ROOT / "bench" / "feedgen.py").is_file():
         pytest.skip("zip, unzip or bench/feedgen.py is missing")
-    words = [sys.executable, str(ROOT / "bench" / "feedgen.py"), "town", room.path("made")]
-    subprocess.run(words, check=True, capture_output=True)
-    with zipfile.ZipFile(room.path("town.zip"), "w") as zipped:
-        for name in FEED:
-            zipped.write(room.folder / "made" / name, name)
-    shutil.copy(room.folder / "made" / "opportunities.csv", room.path("jobs.csv"))
+    os.symlink(ROOT / "bench", room.folder / "bench")
+    script_run(room, block_after("In a clone", text_of("tutorial")))
     (room.folder / "crates" / "ttm").mkdir(parents=True)
     os.symlink(os.path.dirname(program), room.folder / "crates" / "ttm" / "out")
     os.symlink(ROOT / "tools", room.folder / "tools")
@@ -46,13 +59,6 @@ def needs_maps_and_page() -> None:
 def environment_of(room: Room) -> dict[str, str]:
     path = os.pathsep.join([os.path.dirname(sys.executable), room.path("tools"), os.environ["PATH"]])
     return {**os.environ, "PATH": path, "LC_ALL": "C.UTF-8"}
-
-
-def text_of(page: str) -> str:
-    return (DOCS / f"{page}.md").read_text()
-
-
-PATH = "export PATH=$PWD/crates/ttm/out:$PWD/tools:$PATH"
 
 
 def commands_run(room: Room, *names: str, before: str = "true") -> int:
@@ -71,12 +77,9 @@ def test_readme_prints_what_it_says_and_its_commands_take_another_feed(room: Roo
     page = [pages.Command(PATH), *pages.commands(readme)]
     assert len(page) == 5
     assert pages.differences(page, room.folder, environment_of(room)) == []
-    own = re.search(r"^\*\*On your own feed\*\*.*?\n\n((?:    .*\n)+)", readme, re.MULTILINE | re.DOTALL)
-    assert own is not None
     shutil.copy(room.path("town.zip"), room.path("published.zip"))
-    script = ["bash", "-e", "-c", f"{PATH}\n{own[1]}"]
-    ran = subprocess.run(script, capture_output=True, text=True, cwd=room.folder, env=environment_of(room))
-    assert (ran.returncode, len((room.folder / "own.csv").read_text().splitlines())) == (0, 483), ran.stderr
+    script_run(room, PATH + "\n" + block_after("**On your own feed**", readme))
+    assert len((room.folder / "own.csv").read_text().splitlines()) == 483
 
 
 def test_the_tutorial_and_what_follows_it_print_what_the_pages_say(room: Room, program: str) -> None:
