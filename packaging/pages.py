@@ -41,13 +41,18 @@ class Command:
 def commands(page: str) -> list[Command]:
     """The commands of a page."""
     found: list[Command] = []
-    for line in re.findall(r"^    (.*)", FENCED.sub("", page), re.MULTILINE):
-        if line.startswith("$ "):
-            found.append(Command(line[2:]))
-        elif found and found[-1].is_open:
-            found[-1].text = found[-1].text[:-1] + line.strip()
-        elif found:
-            found[-1].printed.append(line)
+    inside = False
+    for line in FENCED.sub("", page).splitlines():
+        text = line[4:]
+        inside = line.startswith("    ") and (inside or text.startswith("$ "))
+        if not inside:
+            continue
+        if text.startswith("$ "):
+            found.append(Command(text[2:]))
+        elif found[-1].is_open:
+            found[-1].text = found[-1].text[:-1] + text.strip()
+        else:
+            found[-1].printed.append(text)
     return found
 
 

@@ -7,13 +7,13 @@ from typing import Any, Iterator
 from .wishes import NAMES, TABLES, About
 
 HEAD = """\
-# A study of ttm-tools: `ttm-tools study THIS_FILE` makes all of it, in a folder of the same name.
-# A line that begins with # says what holds, or how it is said; take the # away where you want something else.
+# A study of ttm-tools: `ttm-tools study THIS_FILE` runs all of it, in a folder of the same name.
+# A line that begins with # is a comment or a default; remove the # to set another value.
 """
 
 
 def default_of(it: "Field[Any]") -> str:
-    """What holds where a field is left out."""
+    """The default of a field, as the file says it."""
     if it.default is MISSING:
         return "needed"
     value = list(it.default) if isinstance(it.default, tuple) else it.default
@@ -23,7 +23,7 @@ def default_of(it: "Field[Any]") -> str:
 
 
 def lines_of_table(kind: type[Any]) -> Iterator[str]:
-    """The fields of a table, those that are needed as they stand and the others as comments."""
+    """The fields of a table: required ones as they are, the others as comments."""
     for it in fields(kind):
         ends = [it.metadata["told"], it.metadata["kind"].allowed, default_of(it)]
         yield from textwrap.wrap(
@@ -34,7 +34,7 @@ def lines_of_table(kind: type[Any]) -> Iterator[str]:
 
 
 def first_of(kind: type[Any]) -> str:
-    """What a table is for."""
+    """The purpose of a table."""
     return " ".join((kind.__doc__ or "").split())
 
 
@@ -52,7 +52,7 @@ def page() -> str:
     tables: list[tuple[str, type[Any]]] = [("", About), *TABLES.items()]
     for name, kind in tables:
         lines += [f"### `[{name}]`" if name else "### Before the first table", "", first_of(kind), ""]
-        lines += ["| Field | What it says | Values | Without it | As in |", "|---|---|---|---|---|"]
+        lines += ["| Field | Meaning | Values | Default | Example |", "|---|---|---|---|---|"]
         for it in fields(kind):
             what, _, own = it.metadata["told"].partition("; without it, ")
             without = own or default_of(it).removeprefix("without it, ")

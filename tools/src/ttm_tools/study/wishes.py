@@ -11,10 +11,10 @@ from .kinds import BOX, DATE, FILE, FILES, FLAG, TEXT, TEXTS, TIME, ascending, n
 
 @dataclass(frozen=True)
 class About:
-    """What stands above the report, the maps and the page."""
+    """Titles of the report, the maps and the page."""
 
-    title: str = told(TEXT, "what the report is called; without it, the name of this file", '"Without route 13"', "")
-    question: str = told(TEXT, "what the study asks, a sentence or some", '"Who loses jobs if route 13 goes?"', "")
+    title: str = told(TEXT, "the report's title; without it, the name of this file", '"Without route 13"', "")
+    question: str = told(TEXT, "the study's question, a sentence or more", '"Who loses jobs if route 13 goes?"', "")
     note: str = told(TEXT, "what else a reader needs to know", '"Jobs are those of the map of 2025."', "")
 
 
@@ -23,19 +23,19 @@ class FeedWish:
     """The timetable."""
 
     files: tuple[str, ...] = told(FILES, "published feeds, zip files or folders; several are merged", '["feed.zip"]')
-    ready: bool = told(FLAG, "it is one folder that ttm reads: taken as it is, not checked", "true", False)
-    repair: bool = told(FLAG, "mend faults by the rules of ttm-tools prepare; false refuses them", "false", True)
+    ready: bool = told(FLAG, "the feed is one folder that ttm reads, and isn't checked", "true", False)
+    repair: bool = told(FLAG, "repair errors by the rules of ttm-tools prepare; false refuses them", "false", True)
     allow_loss: bool = told(
-        FLAG, "go on where a repair takes much of a file, or no trip runs on the date", "true", False
+        FLAG, "continue if a repair removes much of a file, or if no trip runs on the date", "true", False
     )
     same_clock: bool = told(FLAG, "merge feeds of several time zones", "true", False)
     box: tuple[float, float, float, float] | None = told(
         BOX, "stops inside are kept; without it, all", "[7.5, 47.4, 7.8, 47.7]", None
     )
     area: str | None = told(FILE, "GeoJSON polygons: stops inside are kept", '"region.geojson"', None)
-    routes: tuple[str, ...] = told(TEXTS, "identifiers of the routes that are kept; without it, all", '["L1"]', ())
+    routes: tuple[str, ...] = told(TEXTS, "identifiers of the routes to keep; without it, all", '["L1"]', ())
     agencies: tuple[str, ...] = told(
-        TEXTS, "and of the agencies whose routes are kept; without it, all", '["city"]', ()
+        TEXTS, "identifiers of the agencies whose routes to keep; without it, all", '["city"]', ()
     )
     only_days: bool = told(FLAG, "keep only trips of services that run on the days of the study", "true", False)
 
@@ -46,20 +46,20 @@ class RunWish:
 
     date: str = told(DATE, "the day of the departures", "2026-05-04")
     first: str = told(TIME, "the first departure of the window", '"07:30"')
-    last: str = told(TIME, "the last one: there is one at each minute", '"08:29"')
-    trips: int = told(whole(1, 8), "the most vehicles that a journey takes", "4", 4)
+    last: str = told(TIME, "the last departure: there is one each minute", '"08:29"')
+    trips: int = told(whole(1, 8), "the maximum number of vehicles of a journey", "4", 4)
     walk: int = told(whole(0, 7200, "seconds"), "the longest walk; 0 for none", "600", 600)
     shares: tuple[int, ...] = told(
         ascending(1, 100, "percent"),
-        "of a hundred departures, how many a travel time must do for",
+        "the percentiles of the travel times",
         "[25, 50, 75]",
         (50,),
     )
     limits: tuple[int, ...] = told(
-        ascending(0, 4294967295, "seconds"), "within which access is counted", "[1800]", (1800,)
+        ascending(0, 4294967295, "seconds"), "limits within which access counts", "[1800]", (1800,)
     )
     cutoffs: tuple[float, ...] | None = told(
-        ascending(0, 10000, "minutes", False), "the same in minutes, in place of limits", "[30]", None
+        ascending(0, 10000, "minutes", False), "the same in minutes, instead of limits", "[30]", None
     )
     origins: str | None = told(
         FILE,
@@ -68,22 +68,22 @@ class RunWish:
         None,
     )
     back: int = told(whole(0, 6, "days"), "service days before the date that count", "1", 1)
-    ahead: int = told(whole(0, 6, "days"), "and after it", "1", 1)
-    tries: int = told(whole(1, 8), "how often a row may be begun", "1", 1)
+    ahead: int = told(whole(0, 6, "days"), "service days after the date that count", "1", 1)
+    tries: int = told(whole(1, 8), "how many times a row is attempted", "1", 1)
 
 
 @dataclass(frozen=True)
 class WalkWish:
     """Walks between stops, and to points."""
 
-    none: bool = told(FLAG, "no walks but those of the feed's transfers", "true", False)
-    limit: int | None = told(whole(1, 7200, "seconds"), "the longest one; without it, walk of [run]", "600", None)
-    speed: float = told(number(0.01, 100, "m/s"), "how fast one walks", "1.33", 1.33)
-    detour: float = told(number(1, 100), "metres of way for a metre of straight line", "1.3", 1.3)
+    none: bool = told(FLAG, "only the walks of the feed's transfers", "true", False)
+    limit: int | None = told(whole(1, 7200, "seconds"), "the longest walk; without it, walk of [run]", "600", None)
+    speed: float = told(number(0.01, 100, "m/s"), "the walking speed", "1.33", 1.33)
+    detour: float = told(number(1, 100), "length of a walk, as a multiple of the straight line", "1.3", 1.3)
     streets: str | None = told(
         FILE, "a file of OpenStreetMap: walks along its ways; without it, straight lines", '"town.osm.pbf"', None
     )
-    near: float = told(number(0, 10000, "metres"), "how far a stop may lie from a way", "100", 100.0)
+    near: float = told(number(0, 10000, "metres"), "the greatest distance of a stop from a way", "100", 100.0)
     table: str | None = told(
         FILE, "walks of your own: from_stop_id, to_stop_id, seconds; decimals are rounded up", '"walks.csv"', None
     )
@@ -91,11 +91,11 @@ class WalkWish:
 
 @dataclass(frozen=True)
 class PointWish:
-    """Points such as cells, homes or schools, in place of stops: docs/howto/points.md."""
+    """Points such as cells, homes or schools, instead of stops: docs/howto/points.md."""
 
     files: tuple[str, ...] = told(FILES, "points at which journeys begin and end", '["cells.csv"]', ())
-    origins: tuple[str, ...] = told(FILES, "points at which they only begin", '["homes.csv"]', ())
-    destinations: tuple[str, ...] = told(FILES, "points at which they only end", '["schools.csv"]', ())
+    origins: tuple[str, ...] = told(FILES, "points at which journeys only begin", '["homes.csv"]', ())
+    destinations: tuple[str, ...] = told(FILES, "points at which journeys only end", '["schools.csv"]', ())
     leave_out: bool = told(FLAG, "leave out points without a stop in reach", "true", False)
 
     @property
@@ -106,7 +106,7 @@ class PointWish:
 
 @dataclass(frozen=True)
 class OpportunityWish:
-    """What there is to be reached."""
+    """What travellers reach."""
 
     files: tuple[str, ...] = told(
         FILES,
@@ -119,14 +119,14 @@ class OpportunityWish:
     )
     column: str | None = told(
         TEXT,
-        "the column that ttm counts as access; without it, the only one of these, else 1 for each stop",
+        "the column that ttm counts as access; without it, the only one, else 1 for each stop",
         '"jobs"',
         None,
     )
     people: str | None = told(
         FILE, "a table with stop_id (or id) and numbers of residents by origin, for equity", '"people.csv"', None
     )
-    groups: tuple[str, ...] = told(TEXTS, "its columns that count; without it, all", '["residents"]', ())
+    groups: tuple[str, ...] = told(TEXTS, "the columns of people that count; without it, all", '["residents"]', ())
 
 
 @dataclass(frozen=True)
@@ -139,49 +139,56 @@ class ScenarioWish:
 
 @dataclass(frozen=True)
 class ResultWish:
-    """What is made of the matrix. matrix.omx, report.md, report.html and study.json always are."""
+    """Which results are written. matrix.omx, report.md, report.html and study.json always are."""
 
-    csv: bool = told(FLAG, "matrix.csv as well, byte for byte that of one run of ttm", "true", False)
-    access: bool = told(FLAG, "access.csv, and equity.csv where people are named", "false", True)
+    csv: bool = told(FLAG, "also matrix.csv, byte for byte that of one run of ttm", "true", False)
+    access: bool = told(FLAG, "access.csv, and equity.csv if people are named", "false", True)
     cutoffs: tuple[float, ...] | None = told(
-        ascending(0, 10000, "minutes", False), "of access.csv; without it, limits of [run]", "[15, 30, 45]", None
+        ascending(0, 10000, "minutes", False), "limits of access.csv; without it, limits of [run]", "[15, 30, 45]", None
     )
     decay: str = told(
         one_of("step", "linear", "exponential", "logistic"), "how weights fall: ttm-tools access", '"logistic"', "step"
     )
     decay_value: float | None = told(
-        number(0, 10000, "minutes"), "which linear and logistic need; without it, none", "10", None
+        number(0, 10000, "minutes"), "the parameter of linear and logistic; without it, none", "10", None
     )
     compare: bool = told(FLAG, "winners and losers by origin, for each scenario", "false", True)
-    pairs: bool = told(FLAG, "and by pair: a line for each that differs", "true", False)
-    differs: int = told(whole(0, 604800, "seconds"), "travel times differ by more than this", "60", 60)
+    pairs: bool = told(FLAG, "winners and losers by pair, for each scenario", "true", False)
+    differs: int = told(whole(0, 604800, "seconds"), "a change of travel time counts above this", "60", 60)
     maps: bool = told(FLAG, "pictures of access and of each scenario's difference", "false", True)
-    map_origins: tuple[str, ...] = told(TEXTS, "stops from which travel times are drawn as well", '["B00170S"]', ())
+    map_origins: tuple[str, ...] = told(TEXTS, "stops whose travel times are drawn too", '["B00170S"]', ())
     unit: str | None = told(
-        TEXT, "what is counted as access, for people; without it, the name of the column", '"jobs"', None
+        TEXT, "what access counts, in a reader's word; without it, the name of the column", '"jobs"', None
     )
     share: int | None = told(
-        whole(1, 100, "percent"), "of tables, maps and page; without it the median, else the first", "50", None
+        whole(1, 100, "percent"),
+        "the percentile of tables, maps and page; without it, the median or the first",
+        "50",
+        None,
     )
     within: int | None = told(
-        whole(0, 4294967295, "seconds"), "the limit of these; without it, the last of [run]", "1800", None
+        whole(0, 4294967295, "seconds"),
+        "the limit of tables, maps and page; without it, the last of [run]",
+        "1800",
+        None,
     )
-    cutoff: float | None = told(number(0, 10000, "minutes"), "the same in minutes, in place of within", "30", None)
-    page: bool = told(FLAG, "page.html, to look at and to send", "false", True)
+    cutoff: float | None = told(number(0, 10000, "minutes"), "the same in minutes, instead of within", "30", None)
+    page: bool = told(FLAG, "page.html, to view and to send", "false", True)
 
 
 @dataclass(frozen=True)
 class PartWish:
-    """How the run is cut: results are the same whichever way."""
+    """How the run is cut into parts. The results are the same."""
 
-    count: int | None = told(
-        whole(1, 9999), "so many parts of the origins; without it, by minutes and memory", "40", None
-    )
-    minutes: float = told(number(0.1, 10000, "minutes"), "how long one is to take, about", "5", 5.0)
+    count: int | None = told(whole(1, 9999), "the number of parts; without it, by minutes and memory", "40", None)
+    minutes: float = told(number(0.1, 10000, "minutes"), "the approximate processor time of a part", "5", 5.0)
     memory: int | None = told(
-        whole(64, 10_000_000, "MB"), "what all at once may take; without it, most of what is free", "6000", None
+        whole(64, 10_000_000, "MB"),
+        "memory of all parts that run at once; without it, most of what is free",
+        "6000",
+        None,
     )
-    keep: bool = told(FLAG, "keep the parts' matrices when the whole is there", "true", False)
+    keep: bool = told(FLAG, "keep the parts' matrices after joining", "true", False)
 
 
 @dataclass(frozen=True)
