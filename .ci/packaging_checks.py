@@ -8,7 +8,6 @@ The package is installed by `dpkg` into an empty room, and into a Debian 12 of i
 can be had: else that is skipped, and so is what wants root, or `man`. Where root runs this on Debian, both are
 installed first. The last line is 'N passed, M failed', with ', K skipped' behind it where something was.
 """
-import gzip
 import os
 import re
 import shutil
@@ -19,62 +18,15 @@ from pathlib import Path
 from typing import Callable, Iterator
 
 from installing import install
+from packed import Packages, Skipped
 
 ROOT = Path(__file__).resolve().parent.parent
-PACKAGING = ROOT / "packaging"
-NO_ROOM = 75
-SECONDS = 1800
 COMMANDS = ("ttm", "ttm-tools")
 NEEDED = {"mmdebstrap": "mmdebstrap", "man": "man-db", "twine": "twine"}  # packages by the command that they have
+MODULES = {"sphinx": "python3-sphinx", "myst_parser": "python3-myst-parser"}  # of Python, for the HTML
 PYTHON = "/usr/bin/python3"  # that of Debian's packages
 PATH = os.environ["PATH"] + ":/usr/sbin"
 BASH = """source "$1"; COMP_WORDS=("${@:3}"); COMP_CWORD=$(($# - 3)); "$2"; echo "${COMPREPLY[*]}" """
-
-
-class Skipped(Exception):
-    """What can't be tried on this machine."""
-
-
-class Packages:
-    """What `packaging/build.sh` makes of a program, unpacked."""
-
-    def __init__(self, program: Path, room: Path) -> None:
-        self.program, self.room = program, room
-        self.deb, self.tar, self.wheel = self.made("once")
-        self.tree, self.folder = room / "tree", room / "folder"
-        self.output("dpkg-deb", "--extract", self.deb, self.tree)
-        self.folder.mkdir()
-        self.output("tar", "--extract", "--file", self.tar, "--directory", self.folder, "--strip-components=1")
-
-    @staticmethod
-    def output(*words: object, **more: str) -> str:
-        """What a command prints; its failure is a fault."""
-        ran = subprocess.run(
-            list(map(str, words)), env={**os.environ, **more}, capture_output=True, text=True, timeout=SECONDS
-        )
-        if ran.returncode:
-            raise AssertionError(f"{words[0]}: status {ran.returncode}: {ran.stderr}")
-        return ran.stdout
-
-    def made(self, name: str) -> tuple[Path, Path, Path]:
-        """The Debian package, the tar file and the wheel, made into a folder."""
-        said = self.output(PACKAGING / "build.sh", "--out", self.room / name, self.program)
-        deb, tar, wheel = map(Path, said.split())
-        return deb, tar, wheel
-
-    def share(self, name: str) -> str:
-        """A file of the package below share; unpacked where it is."""
-        data = (self.tree / "usr/share" / name).read_bytes()
-        return (gzip.decompress(data) if name.endswith(".gz") else data).decode()
-
-    def install(self, kind: str) -> None:
-        """Installs the package into a room of a kind, and runs the example there."""
-        ran = subprocess.run(
-            [PACKAGING / "try.sh", "--room", kind, self.deb], capture_output=True, text=True, timeout=SECONDS
-        )
-        if ran.returncode == NO_ROOM:
-            raise Skipped(ran.stderr.strip())
-        assert ran.returncode == 0, ran.stderr + ran.stdout
 
 
 def example() -> str:
@@ -118,6 +70,21 @@ def documents_are_there(of: Packages) -> None:
     for it in (ROOT / "README.md", ROOT / "CHANGELOG.md", *(ROOT / "docs").rglob("*.md")):
         name = it.relative_to(ROOT)
         assert of.share(f"doc/ttm/{name}") == it.read_text(), f"{name} differs"
+
+
+def html_needs_no_network(of: Packages) -> None:
+    """the pages are there as HTML, which loads nothing from elsewhere, and the tools find it"""
+    if lacking():
+        raise Skipped("no Sphinx or no MyST on this machine")
+    folder = of.tree / "usr/share/doc/ttm/html"
+    names = [it.relative_to(ROOT).with_suffix(".html") for it in (ROOT / "docs").rglob("*.md")]
+    assert [it for it in names if not (folder / it).is_file()] == []
+    loaded = re.compile(r'<(?:script|img|iframe)[^>]* src="(?:https?:)?//|<link[^>]* href="(?:https?:)?//')
+    assert [it for it in folder.rglob("*.html") if loaded.search(it.read_text())] == []
+    assert "percentil" in (folder / "searchindex.js").read_text()
+    assert "ttm-tools walks" in (folder / "docs/reference/help.html").read_text()
+    found = of.output(sys.executable, of.folder / "bin/ttm-tools", "docs", "--path").strip()
+    assert found == str(of.folder / "share/doc/ttm/html/docs/README.html"), found
 
 
 def licence_and_changes_are_said(of: Packages) -> None:
@@ -256,6 +223,7 @@ CHECKS: tuple[Callable[[Packages], None], ...] = (
     every_file_in_both,
     toolchain_is_named,
     documents_are_there,
+    html_needs_no_network,
     licence_and_changes_are_said,
     lintian_finds_no_error,
     sample_feed_is_taken,
@@ -289,10 +257,17 @@ def results(program: Path) -> Iterator[str]:
                 yield "failed"
 
 
+def lacking() -> list[str]:
+    """The Debian packages of the modules that Python lacks."""
+    script = "import importlib.util, sys; print(*[it for it in sys.argv[1:] if importlib.util.find_spec(it) is None])"
+    found = subprocess.run([PYTHON, "-c", script, *MODULES], capture_output=True, text=True)
+    return [MODULES[it] for it in found.stdout.split()]
+
+
 def main() -> int:
     if len(sys.argv) != 2:
         sys.exit("usage: packaging_checks.py PROGRAM")
-    install([package for command, package in NEEDED.items() if not shutil.which(command, path=PATH)])
+    install([package for command, package in NEEDED.items() if not shutil.which(command, path=PATH)], lacking())
     try:
         ended = list(results(Path(sys.argv[1]).resolve()))
     except (AssertionError, OSError, subprocess.SubprocessError) as fault:

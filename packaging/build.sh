@@ -1,10 +1,12 @@
 #!/bin/sh
 # Makes a tar file and a Debian package of the program, the tools for analysts, their manual pages, completion for bash
-# and the documents; and a wheel of the program and the tools, for pip. The same commit and program give the same bytes.
+# and the documentation, also as HTML; and a wheel of the program, the tools and the HTML, for pip. The same commit and
+# program give the same bytes. The HTML is in FOLDER/html, too, where ttm-tools docs of a clone finds it.
 # usage: packaging/build.sh [--out FOLDER] [PROGRAM]
 #   FOLDER   where the three are written; packaging/out by default
 #   PROGRAM  a proved build: crates/ttm/out/ttm by default, which `rt run` proves and builds where it isn't there
-# Needs python3, dpkg-deb and git (or SOURCE_DATE_EPOCH in the environment where there is no clone).
+# Needs python3, dpkg-deb and git (or SOURCE_DATE_EPOCH in the environment if there is no clone), and for the HTML Debian's
+# python3-sphinx and python3-myst-parser.
 set -eu
 umask 022
 export LC_ALL=C.UTF-8
@@ -15,7 +17,7 @@ if [ "${1:-}" = --out ]; then
     out=$(cd "$2" && pwd)
     shift 2
 fi
-[ $# -le 1 ] || { sed -n '4,6s/^# //p' "$0" >&2; exit 2; }
+[ $# -le 1 ] || { sed -n '5,7s/^# //p' "$0" >&2; exit 2; }
 program=${1:-$here/crates/ttm/out/ttm}
 [ $# -eq 1 ] || [ -x "$program" ] || (cd "$here/crates/ttm" && rt run > /dev/null)
 program=$(realpath "$program")
@@ -88,6 +90,14 @@ for name in ttm ttm-tools; do
     gzip -9n "$usr/share/man/man1/$name.1"
     python3 "$here/packaging/completion.py" $name "$@" > "$completions/$name"
 done
+rm -rf "$out/html"
+if /usr/bin/python3 -c 'import myst_parser, sphinx' 2> /dev/null; then
+    python3 "$here/packaging/html_pages.py" "$usr/bin/ttm" "$docs/html"
+    mkdir -p "$out"
+    cp -r "$docs/html" "$out/html"
+else
+    echo "$0: no HTML pages: python3-sphinx or python3-myst-parser is missing" >&2
+fi
 find "$usr/lib" -name __pycache__ -prune -exec rm -r {} +
 chmod -R u=rwX,go=rX "$room/deb"
 

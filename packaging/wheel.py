@@ -4,7 +4,8 @@
     wheel.py PROGRAM PROVED FOLDER
 
 PROGRAM is a built `ttm`, which the wheel installs as the command `ttm`; PROVED is the text that names its toolchain,
-which goes to share/ttm/PROVED. The platform in the name is the least glibc that the program needs, by its own symbols.
+which goes to share/ttm/PROVED; the documentation in the folder html next to PROVED goes to share/ttm/html. The platform
+in the name is the least glibc that the program needs, by its own symbols.
 The wheel gets its name in FOLDER when it is whole, and its path is printed. The same files and SOURCE_DATE_EPOCH give
 the same bytes. Standard library only.
 """
@@ -72,7 +73,14 @@ def modules(folder: Path) -> Iterator[File]:
             yield str(path.relative_to(folder.parent)), path.read_bytes(), 0o644
 
 
-def files_of(program: bytes, proved: bytes) -> tuple[str, list[File]]:
+def pages(folder: Path, data: str) -> Iterator[File]:
+    """The files of the documentation."""
+    for path in sorted(folder.rglob("*")):
+        if path.is_file():
+            yield f"{data}/data/share/ttm/html/{path.relative_to(folder)}", path.read_bytes(), 0o644
+
+
+def files_of(program: bytes, proved: Path) -> tuple[str, list[File]]:
     """The wheel's name, and its files but for the record of them."""
     project = tomllib.loads((TOOLS / "pyproject.toml").read_text())["project"]
     name = f"{project['name'].replace('-', '_')}-{project['version']}"
@@ -82,7 +90,8 @@ def files_of(program: bytes, proved: bytes) -> tuple[str, list[File]]:
     files = [
         *modules(TOOLS / "src" / "ttm_tools"),
         (f"{data}/scripts/ttm", program, 0o755),
-        (f"{data}/data/share/ttm/PROVED", proved, 0o644),
+        (f"{data}/data/share/ttm/PROVED", proved.read_bytes(), 0o644),
+        *pages(proved.parent / "html", data),
         (f"{info}/METADATA", metadata_of(project).encode(), 0o644),
         (f"{info}/WHEEL", wheel.encode(), 0o644),
         (f"{info}/entry_points.txt", f"[console_scripts]\n{commands}".encode(), 0o644),
@@ -119,7 +128,7 @@ def main() -> None:
     parser.add_argument("proved", metavar="PROVED", type=Path)
     parser.add_argument("folder", metavar="FOLDER", type=Path)
     args = parser.parse_args()
-    name, files = files_of(args.program.read_bytes(), args.proved.read_bytes())
+    name, files = files_of(args.program.read_bytes(), args.proved)
     write_wheel(args.folder / name, files, int(os.environ.get("SOURCE_DATE_EPOCH", "0")))
     print(args.folder / name)
 

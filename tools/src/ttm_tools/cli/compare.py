@@ -4,23 +4,23 @@ import argparse
 
 from .options import add_base, add_feed, add_matrix, add_number, add_out, add_points, add_share, add_text, add_within
 
-TOLD = "who loses and who wins between two scenarios"
+TOLD = "who loses and who gains between two scenarios"
 HELP = """\
-Tells who loses and who wins between two scenarios of a matrix: a table of pairs, or of origins.
+Lists who loses and who gains between two scenarios of a matrix: a table of pairs, or of origins.
 
-By pair, a line for each origin and destination whose travel time is more than the limit away from the base's: origin,
-destination, what (cut off, slower, new or faster), before and after in seconds, and change, which is after less before.
-`cut off` is who got there in the base and doesn't in the scenario, `new` who does only there; these have no change, and
-count whatever the limit is. Losers come first: those cut off, then the slower; then the winners, those with a new
-connection, then the faster; each by the size of the change, the greatest first.
+By pair, a line for each origin and destination whose travel time differs from the base's by more than the limit:
+origin, destination, what (cut off, slower, new or faster), before and after in seconds, and change, which is after
+minus before. `cut off` is reached in the base and not in the scenario, `new` only in the scenario; these have no
+change, and count whatever the limit is. Losers come first: those cut off, then the slower; then the winners: the new,
+then the faster; each by the size of the change, the greatest first.
 
 By origin, a line for each origin that has such a pair or whose access differs: access_before, access_after, change,
 percent (of access_before), and to how many destinations it is cut_off, slower, new and faster. Losers of access come
-first, then its winners, each by the size of the change; then who has as much as before.
+first, then winners, each by the size of the change; then origins whose access is the same.
 
-Where one scenario lacks origins that the other has, as in a matrix that was cut short, a line tells which, and the
-status is 1 unless --partial is given. A line on standard error sums it all up. Memory: by origin some 100 MB, by pair
-60 bytes more for each pair that differs."""
+If one scenario lacks origins that the other has, as in a truncated matrix, a line names them, and the exit status is 1
+unless --partial is given. A line on standard error sums up. Memory: by origin some 100 MB, by pair 60 bytes more for
+each pair that differs."""
 
 
 def describe(parser: argparse.ArgumentParser) -> None:

@@ -11,8 +11,8 @@ its origins. A line for each opportunity, percentile, cutoff, group of people an
 access by people, losers_percent (of the people, who lose --lose percent of the base's access or more), gini, palma (the
 mean of the tenth with the most access, as a multiple of that of the two fifths with the least), least_tenth (the mean
 of the tenth with the least access) and least_tenth_change (the mean change of those who are that tenth in the base).
-Gini and Palma fall where the well served lose: read them beside mean and losers. docs/reference/measures.md has each formula, its
-source, and which can mislead.
+Gini and Palma also fall if the well served lose: read them together with mean and losers. docs/reference/measures.md
+has each formula, its source, and what can mislead.
 
 Groups are the columns of numbers of --people: a file with the column stop_id (or id). With --picture Lorenz curves and
 the mean change of each tenth of the people are drawn as PNG, of one opportunity, percentile, cutoff and group; that

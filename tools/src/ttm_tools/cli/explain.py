@@ -12,16 +12,15 @@ if TYPE_CHECKING:
 UNUSED = ("within", "workers", "tries", "origins", "opportunities", "destinations")
 TOLD = "the journey behind a cell, leg by leg, and all departures"
 HELP = """\
-Tells the journey behind a cell of the matrix: of the first departure whose duration the cell is, leg by leg, with
-stops, route, trip, times, waits, changes and walks, for the feed as it is and for each scenario side by side; and the
-durations of all departures (minutes and seconds; a star at the departure of the journey, - where nobody gets there).
+Shows the journey behind a cell of the matrix: that of the first departure whose duration is the cell's, leg by leg,
+with stops, route, trip, times, waits, changes and walks, for the feed as it is and for each scenario side by side; then
+the durations of all departures (minutes and seconds; a star at the departure of the journey, - if it never arrives).
 --picture draws these, minute by minute.
 
-It is found by a second search, in Python, by the definitions of docs/explanation/definitions.md. This search isn't proved; `ttm`
-runs as well (or a cell of --matrix is taken), and where its travel time is another an error tells both numbers. A time
-of 24:00:00 or more is of the day after the date. The words are those of `ttm`; scenario files stand directly behind the
-feed, or at the end where the feed stands there too. Memory:
-some 200 MB, and 200 bytes for each stop time of the days that count."""
+A second search, in Python, finds the journey by the definitions of docs/explanation/definitions.md. This search isn't
+proved; ttm runs too (or --matrix gives the cell), and if the travel times differ an error prints both. A time of
+24:00:00 or more is of the day after the date. The arguments are those of ttm; scenario files follow the feed directly,
+or come at the end with the feed. Memory: some 200 MB, and 200 bytes for each stop time of the days that count."""
 
 
 def clock(text: str) -> str:
@@ -32,7 +31,7 @@ def clock(text: str) -> str:
 
 def describe(parser: argparse.ArgumentParser) -> None:
     parser.add_argument("feed", metavar="FEED", help="the folder of an unpacked feed")
-    told = "scenario files, each told beside the feed as it is"
+    told = "scenario files, each compared with the feed as it is"
     parser.add_argument("scenarios", metavar="SCENARIO", nargs="*", help=told)
     for name, told in (("--origin", "where the journey begins"), ("--destination", "and where it ends")):
         parser.add_argument(name, metavar="STOP", required=True, help=f"the stop {told} (needed)")
@@ -41,21 +40,21 @@ def describe(parser: argparse.ArgumentParser) -> None:
     for name, told in (("--from", "first"), ("--to", "last")):
         help = f"the {told} departure, one each minute, 00:00 to 23:59 (needed)"
         parser.add_argument(name, dest=told, metavar="HH:MM", type=clock, required=True, help=help)
-    add_number(parser, "--trips", "the most vehicles of a journey", "", (1, 8), default=4)
+    add_number(parser, "--trips", "the maximum number of vehicles of a journey", "", (1, 8), default=4)
     add_number(parser, "--walk", "the longest walk", "seconds", (0, 7200), default=600)
-    add_number(parser, "--share", "the share of departures, one", "percent", (1, 100), default=50)
+    add_number(parser, "--share", "the percentile of the departures, one", "percent", (1, 100), default=50)
     add_number(parser, "--back", "service days before the date that count", "days", (0, 6), default=1)
     add_number(parser, "--ahead", "service days after the date that count", "days", (0, 6), default=1)
-    add_text(parser, "--footpaths", "FILE", "walks beside those of the feed", without="there are none")
-    told = "a matrix whose cell is taken, in place of a run of ttm"
+    add_text(parser, "--footpaths", "FILE", "walks in addition to those of the feed", without="there are none")
+    told = "a matrix that has the cell, instead of a run of ttm"
     add_text(parser, "--matrix", "FILE", told, without="ttm is run")
     told = "the program ttm"
     add_text(parser, "--program", "PATH", told, without="TTM_PROGRAM, or that on the path, or the one built here")
-    told = "where a picture of the durations by departure is written, as PNG; needs matplotlib"
+    told = "a picture of the durations by departure, as PNG; needs matplotlib"
     add_text(parser, "--picture", "FILE", told, without="none is drawn")
-    add_out(parser, "where it is written")
+    add_out(parser, "the file of the text")
     for name in UNUSED:
-        told = "a word of ttm that changes no journey (without it, nothing changes)"
+        told = "an option of ttm that changes no journey (without it, nothing changes)"
         parser.add_argument(f"--{name}", metavar="VALUE", help=told)
 
 

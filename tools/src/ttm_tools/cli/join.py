@@ -6,17 +6,16 @@ from .options import add_out
 
 TOLD = "the whole matrix from the matrices of parts"
 HELP = """\
-Puts the matrices of the parts of a study together: the bytes are those of one run over all origins. The matrices may be
-named in any order. All have one header; each origin stands in exactly one of them, with the same scenarios, one after
-another, and in each with a line for every share. Where that isn't so nothing is written, and the status is 1: a line
-says which part differs, ends too early, or is there twice, and which origins are in no part. Memory: the names of the
-origins."""
+Joins the matrices of the parts of a study, in any order: the bytes are those of one run over all origins. All have one
+header; each origin is in exactly one of them, with the same scenarios, one after another, and a line for every
+percentile. Otherwise nothing is written, and the exit status is 1: a line names the part that differs, is truncated or
+repeated, or the origins that are in no part. Memory: the names of the origins."""
 
 
 def describe(parser: argparse.ArgumentParser) -> None:
     told = "the origins of the whole study in their order, a file with the column stop_id, as split writes it (needed)"
     parser.add_argument("--origins", metavar="FILE", required=True, help=told)
-    add_out(parser, "where the whole matrix is written")
+    add_out(parser, "the file of the whole matrix")
     parser.add_argument("matrix", metavar="MATRIX", nargs="+", help="the matrix of a part, as ttm prints it")
 
 

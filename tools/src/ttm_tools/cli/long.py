@@ -13,19 +13,19 @@ if TYPE_CHECKING:
 
 TOLD = "a line for each pair, with names and coordinates"
 HELP = """\
-Turns a matrix from wide to long: a line for each origin and destination. A line has scenario, share (where the matrix
-names it), origin, destination and seconds: the travel time, empty where the share of departures doesn't reach the
-destination. With --feed come origin_name, origin_lat, origin_lon, destination_name, destination_lat and destination_lon
-(degrees). With --access there are no destinations: a line has scenario, share, origin, within (the limit in seconds,
-where the matrix names it) and access.
+Turns a matrix from wide to long: a line for each origin and destination. A line has scenario, share (the percentile, if
+the matrix names it), origin, destination and seconds: the travel time, empty if too few departures reach the
+destination. --feed adds origin_name, origin_lat, origin_lon, destination_name, destination_lat and destination_lon
+(degrees). --access writes no destinations: a line has scenario, share, origin, within (the limit in seconds, if the
+matrix names it) and access.
 
-With --names r5py the columns are called as that library calls them: from_id, to_id, and for each share a column such as
-travel_time_p25, or travel_time where the median alone is taken, in minutes to the nearest hundredth. A name of --out
-that ends in .parquet writes Parquet (with pyarrow or fastparquet, where one is installed), each other a CSV. A CSV of
-more than 1,048,576 lines is written, and told: spreadsheets show no more. With --csvt a file beside it says the type of
-each column, so that QGIS keeps leading zeros of identifiers; spreadsheets drop these unless the column is imported as
-text. A spreadsheet takes a name that begins with =, +, - or @ for a formula: --safe writes an apostrophe before it.
-Rows are turned some at a time, so a matrix may be larger than the memory. Memory: some 100 MB."""
+--names r5py writes that library's columns: from_id, to_id, and for each percentile a column such as travel_time_p25, or
+travel_time for the median alone, in minutes to the nearest hundredth. If --out ends in .parquet it is Parquet (with
+pyarrow or fastparquet), otherwise CSV. Spreadsheets show at most 1,048,576 lines; a CSV with more is written, with a
+warning. --csvt writes a second file with the type of each column, so that QGIS keeps leading zeros of identifiers;
+spreadsheets drop these unless you import the column as text. A spreadsheet takes a name that begins with =, +, - or @
+for a formula: --safe writes an apostrophe before it. Rows are converted in blocks, so a matrix may be larger than the
+memory. Memory: some 100 MB."""
 
 
 def describe(parser: argparse.ArgumentParser) -> None:

@@ -7,21 +7,17 @@ from .options import add_points, add_text, scenarios_of
 TOLD = "an Open Matrix file"
 HELP = """\
 Writes a matrix as an Open Matrix file (OMX, an HDF5 file), which AequilibraE, Visum, Emme and TransCAD load: a matrix
-for each scenario and share, such as base_50, in seconds, NaN where a stop isn't reached; lookups with the identifiers
-of origins and destinations and with numbers from 1 on; the sums of access beside. All scenarios and shares have the
-same origins. Every command of ttm-tools takes such a file in place of the matrix, so that a large one is read once.
-Needs h5py. Memory: some 100 MB."""
+for each scenario and percentile, such as base_50, in seconds, NaN where a stop isn't reached; lookups with the
+identifiers of origins and destinations and with numbers from 1 on; and the sums of access. All scenarios and
+percentiles have the same origins. Every command of ttm-tools takes such a file instead of the matrix, so a large one is
+read once. Needs h5py. Memory: some 100 MB."""
 
 
 def describe(parser: argparse.ArgumentParser) -> None:
-    told = (
-        "the study's own list of origins, a file with the column stop_id, all of which the matrix must have, in order"
-    )
-    add_text(
-        parser, "--origins", "FILE", told, without="a matrix that ends too early isn't told where all scenarios do"
-    )
+    told = "the study's list of origins, a file with the column stop_id: the matrix must have all, in order"
+    add_text(parser, "--origins", "FILE", told, without="a truncation of all scenarios is not detected")
     add_points(parser, "all stops")
-    told = "where the Open Matrix file is written; it gets its name when it is whole (needed)"
+    told = "the Open Matrix file, which appears only when it is complete (needed)"
     parser.add_argument("--out", metavar="FILE", required=True, help=told)
     parser.add_argument("matrix", metavar="MATRIX", help="a matrix as ttm prints it")
 

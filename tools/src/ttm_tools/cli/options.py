@@ -1,4 +1,4 @@
-"""How options are described: each with what it says, its unit, its range, and what holds without it."""
+"""How options are described: each with its meaning, its unit, its range, and its default."""
 
 import argparse
 import math
@@ -54,7 +54,7 @@ def add_number(
     without: str = "",
     whole: bool = True,
 ) -> None:
-    """An option with a number of a unit and a range; without a default it says what holds without it."""
+    """An option with a number of a unit and a range; without a default it says what happens without it."""
     missing = f"default {default:g}" if default is not None else f"without it, {without}"
     parser.add_argument(
         name,
@@ -87,7 +87,7 @@ def add_numbers(
     default: str | None = None,
     without: str = "",
 ) -> None:
-    """An option with one or more numbers of a unit and a range; without a default it says what holds without it."""
+    """An option with one or more numbers of a unit and a range; without a default it says what happens without it."""
     missing = f"default {default}" if default is not None else f"without it, {without}"
     told = f"{told}: {range_told(unit, *bounds)} ({missing})"
     parser.add_argument(name, type=numbers(unit, *bounds), default=default, metavar="N,N..", help=told)
@@ -108,13 +108,13 @@ def add_matrix(parser: argparse.ArgumentParser) -> None:
 
 
 def add_share(parser: argparse.ArgumentParser, without: str = "the only one") -> None:
-    told = "the share of departures whose travel times are taken, in percent"
+    told = "the percentile: a travel time that at least this percentage of departures achieves"
     add_number(parser, "--share", told, "percent", (1, 100), without=without)
 
 
 def add_within(parser: argparse.ArgumentParser, without: str = "the only one") -> None:
     """The limit of access, in minutes as all tools have it, or in seconds as `ttm` has it."""
-    told = f"the limit of the access that is taken: 0 to 71,582,788 minutes (without it, {without})"
+    told = f"the limit of access: 0 to 71,582,788 minutes (without it, {without})"
     read = number("minutes", 0, MOST_LIMIT // 60, whole=False)
     parser.add_argument(
         "--cutoff", "--cutoffs", dest="within", type=lambda it: round(60 * read(it)), metavar="MINUTES", help=told
@@ -140,8 +140,8 @@ def add_cutoffs(parser: argparse.ArgumentParser, told: str, bounds: tuple[float,
 
 
 def add_base(parser: argparse.ArgumentParser) -> None:
-    told = "base, or today where scenarios are those of a plan"
-    add_text(parser, "--base", "NAME", "the scenario that others are compared with", without=told)
+    told = "base, or today of a plan"
+    add_text(parser, "--base", "NAME", "the scenario to compare others with", without=told)
 
 
 def add_feed(parser: argparse.ArgumentParser, told: str, without: str) -> None:
@@ -149,28 +149,28 @@ def add_feed(parser: argparse.ArgumentParser, told: str, without: str) -> None:
 
 
 def add_out(parser: argparse.ArgumentParser, told: str, without: str = "standard output") -> None:
-    add_text(parser, "--out", "FILE", f"{told}; it gets its name when it is whole", without=without)
+    add_text(parser, "--out", "FILE", f"{told}, which appears only when it is complete", without=without)
 
 
 def add_points(parser: argparse.ArgumentParser, without: str = "") -> None:
-    told = "a file of points (id, lat, lon, name, width); they alone are shown, where the matrix has them"
+    told = "a file of points (id, lat, lon, name, width): the command shows only those of the matrix"
     feed = "points.csv in the feed's folder, as ttm-tools points writes it, else all stops"
     add_text(parser, "--points", "FILE", told, without=without or feed)
 
 
 def add_pace(parser: argparse.ArgumentParser) -> None:
-    """How one walks, and where."""
-    add_number(parser, "--speed", "how fast one walks", "m/s", (0.01, 100), default=1.33, whole=False)
-    told = "metres of way for a metre of straight line"
+    """The options of walks: speed, detour, streets."""
+    add_number(parser, "--speed", "the walking speed", "m/s", (0.01, 100), default=1.33, whole=False)
+    told = "length of a walk, as a multiple of the straight line"
     add_number(parser, "--detour", told, "", (1, 100), default=1.3, whole=False)
-    told = "ways along the streets of a file of OpenStreetMap (.osm.pbf, .osm); needs pyosmium and scipy"
+    told = "walk along the streets of a file of OpenStreetMap (.osm.pbf, .osm); needs pyosmium and scipy"
     add_text(parser, "--streets", "FILE", told, without="straight lines")
-    told = "with --streets, how far a street may be to count as near"
+    told = "with --streets, the greatest distance of a street that counts as near"
     add_number(parser, "--near", told, "metres", (0, 100000), default=100, whole=False)
 
 
 def scenarios_of(matrix: "Matrix", named: Sequence[str] | None) -> list[str]:
-    """The scenarios that are named, or all that are compared; one that is left out then is told."""
+    """The named scenarios, or all that are compared, with a note on one that is left out."""
     if not named and matrix.left_out:
         say(matrix.left_out)
     return [matrix.scenario(name) for name in named or matrix.compared]

@@ -5,78 +5,77 @@ import datetime
 
 from .options import add_number, add_text, day
 
-TOLD = "a folder that ttm reads, from published feeds: checked, mended, clipped, merged"
+TOLD = "a folder that ttm reads, from published feeds: checked, repaired, clipped, merged"
 HELP = """\
-Makes a folder that ttm reads from published feeds, zip files or folders, also with a folder inside.
+Writes a folder that ttm reads from published feeds, zip files or folders, also with a folder inside.
 
-With --check it tells all faults for which ttm would refuse the feed, in ttm's order, and writes no folder: for each
-check that fails, the line that ttm would print, and below it what stands there, what is allowed, and how often. Of a
-field that fails several checks the first is told; what refers to a file that isn't there isn't looked at. Then it tells
-what is no fault but likely not meant: the days on which trips run, misspelt columns, stops without a place or at 0 and
-0, trips of a single stop, speeds over 300 km/h, stations used as stops, transfers that aren't used. Of a feed with
-faults the days are those that --repair would leave, and what it would take is told. The status is 1 where there is a
-fault.
+--check reports all errors for which ttm would refuse the feed, in ttm's order, and writes no folder: for each check
+that fails the line that ttm would print, then the value, what is allowed, and how often. A field that fails several
+checks is reported once; references to a missing file are not checked. Warnings follow: the days on which trips run,
+misspelt columns, stops without coordinates or at 0 and 0, trips of a single stop, speeds over 300 km/h, stations used
+as stops, transfers that aren't used. For a feed with errors, the days are those that --repair would leave, with what it
+would remove. The exit status is 1 if there is an error.
 
-With --out the feed is written, as it is where it has no fault; a feed with faults is refused. With --repair it is
-mended first, by the rules below; prepared.csv in the folder has a line for each record to which one was applied. It
-then says how many records of each file are left, and on which days trips run. The status is 1, and no folder is
-written, where a rule (but `same`) takes more than a tenth of a file's records, where a file that ttm needs has no
-record left, or where no trip runs on any day, or on --date. --allow-loss writes what is left even so.
+--out writes the feed; a feed with errors is refused. --repair repairs it first, by the rules below; prepared.csv in the
+folder has a line for each repaired record. Then it prints how many records each file has left, and on which days trips
+run. The exit status is 1, and no folder is written, if a rule (except `same`) removes more than a tenth of a file's
+records, if a required file has no record left, or if no trip runs on any day, or on --date. --allow-loss writes the
+folder anyway.
 
-  column      a column's name that differs in capitals, spaces or signs alone       mended
-  text        a text, no identifier, that isn't UTF-8: read as Windows-1252          mended
-  number      1.0 and +1; decimals of headways and transfers are rounded up         mended
-  time        8:5:00, 8:05 and 08:05:00.0                                           mended
-  date        2026-05-04, 2026/5/4; 31.12.2026 and 31/12/2026 where all dates of a   mended
-              file agree on one reading, with the day or with the month first
-  spaces      an identifier that is known without the spaces round it               mended
-  station     a call at a station: at its first stop, or the station is made a stop mended
-  value       any other text that is no number, time or date                        emptied where it may be
-                                                                                    empty, else the record goes
-  identifier  an identifier that is empty                                           the record goes
-  same        a record that is there twice                                          the second goes
-  duplicate   an identifier, or a stop_sequence of a trip, that is there twice      the second goes
-  unknown     a record that names an unknown stop, route or trip                    the record goes
-  trip        a record of a trip that a rule left out                               the record goes
-  ends        calls before a trip's first time and after its last one               they go; a trip without any
-                                                                                    time goes
+  column      a known column's name with other capitals, spaces or signs            corrected
+  text        a text, not an identifier, that isn't UTF-8                           read as Windows-1252
+  number      1.0 and +1; decimals of headways and transfers                        rounded up
+  time        8:5:00, 8:05 and 08:05:00.0                                           rewritten
+  date        2026-05-04, 2026/5/4; 31.12.2026 and 31/12/2026, if all dates of the  rewritten
+              file agree on the order of day and month
+  spaces      an identifier that is known without its spaces                        spaces removed
+  station     a call at a station                                                   moved to its first stop, or the
+                                                                                    station becomes a stop
+  value       any other text that is no number, time or date                        emptied if the field may be
+                                                                                    empty, else the record is removed
+  identifier  an empty identifier                                                   record removed
+  same        a repeated record                                                     second removed
+  duplicate   a repeated identifier, or a repeated stop_sequence of a trip          second removed
+  unknown     a record that names an unknown stop, route or trip                    record removed
+  trip        a record of a removed trip                                            record removed
+  ends        calls before a trip's first time and after its last one               removed, with a trip without any
+                                                                                    time
   midnight    times that fall by more than half a day                               a day later from there on
-  back        other times that go back                                              the trip goes
-  headway     a row of frequencies.txt that is empty, or begins before another ends it begins later, or goes
+  back        other times that go back                                              trip removed
+  headway     an empty row of frequencies.txt, or one that begins before another    begins later, or is removed
+              of its trip ends
 
-Several feeds are merged: each is checked and mended by itself, and where identifiers of one kind (stops, routes, trips,
-services, agencies, shapes, fares, zones ..) collide with those of a feed before, all those of the later feed begin with
-its name and a colon. Agencies, shapes, fares, pathways, levels, translations, attributions, areas and networks are
+Several feeds are merged: each is checked and repaired by itself. If identifiers of one kind (stops, routes, trips,
+services, agencies, shapes, fares, zones ..) collide with those of an earlier feed, all those of the later feed begin
+with its name and a colon. Agencies, shapes, fares, pathways, levels, translations, attributions, areas and networks are
 merged too; feed_info.txt has one record of all; other files are left out, and named. Routes of a feed with one agency
 name it. Feeds of several time zones are refused without --same-clock.
 
-With --box, --area, --routes, --agency and --date the feed is clipped. Stops outside the region are left out with all
-that is theirs; a trip keeps the calls that stay, two at least. Journeys by way of a place outside are lost, and all
-others are as they were. Of stop_times.txt only the trips that call inside are looked at, and held in memory. With
---routes and --agency stops go at which no trip calls any more, with --date trips whose service doesn't run on the days.
-In all other files (fare_rules.txt, pathways.txt, stop_areas.txt, translations.txt, shapes.txt ..) the records go that
-name what went, and fares that lose all their rules. How many records of which file went is told.
-What ttm doesn't take, more than 65,535 stops and stations, 1,000,000 trips or 8,000,000 stop times, is told in a line,
-with the options that leave out some.
+--box, --area, --routes, --agency and --date clip the feed. Stops outside the region are removed with all that belongs
+to them; a trip keeps its calls inside, two at least. Journeys through a place outside are lost; all others stay. Of
+stop_times.txt only the trips that call inside are read and held in memory. --routes and --agency remove stops without
+trips, --date removes trips whose service doesn't run on the days. In all other files (fare_rules.txt, pathways.txt,
+stop_areas.txt, translations.txt, shapes.txt ..) records that name something removed go too, and fares that lose all
+their rules; the numbers of removed records are printed. More than 65,535 stops and stations, 1,000,000 trips or
+8,000,000 stop times are refused, with the options that remove some.
 
-What is missing as a whole, a file or a column, no rule makes up. It needs some 250 bytes for
-each record of stop_times.txt that it holds."""
+No rule replaces a missing file or column. Memory: some 250 bytes for each record of stop_times.txt that is held."""
 
 
 def describe(parser: argparse.ArgumentParser) -> None:
-    only = "tell what is wrong, and write no folder (without it, --out is needed)"
+    only = "report errors, and write no folder (without it, --out is needed)"
     parser.add_argument("--check", action="store_true", help=only)
-    add_text(parser, "--faults", "FILE", "with --check, a line for each single fault, as CSV", without="none")
-    add_text(parser, "--out", "FOLDER", "the folder that is written; it is new or empty", without="--check is needed")
-    parser.add_argument("--repair", action="store_true", help="mend faults (without it, they are refused)")
-    told = "write what a repair leaves even where it takes much of a file, or where no trip runs (without it, refused)"
+    add_text(parser, "--faults", "FILE", "with --check, a line for each single error, as CSV", without="none")
+    add_text(parser, "--out", "FOLDER", "the folder to write; it must be new or empty", without="--check is needed")
+    parser.add_argument("--repair", action="store_true", help="repair errors (without it, they are refused)")
+    told = "write what a repair leaves even if it removes much of a file, or if no trip runs (without it, refused)"
     parser.add_argument("--allow-loss", action="store_true", help=told)
-    told = "merge feeds of several time zones, whose times are taken as those of one (without it, refused)"
+    told = "merge feeds of several time zones, and treat their times as those of one (without it, refused)"
     parser.add_argument("--same-clock", action="store_true", help=told)
-    told = "west, south, east, north in degrees, -180 to 180 and -90 to 90: stops inside are kept (without it, all)"
+    told = "west, south, east, north in degrees, -180 to 180 and -90 to 90: keep the stops inside (without it, all)"
     parser.add_argument("--box", type=box, metavar="W,S,E,N", help=told)
-    add_text(parser, "--area", "FILE", "GeoJSON polygons: the stops inside are kept; needs shapely", without="all")
-    told = "a route that is kept; several by several times --routes (without it, all)"
+    add_text(parser, "--area", "FILE", "GeoJSON polygons: keep the stops inside; needs shapely", without="all")
+    told = "a route to keep; may be given more than once (without it, all)"
     parser.add_argument("--routes", action="append", default=[], metavar="ROUTE_ID", help=told)
     told = "an agency whose routes are kept; several by several times --agency (without it, all)"
     parser.add_argument("--agency", action="append", default=[], metavar="AGENCY_ID", help=told)

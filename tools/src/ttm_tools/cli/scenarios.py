@@ -6,48 +6,48 @@ import sys
 
 from .options import add_text
 
-TOLD = "a plan of new lines, headways and speeds as a feed with scenario files"
+TOLD = "a feed with scenario files, from a plan of new lines, headways and speeds"
 HELP = """\
-Writes a feed that has the trips of all scenarios of a plan, and for each scenario a file that takes out what it hasn't,
-so that one run of ttm compares them. FOLDER is a feed by the GTFS reference; beside it are scenarios/NAME.csv and
-scenarios/today.csv, which has the feed as it was; scenarios.words, the words of the run, which are printed as well;
-scenarios.md, what each action did; actions.csv, changes.csv and new_stops.csv, the same as lists.
+Writes a feed with the trips of all scenarios of a plan, and for each scenario a file that removes what it lacks, so
+that one run of ttm compares them. FOLDER is a feed by the GTFS reference. It also has scenarios/NAME.csv and
+scenarios/today.csv, the feed as it was; scenarios.words, the arguments of the run, which are printed too; scenarios.md,
+what each action did; actions.csv, changes.csv and new_stops.csv, the same as lists.
 
-A plan is a TOML file. Each [[scenario]] has a name, and [[scenario.action]] tables, carried out in their order; `do`
-says what:
+A plan is a TOML file. Each [[scenario]] has a name, and [[scenario.action]] tables, carried out in their order; `do` is
+one of:
 
   remove_route   route
   remove_trip    trip
   remove_stop    stop; trips (of route ..) no longer call there
-  shift_route    route, seconds (later; with a minus earlier)
+  shift_route    route, seconds (negative for earlier)
   shift_trip     trip, seconds
   add_line       route (new), name, type (of the GTFS, default 3, a bus), agency; stops, in order; seconds between them,
                  or speed (km/h along straight lines) and dwell (seconds at stops between the ends, default 0); both
                  (directions, default true); departures = [{ first, last, every (seconds) }, ..]; days ("daily",
                  "weekdays", "weekend" or a list such as ["monday"]) or service
-  headway        route .., every (seconds), from, to: departures from the one time on, before the other; the trips that
-                 leave in between give way to copies of a typical one, which is told
-  speed          route .., factor of the run times, or dwell (seconds more, or with a minus less, at each stop), between
-                 the ends or from_stop and to_stop; what run times add up to is rounded to the nearest second
+  headway        route .., every (seconds), from, to: departures from the first time on, before the second; copies of a
+                 typical trip, which is printed, replace the trips that leave in between
+  speed          route .., factor of the run times, or dwell (seconds to add at each stop, negative to remove), between
+                 the ends or from_stop and to_stop; sums of run times are rounded to the nearest second
   extend         route .., after (the stop at which trips end) or before (at which they begin), stops, seconds or speed
                  and dwell as above
-  cut            route .., after or before: the stop at which trips end or begin from now on
+  cut            route .., after or before: the stop at which trips now end or begin
 
 "route .." is a route or several, of which direction (0 or 1, as the feed states it), pattern (a trip: those that call
-at its stops) and service choose some trips. Times are "HH:MM" or "HH:MM:SS". A [[stop]] with id, name, lat and lon is a
-new one. An action that changes nothing, names what isn't there, or lets times go back is told with the plan's line.
+at its stops) and service select some trips. Times are "HH:MM" or "HH:MM:SS". A [[stop]] with id, name, lat and lon is
+new. An action that changes nothing, names something unknown, or lets times go back is an error with the plan's line.
 
-The feed is one that ttm takes (ttm-tools prepare makes one). compare, map, long and others leave out what ttm prints as
-`base`, which has everything at once, and take `today` for it. Memory: some 200 bytes for each stop time that is
-written."""
+The feed must be one that ttm takes (ttm-tools prepare writes one). compare, map, long and others leave out ttm's
+scenario `base`, which has everything at once, and take `today` for it. Memory: some 200 bytes for each stop time that
+is written."""
 
 
 def describe(parser: argparse.ArgumentParser) -> None:
     parser.add_argument("feed", metavar="FEED", help="the folder of a feed")
     parser.add_argument("plan", metavar="PLAN", help="the plan, a TOML file")
-    told = "the folder that is written; it is new or empty (needed)"
+    told = "the folder to write; it must be new or empty (needed)"
     parser.add_argument("--out", metavar="FOLDER", required=True, help=told)
-    told = "a scenario that is carried out alone: the feed with its trips and no others, and no scenario files"
+    told = "the only scenario to carry out: the feed with its trips and no others, and no scenario files"
     add_text(parser, "--only", "NAME", told, without="all are in the feed")
 
 

@@ -6,11 +6,9 @@ from .options import add_number, add_text
 
 TOLD = "the origins of a study in parts"
 HELP = """\
-Cuts the origins of a study into parts: each part is a study of its own, for a process, a processor or a machine of its
-own. With --feed the origins are all stops of the feed, as ttm takes them where no file names any. The files
-part_0001.csv .. hold the origins in their order, at most one more in one part than in another, with the one column
-stop_id; there are fewer where there are fewer origins than parts. origins.csv beside them has the origins of all, for
-ttm-tools join."""
+Cuts the origins of a study into parts, one for each process, processor or machine. With --feed the origins are all
+stops of the feed. The files part_0001.csv .. have the origins in their order, in a column stop_id; sizes differ by one
+at most, and there are no more parts than origins. origins.csv has all origins, for ttm-tools join."""
 
 
 def describe(parser: argparse.ArgumentParser) -> None:
@@ -21,8 +19,8 @@ def describe(parser: argparse.ArgumentParser) -> None:
     whole.add_argument(
         "--feed", metavar="FOLDER", help="an unpacked feed, whose stops are the origins (this or --origins is needed)"
     )
-    add_number(parser, "--parts", "how many parts are made", "parts", (1, 9999), without="1 part")
-    add_text(parser, "--out", "FOLDER", "where the parts are written", default=".")
+    add_number(parser, "--parts", "the number of parts", "parts", (1, 9999), without="1 part")
+    add_text(parser, "--out", "FOLDER", "the folder of the parts", default=".")
 
 
 def run(words: argparse.Namespace) -> int:

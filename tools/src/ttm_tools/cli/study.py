@@ -5,32 +5,32 @@ import sys
 
 from .options import add_number, add_text
 
-TOLD = "all of a study, from one file: feed, runs in parts, matrix, tables, maps, report"
+TOLD = "a whole study from one file: feed, runs in parts, matrix, tables, maps, report"
 HELP = """\
-Makes all of a study from one file: the feed is made ready, walks between its stops (or points) are made, ttm runs in
-parts of the origins, and the parts are joined to a matrix, from which tables, maps and a report are made, in one
-folder. --new prints a file with a comment for each field.
+Runs a whole study from one file, in one folder: prepares the feed, makes walks between its stops (or points), runs ttm
+in parts of the origins, and joins the parts to a matrix, from which it writes tables, maps and a report. --new prints a
+file with a comment for each field.
 
-What is done isn't done again. A study that was killed at any moment, by a signal or a power cut, goes on by the same
-command with what is missing; whatever depends on an input that changed is made anew. A part of the run counts as done
-when its matrix is whole and bears the sum of the inputs, the words and the version of ttm that it comes from. A part
-that fails is told with the line of ttm, and the others go on; the status is then 1.
+A study that was stopped at any moment, by a signal or a power cut, resumes by the same command: it does what is
+missing, and redoes what depends on a changed input. A part of the run is done if its matrix is complete and has the
+checksum of its inputs, arguments and version of ttm. A part that fails is reported with ttm's line, and the others go
+on; the exit status is then 1.
 
 Parts run on the processors of this machine, as many at once as its memory allows by ttm's own counts. With --slurm they
 are an array of a cluster that shares the folder, with --hosts they run on hosts that you reach by ssh and that share
-it; --option is handed on to sbatch, or to parallel, such as --option partition=long. An array goes on where the command
-ends, and the same command waits for it.
+it; --option goes to sbatch, or to parallel, such as --option partition=long. If the command ends, an array continues,
+and the same command waits for it.
 
---verify FOLDER looks at the sums of all that is in a study's folder, computes a drawn tenth of the rows again, and
-compares their bytes. Memory: what ttm takes for so many parts at once, and then what map, page and compare take."""
+--verify FOLDER compares the checksums of a study's files, recomputes a drawn tenth of the rows, and compares their
+bytes. Memory: what ttm takes for all parts that run at once, and then what map, page and compare take."""
 
 
 def describe(parser: argparse.ArgumentParser) -> None:
     parser.add_argument("study", metavar="STUDY", nargs="?", help="the study's file, or with --part its folder")
-    told = "print a file with a comment for each field, to begin with (without it, a study is made)"
+    told = "print a new file with a comment for each field (without it, a study runs)"
     parser.add_argument("--new", action="store_true", help=told)
-    add_text(parser, "--out", "FOLDER", "the study's folder", without="the file's name without .toml, beside it")
-    told = "how many parts run at once on this machine"
+    add_text(parser, "--out", "FOLDER", "the study's folder", without="the file's name without .toml")
+    told = "the number of parts that run at once on this machine"
     add_number(parser, "--workers", told, "processes", (1, 1024), without="one on each processor")
     parser.add_argument("--slurm", action="store_true", help="run the parts as an array under Slurm (without it, here)")
     add_text(parser, "--hosts", "HOSTS", "run the parts by GNU parallel, such as 8/one,8/two", without="here")
@@ -39,8 +39,8 @@ def describe(parser: argparse.ArgumentParser) -> None:
     add_number(
         parser, "--part", "compute one part, as the tasks of --slurm and --hosts do", "", (1, 9999), without="all"
     )
-    add_text(parser, "--verify", "FOLDER", "compute a tenth of a study's rows again", without="the study is made")
-    add_number(parser, "--seed", "which rows are drawn for --verify", "", (0, 4294967295), without="drawn, and told")
+    add_text(parser, "--verify", "FOLDER", "recompute a tenth of a study's rows", without="the study runs")
+    add_number(parser, "--seed", "chooses the rows of --verify", "", (0, 4294967295), without="drawn, and printed")
 
 
 def run(words: argparse.Namespace) -> int:

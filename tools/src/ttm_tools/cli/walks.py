@@ -7,33 +7,33 @@ from .options import add_number, add_out, add_pace, add_text
 
 TOLD = "footpaths of a feed from the coordinates of its stops"
 HELP = """\
-Writes the footpaths of a feed from the coordinates of its stops: straight lines, made longer by a detour factor. Two
-stops have a footpath, in each direction, where the way between them takes at most the limit: the distance over ground
-times the detour factor at the walking speed, rounded up to whole seconds. ttm closes chains of footpaths itself, within
-its own --walk, so a limit above that adds nothing.
+Writes the footpaths of a feed from the coordinates of its stops: straight lines, lengthened by a detour factor. Two
+stops have a footpath, in each direction, if the way between them takes at most the limit: the distance over ground
+times the detour factor at the walking speed, rounded up to whole seconds. ttm itself chains footpaths within its own
+--walk, so a limit above that adds nothing.
 
-Stops are those at which vehicles call: location_type 0 or empty. Where their station lists entrances (location_type 2),
-one reaches or leaves it only by an entrance; within one station one walks directly (GTFS reference, stops.txt). A stop
-without coordinates, at 0 and 0, or at none on earth has no footpath, which a line on standard error counts. The file
-has the columns from_stop_id, to_stop_id and seconds; hand it to ttm by --footpaths. Of a folder of ttm-tools scenarios
-with new stops it is looked at whether walks by way of these bring old stops nearer, and told where they do.
+Stops are those at which vehicles call: location_type 0 or empty. If their station lists entrances (location_type 2),
+walks from outside pass an entrance; within one station they are direct (GTFS reference, stops.txt). A stop without
+coordinates, at 0 and 0, or at no place on earth has no footpath; a line on standard error counts these. The file has
+the columns from_stop_id, to_stop_id and seconds, for ttm's --footpaths. In a folder of ttm-tools scenarios with new
+stops, walks by way of these that bring old stops nearer are reported.
 
-With --streets one walks along the ways of a file of OpenStreetMap, which are no longer than they are. A way may be
-walked where its highway is primary, secondary, tertiary (and their links), unclassified, residential, living_street,
-service, road, track, path, footway, pedestrian, steps, corridor, platform, crossing or elevator; or trunk, cycleway,
-bridleway or busway where foot says yes (designated, permissive ..), or trunk with a sidewalk; platforms and piers too.
-No motorways; not where foot is no, private or use_sidepath, nor where access is no or private and foot doesn't allow
-it. oneway:foot, foot:forward and foot:backward count; oneway is for vehicles. Stops and entrances are put on the
-nearest way. Those that are farther from it than --near are told, and joined to it by a straight line with its detour.
-Memory: some 100 MB, 150 bytes for each footpath, and with --streets 800 for each node of the ways."""
+--streets uses the ways of a file of OpenStreetMap, without a detour factor. A way may be walked if its highway is
+primary, secondary, tertiary (and their links), unclassified, residential, living_street, service, road, track, path,
+footway, pedestrian, steps, corridor, platform, crossing or elevator; or trunk, cycleway, bridleway or busway if foot
+says yes (designated, permissive ..), or trunk with a sidewalk; platforms and piers too. No motorways; not if foot is
+no, private or use_sidepath, nor if access is no or private and foot doesn't allow it. oneway:foot, foot:forward and
+foot:backward count; oneway is for vehicles. Stops and entrances are put on the nearest way. Those farther from it than
+--near are reported, and joined to it by a straight line with its detour. Memory: some 100 MB, 150 bytes for each
+footpath, and with --streets 800 for each node of the ways."""
 
 
 def describe(parser: argparse.ArgumentParser) -> None:
     add_number(parser, "--limit", "the longest walk", "seconds", (1, 86400), default=600, whole=False)
     add_pace(parser)
-    told = "walks of your own, a table with from_stop_id, to_stop_id and seconds; decimals are rounded up, and counted"
+    told = "your own walks, a table with from_stop_id, to_stop_id and seconds; decimals are rounded up, and counted"
     add_text(parser, "--table", "FILE", told, without="straight lines")
-    add_out(parser, "where the footpaths are written", without="footpaths.csv in FOLDER")
+    add_out(parser, "the file of footpaths", without="footpaths.csv in FOLDER")
     parser.add_argument("folder", metavar="FOLDER", help="an unpacked feed")
 
 

@@ -1,6 +1,7 @@
 """What is reached from each origin: opportunities, each weighted by its travel time, and the time to the nearest ones.
 
-The weights are those of R5 and r5r, with a `cutoff` and a `decay_value` in minutes; docs/reference/measures.md has the formulas.
+The weights are those of R5 and r5r, with a `cutoff` and a `decay_value` in minutes. docs/reference/measures.md has the
+formulas.
 Each is a product of matrices, block of rows by block of rows: weights of cells times numbers by stop. Sums are
 `float64`, exact for whole numbers.
 """

@@ -1,0 +1,38 @@
+"""ttm-tools docs."""
+
+import argparse
+import sys
+import webbrowser
+from pathlib import Path
+from typing import Iterator
+
+TOLD = "the documentation, in a browser"
+HELP = """\
+Opens the documentation in a browser, and prints where it is. It needs no network, and its search works offline. The
+Debian package, the tar file and the wheel contain it; in a clone, packaging/build.sh writes it."""
+INDEX = "docs/README.html"
+
+
+def describe(parser: argparse.ArgumentParser) -> None:
+    told = "print where the documentation is, and open nothing (without it, a browser opens)"
+    parser.add_argument("--path", action="store_true", help=told)
+
+
+def places() -> Iterator[Path]:
+    """The folders where the documentation may be: of a wheel, of a Debian package or tar file, and of a clone."""
+    package = Path(__file__).resolve().parents[1]
+    yield Path(sys.prefix) / "share" / "ttm" / "html"
+    yield from (above / "share" / "doc" / "ttm" / "html" for above in package.parents[3:4])
+    yield from (above / "packaging" / "out" / "html" for above in package.parents[2:3])
+
+
+def run(words: argparse.Namespace) -> int:
+    from ..faults import Lacking
+
+    index = next((it / INDEX for it in places() if (it / INDEX).is_file()), None)
+    if index is None:
+        raise Lacking("the documentation isn't installed: packaging/build.sh writes it where Sphinx and MyST are")
+    print(index)
+    if not words.path:
+        webbrowser.open(index.as_uri())
+    return 0
