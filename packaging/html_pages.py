@@ -41,6 +41,7 @@ highlight_language = "none"
 html_theme = "alabaster"
 html_theme_options = {"page_width": "76em", "sidebar_width": "16em", "fixed_sidebar": True, "show_powered_by": False}
 html_title = "ttm"
+html_sidebars = {"**": ["about.html", "searchbox.html", "navigation.html"]}
 suppress_warnings = ["misc.highlighting_failure"]
 html_show_sphinx = html_show_copyright = html_show_sourcelink = html_copy_source = False
 """

@@ -79,7 +79,7 @@ def test_wrong_files_are_told(small: Town) -> None:
         ("stop_id,jobs", ["B", -1], f"{path}: record 2: jobs '-1' is none; allowed: a number from 0 on"),
         ("stop_id,jobs", ["B", ""], f"{path}: record 2: jobs '' is none; allowed: a number from 0 on"),
         ("stop,jobs", ["B", 1], f"{path}: record 1: no column stop_id or id"),
-        ("stop_id", ["B"], f"{path}: record 1: no column of numbers beside the identifier"),
+        ("stop_id", ["B"], f"{path}: record 1: no column of numbers"),
     ]
     for header, row, told in wrong:
         small.write("bad.csv", header, [row])

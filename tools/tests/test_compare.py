@@ -90,7 +90,7 @@ def test_a_matrix_that_ends_too_early_is_told(town: Town) -> None:
     assert (made, status) == (HEAD + "A,D,cut off,2400,,\nA,C,slower,900,1900,1000\n", 0)
     assert told.splitlines()[0] == f"{lost}: left out"
     town.matrix(text[: text.index("cut,A")])
-    town.refused(f"{town.file}: no scenario beside base; it has base", "compare", town.file)
+    town.refused(f"{town.file}: no scenario other than base; it has base", "compare", town.file)
 
 
 def test_an_open_matrix_file_compares_as_the_matrix(town: Town) -> None:

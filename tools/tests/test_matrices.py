@@ -92,7 +92,7 @@ def test_two_scenarios_of_several(town: Town) -> None:
     told = "no scenario late; it has base, cut"
     refused(town, town_matrix(True), told, lambda it: pair_of(it, "base", "late", None))
     alone = town_matrix(True, {"base": TOWN["base"]})
-    refused(town, alone, "no scenario beside base; it has base", lambda it: pair_of(it, "base", None, None))
+    refused(town, alone, "no scenario other than base; it has base", lambda it: pair_of(it, "base", None, None))
     pair = pair_of(open_matrix(town.matrix(town_matrix(False, three))), "cut", "late", None)
     ((begin, before, after),) = pair.blocks()
     assert (pair.other, begin, pair.origins, pair.lacking) == ("late", 0, ["A", "D"], None)

@@ -418,7 +418,7 @@ FAULTS = [
     ('do = "cut"\nroute = "Q"\nafter = "C"', "line 6: after 'C' leaves all trips of the route as they are"),
     (
         'do = "cut"\nroute = "Q"\nafter = "D"\nbefore = "D"',
-        "line 7: before is there beside after; allowed: one of after, before",
+        "line 7: before is there together with after; allowed: one of after, before",
     ),
     (
         'do = "add_line"\nroute = "Q"\nstops = ["A", "B"]',
@@ -454,7 +454,7 @@ def test_plans_that_are_none(small: Room) -> None:
         (2 * one.format("x"), ": line 7: name 'x' is there twice"),
         (
             "".join(one.format(f"s{number}") for number in range(15)),
-            ": line 72: name 's14' is scenario 15; ttm takes 14 beside base and today",
+            ": line 72: name 's14' is scenario 15; ttm takes 14 in addition to base and today",
         ),
         (one.format("x") + '[[stop]]\nid = "A"\n', ": line 7: id 'A' is there already"),
     ):

@@ -44,7 +44,7 @@ NEGATIVE = re.compile(r"-[0-9.][-+0-9.,e]*")
 
 def parser_of() -> argparse.ArgumentParser:
     """All commands with their options."""
-    about = "What analysts do before and after a run of ttm. `ttm-tools COMMAND --help` says what a command takes."
+    about = "Tools for analysts, before and after a run of ttm. `ttm-tools COMMAND --help` lists a command's options."
     parser = argparse.ArgumentParser(prog="ttm-tools", description=about)
     commands = parser.add_subparsers(dest="command", metavar="COMMAND", required=True)
     for name in COMMANDS:

@@ -47,7 +47,7 @@ def describe(parser: argparse.ArgumentParser) -> None:
     add_cutoffs(parser, told, (0, 10000), "30")
     told = "how wide the linear fall is, or the standard deviation of the logistic one"
     add_number(parser, "--decay-value", told, "minutes", (0, 10000), without="none, which these two need", whole=False)
-    told = "in place of access the time within which so many are reached, between commas"
+    told = "instead of access, the time within which this many are reached, between commas"
     add_numbers(parser, "--nearest", told, "", (0, 1e15), without="access is measured")
     add_text(parser, "--scenario", "NAME", "the scenario that is taken", without="all")
     add_points(parser, "all origins and stops")

@@ -34,7 +34,7 @@ def describe(parser: argparse.ArgumentParser) -> None:
     add_within(parser)
     add_feed(parser, "an unpacked feed, for the names of stops", "there are no names")
     add_points(parser)
-    told = "compare the origins that both scenarios have, where one lacks some (without it, that is a fault)"
+    told = "if one scenario lacks origins, compare the others (without it, that is an error)"
     parser.add_argument("--partial", action="store_true", help=told)
     add_out(parser, "where the table is written")
     add_matrix(parser)

@@ -15,7 +15,7 @@ GeoPackage (needs geopandas). Stops without coordinates are left out, and counte
 def describe(parser: argparse.ArgumentParser) -> None:
     parser.add_argument("--feed", metavar="FOLDER", required=True, help="the unpacked feed of the matrix (needed)")
     add_points(parser)
-    add_text(parser, "--origin", "STOP", "the stop from which travel times are told", without="access alone is told")
+    add_text(parser, "--origin", "STOP", "the stop whose travel times are written", without="access alone")
     told = "a scenario that is taken; may be given several times (without it, all are)"
     parser.add_argument("--scenario", metavar="NAME", action="append", help=told)
     add_share(parser, without="all")

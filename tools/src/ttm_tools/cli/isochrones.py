@@ -4,7 +4,7 @@ import argparse
 
 from .options import add_matrix, add_number, add_numbers, add_points, add_share, add_text, scenarios_of
 
-TOLD = "areas that are reached from an origin within so many minutes"
+TOLD = "areas that an origin reaches within some minutes"
 HELP = """\
 Writes the areas that can be reached from an origin within some numbers of minutes: one shape for each band, scenario
 and percentile, as GeoJSON (.geojson, .json) or GeoPackage (.gpkg, needs geopandas). A point that has a shape, the

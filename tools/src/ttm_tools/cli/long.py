@@ -49,7 +49,7 @@ def describe(parser: argparse.ArgumentParser) -> None:
     parser.add_argument("--access", action="store_true", help=told)
     told = "whose names the columns bear (default ttm); r5py's have one scenario and minutes"
     parser.add_argument("--names", choices=("ttm", "r5py"), default="ttm", help=told)
-    told = "write the types of the columns to a file beside --out that ends in .csvt, for QGIS (without it, none)"
+    told = "also write the types of the columns, to a file that ends in .csvt, for QGIS (without it, none)"
     parser.add_argument("--csvt", action="store_true", help=told)
     told = "write an apostrophe before names that a spreadsheet takes for formulas (without it, as they are)"
     parser.add_argument("--safe", action="store_true", help=told)

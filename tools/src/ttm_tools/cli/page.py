@@ -4,7 +4,7 @@ import argparse
 
 from .options import add_base, add_cutoffs, add_matrix, add_number, add_points, add_share, add_text, scenarios_of
 
-TOLD = "one file of HTML to send: travel times and access, to look at in a browser"
+TOLD = "one HTML file to send, with travel times and access to explore in a browser"
 HELP = """\
 Writes a matrix as one HTML file that any browser of today shows without network, to be sent by mail and opened by a
 double click: a map of the stops, coloured by travel time from the stop that is clicked on, a slider that counts what is
@@ -36,7 +36,7 @@ def describe(parser: argparse.ArgumentParser) -> None:
     parser.add_argument("--opportunities", metavar="FILE", action="append", default=[], help=told + more)
     told = "a file with how many people are at each stop, as for equity; they are counted, too; "
     parser.add_argument("--people", metavar="FILE", action="append", default=[], help=told + many.format("none"))
-    told = "a scenario that is shown beside the base; "
+    told = "a scenario to show in addition to the base; "
     parser.add_argument("--scenario", metavar="NAME", action="append", default=[], help=told + many.format("all"))
     add_base(parser)
     add_share(parser, without="all")
@@ -47,8 +47,8 @@ def describe(parser: argparse.ArgumentParser) -> None:
     add_text(parser, "--unit", "WORD", "what the matrix counts as access, such as jobs", default="opportunities")
     add_text(parser, "--title", "TEXT", "what stands above the page", without="the feed's name")
     add_text(parser, "--note", "TEXT", "what else a reader needs to know", without="nothing")
-    told = "the words of the run of ttm, between quotes, from which date and departures are told"
-    add_text(parser, "--words", "TEXT", told, without="they aren't told")
+    told = "the arguments of the run of ttm, between quotes, which have its date and departures"
+    add_text(parser, "--words", "TEXT", told, without="the page names neither")
     told = "where a map is fetched from to be drawn below, such as https://tiles.example/{z}/{x}/{y}.png"
     add_text(parser, "--tiles", "URL", told, without="none, and the page needs no network")
     add_text(parser, "--attribution", "TEXT", "who is named for that map; --tiles needs it", without="nobody")

@@ -39,7 +39,7 @@ def describe(parser: argparse.ArgumentParser) -> None:
         add_text(parser, f"--{name}", "COLUMN", f"the column that says {told}", default=name)
     add_number(parser, "--limit", "the longest walk, which is the --walk of a run too", "seconds", (1, 7200), 600)
     add_pace(parser)
-    told = "leave out the points without a stop in reach (without it, they are told)"
+    told = "leave out the points without a stop in reach (without it, they are reported)"
     parser.add_argument("--leave-out", action="store_true", help=told)
 
 

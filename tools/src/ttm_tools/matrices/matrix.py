@@ -155,7 +155,7 @@ class Matrix(ABC):
             raise BadInput(self.path, f"it has the scenarios {told} beside {shown(base)}: name one by --scenario")
         if not others:
             raise BadInput(
-                self.path, f"no scenario beside {shown(base)}; it has {', '.join(map(shown, self.scenarios))}"
+                self.path, f"no scenario other than {shown(base)}; it has {', '.join(map(shown, self.scenarios))}"
             )
         return others[0]
 

@@ -164,7 +164,7 @@ class OpenMatrix(Matrix):
         if not key[0] or share is not None and int(share) not in SHARES:
             raise BadInput(self.path, f"matrix {name} names no scenario, or a share that isn't 1 to 100")
         if key in self.names:
-            raise BadInput(self.path, f"matrix {name} is of the scenario and share of {self.names[key]}")
+            raise BadInput(self.path, f"matrix {name} has the scenario and percentile of {self.names[key]}")
         self.names[key] = name
 
     def read_layout(self) -> None:

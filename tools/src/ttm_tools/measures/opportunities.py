@@ -69,7 +69,7 @@ def columns_of(path: str) -> list[str]:
     names = list(places_of(header, path, []))
     made = [name for name in names if name not in NO_COUNTS and name not in IDENTIFIERS and name]
     if not made:
-        raise BadInput(path, "no column of numbers beside the identifier", record=1)
+        raise BadInput(path, "no column of numbers", record=1)
     return made
 
 

@@ -55,7 +55,7 @@ class Entry:
         if not found:
             raise self.fault("needed", " or ".join(keys))
         if len(found) > 1:
-            raise self.fault(f"is there beside {found[0]}", found[1], allowed=f"one of {', '.join(keys)}")
+            raise self.fault(f"is there together with {found[0]}", found[1], allowed=f"one of {', '.join(keys)}")
         return found[0]
 
     def get(self, key: str) -> Any:
@@ -222,7 +222,7 @@ def read_plan(path: str) -> Plan:
         if scenario.name in seen:
             raise scenario.entry.fault("is there twice", "name", scenario.name)
         if number >= MOST_SCENARIOS:
-            told = f"is scenario {number + 1}; ttm takes {MOST_SCENARIOS} beside base and today"
+            told = f"is scenario {number + 1}; ttm takes {MOST_SCENARIOS} in addition to base and today"
             raise scenario.entry.fault(told, "name", scenario.name)
         seen.add(scenario.name)
     return Plan(path, scenarios, stops)

@@ -18,7 +18,7 @@ from .task import write_task
 
 SECONDS_BETWEEN_LOOKS = 2.0
 SECONDS_FOR_FILES = 30.0  # until files of another host are seen here
-NO_LINE = "no matrix and no line: what its machine told is in "
+NO_LINE = "no matrix and no line: the output of its machine is in "
 
 
 @dataclass(frozen=True)

@@ -18,13 +18,13 @@ MARKDOWN, HTML, TOLD = "report.md", "report.html", "inputs/told.txt"
 FEW = 10  # origins that lose, and that gain most, which the report names
 MOST_DECIMALS = 6
 PROVED = (
-    "Each travel time of the matrix is, for the files in the folder inputs and the words above, the least that the "
-    "share of departures attains over all journeys of at most so many vehicles; it is the contract of ttm, and proved. "
-    "So is that the rows of the whole are those of its parts, whichever way they were run.",
-    "Not proved: what was done to make the inputs (mending, walks, points, plans), how parts were joined, and all "
-    "tables, maps and pages that stand on the matrix; these are tested. Whether the timetable is what really runs, and "
-    "what is counted at each stop, are matters of the inputs.",
-    "ttm-tools study --verify computes a drawn tenth of the rows again, and compares their bytes.",
+    "Each travel time of the matrix is the least that the percentile of departures achieves, over all journeys of at "
+    "most the stated number of vehicles, for the files in the folder inputs and the arguments above. This is ttm's "
+    "contract, and proved. So is that the rows of the whole are those of its parts, however they ran.",
+    "Not proved, but tested: how the inputs were made (repairs, walks, points, plans), how parts were joined, and all "
+    "tables, maps and pages. Whether the timetable is what really runs, and what is counted at each stop, depend on "
+    "the inputs.",
+    "ttm-tools study --verify recomputes a drawn tenth of the rows, and compares their bytes.",
 )
 
 
@@ -60,7 +60,7 @@ def report_of(whole: Whole, records: dict[str, Record], version: Sequence[str]) 
     made.items(f"{name}: {line}" for name, record in inputs.records.items() for line in record.lines)
     made.paragraph("Words of the run, in the study's folder; parts of the origins took its place:")
     made.code(["ttm " + " ".join(inputs.run.words())])
-    made.paragraph("What ttm told of days, runs and walks:")
+    made.paragraph("What ttm reported about days, trips and walks:")
     told = Path(TOLD).read_text(encoding="utf-8").splitlines()
     made.code(told)
     warnings = [line for line in told if line.startswith("warning")]

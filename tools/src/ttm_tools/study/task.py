@@ -79,7 +79,7 @@ def computed(run: Run, part: Part, known: dict[str, Any]) -> str | None:
         raise
     if told is None and task_known() != known:
         remove(part.matrix)
-        return "the study's inputs were made anew meanwhile"
+        return "the study's inputs were written again meanwhile"
     if told is None:
         part.finish()
     return told

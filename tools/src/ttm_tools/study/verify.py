@@ -75,7 +75,7 @@ def refuse_changed_sources(sources: dict[str, str]) -> None:
 def refuse_changed(files: dict[str, str]) -> None:
     for name, was in files.items():
         if not Path(name).is_file():
-            raise BadInput(name, f"isn't there any more, and {NOTES} has its sum")
+            raise BadInput(name, f"no longer exists, and {NOTES} has its checksum")
         if sum_of(name) != was:
             raise BadInput(name, f"has another sum than {NOTES} says: it was changed")
 

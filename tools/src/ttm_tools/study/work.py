@@ -136,7 +136,7 @@ def beside_today(inputs: Inputs, lines: list[str]) -> list[str]:
         if line != NO_CHANGE:
             made.append(line)
         elif name == TODAY and whole not in (None, TODAY):
-            made.append(f"warning: scenario {whole} changes nothing beside {TODAY} on the days of the study")
+            made.append(f"warning: scenario {whole} changes nothing compared with {TODAY} on the days of the study")
     if whole is None:
         count = len(inputs.run.scenarios) + 1
         made.append(f"{BASE} has the trips of all scenarios; its rows, one in {count} of the run, aren't shown")

@@ -47,12 +47,12 @@ class Words:
 
 def meaning(share: Share, words: Words) -> str:
     """What a travel time says, in one sentence."""
-    window = f" of the window {words.window}" if words.window else " of the window that was asked for"
-    often = "a share" if share is None else f"at least {share} of 100"
+    window = f" of the window {words.window}" if words.window else " of the window"
+    often = "the percentile" if share is None else f"at least {share} percent"
     return (
-        f"A travel time of 30 minutes says: for {often} of the departures{window}, one each minute, one is there within"
-        " 30 minutes of the departure, with all waiting, walking and changing in it (rounded up to whole minutes); "
-        "'not reached' says that fewer departures lead there at all."
+        f"A travel time of 30 minutes means: with {often} of the departures{window}, one each minute, you arrive within"
+        " 30 minutes of the departure, including all waiting, walking and changing (rounded up to whole minutes); "
+        "'not reached' means that too few departures arrive."
     )
 
 
