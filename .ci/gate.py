@@ -126,8 +126,8 @@ def prove(room: Path, on_line: Callable[[str], None]) -> Count:
 
 
 def scripts_beside(room: Path) -> list[list[str]]:
-    """What is looked at without a built program: the gate's own tests, the Python, the pages."""
-    every = [[".ci/gate_tests.py"], [".ci/tools_checks.py"], [".ci/names.py"], [".ci/same.py"]]
+    """What is looked at without a built program: the gate's own tests, the Python, the pages, the lemmas."""
+    every = [[".ci/gate_tests.py"], [".ci/tools_checks.py"], [".ci/names.py"], [".ci/same.py"], [".ci/lemmas.py"]]
     return [it for it in every if (room / it[0]).is_file()]
 
 
@@ -146,7 +146,7 @@ def quick(root: Path) -> Count:
         return counted(status, lines, CLOSING_OF_TESTS) if tests else Count(status == 0, status != 0)
 
     crates = [it for it in reversed(repository.crates_of(root)) if has_tests(root, it)]
-    scripts = [".ci/tools_checks.py --no-browser", ".ci/names.py", ".ci/same.py"]
+    scripts = [".ci/tools_checks.py --no-browser", ".ci/names.py", ".ci/same.py", ".ci/lemmas.py"]
     with ThreadPoolExecutor(jobs()) as pool:
         return sum(pool.map(run_quick, ["ttm", *crates, *scripts]), Count())
 

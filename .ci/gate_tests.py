@@ -25,6 +25,7 @@ OWN = Path(__file__).resolve().parent
 sys.path.insert(0, str(OWN))
 import edits  # noqa: E402
 import gate  # noqa: E402
+import lemmas  # noqa: E402
 import names  # noqa: E402
 import repository  # noqa: E402
 
@@ -606,6 +607,89 @@ class Prover(unittest.TestCase):
 
         with mock.patch.object(edits.Trial, "together", together):
             yield checks
+
+
+BASE_FACTS = """-- Facts of numbers.
+use Rattle.std.proofs.Common.{◌≡◌, ◌+◌, ◌≤◌, ℕ, arith}
+
+pub cited : (n : ℕ) → n ≤ n + 1
+cited n = omega arith
+
+-- alone and forgotten; not cited by this comment
+pub alone : (n : ℕ) → n ≤ n + 2
+alone n = omega arith
+
+module _ (m : ℕ) where
+  twice :
+      (n : ℕ) →
+      n + m ≤ n + m + m
+  twice n = omega arith
+
+  pub again : (n : ℕ) → n ≤ n + m
+  again n = let e = twice n in omega arith
+"""
+UPPER_FACTS = """use Rattle.std.proofs.Common.{◌≡◌, ◌+◌, ◌≤◌, ℕ, arith}
+use Rattle.base.proofs.Facts.{again, cited as known}
+use Rattle.base.proofs.Facts as facts
+
+pub once_more :
+    (n : ℕ) →
+    n + m ≤ n + m + m
+once_more n = omega arith
+
+pub helped : (n : ℕ) → n ≤ n + 1
+helped n = let e = facts.cited n in let f = again n n in known n
+"""
+ANSWERS = """use Rattle.upper.proofs.Facts.{helped}
+use Rattle.upper.proofs.double.Goals as goal
+
+unused : ℕ → ℕ
+unused n = n
+
+pub returns : goal.returns
+returns c = helped c.count
+"""
+
+
+class Lemmas(unittest.TestCase):
+    """What `.ci/lemmas.py` finds in proofs: lemmas that nothing cites, and those that are proved twice."""
+
+    def found(self, **changed: str) -> list[str]:
+        """What it finds in the proofs of two crates, of which some are changed."""
+        texts = {
+            "base/proofs/Facts.antt": BASE_FACTS,
+            "upper/proofs/Facts.antt": UPPER_FACTS,
+            "upper/proofs/double/Answers.antt": ANSWERS,
+            "upper/src/lib.rt": changed.get("code", ""),
+        }
+        with tempfile.TemporaryDirectory(prefix="ttm-lemmas-test-") as made:
+            for name, text in texts.items():
+                path = Path(made) / "crates" / name
+                path.parent.mkdir(parents=True, exist_ok=True)
+                path.write_text(text.replace(changed["old"], changed["new"]) if "old" in changed else text)
+            return [what for what, holds in lemmas.judged(Path(made)) if not holds]
+
+    FACTS = "crates/base/proofs/Facts.antt"
+    MORE = "crates/upper/proofs/Facts.antt"
+    ALONE = f"{FACTS}:8: alone is cited by nothing"
+    UNUSED = "crates/upper/proofs/double/Answers.antt:4: unused is cited by nothing"
+    ONCE_MORE = f"{MORE}:5: once_more is cited by nothing"
+    DOUBLED = f"{MORE}:5: once_more stands at {FACTS}:12: twice, too"
+
+    def test_what_nothing_cites_and_what_stands_twice_is_found(self) -> None:
+        self.assertEqual(self.found(), [self.ALONE, self.ONCE_MORE, self.UNUSED, self.DOUBLED])
+
+    def test_an_import_alone_is_no_citation(self) -> None:
+        found = self.found(old="let e = facts.cited n in let f = again n n in known n", new="again n n")
+        self.assertIn(f"{self.FACTS}:4: cited is cited by nothing", found)
+
+    def test_a_function_cites_what_it_names_for_its_proof(self) -> None:
+        found = self.found(code="#[tactic(auto, using(crate::proofs::Facts::once_more))]\nfn double() {}\n")
+        self.assertEqual(found, [self.ALONE, self.UNUSED, self.DOUBLED])
+
+    def test_a_statement_that_differs_stands_once(self) -> None:
+        found = self.found(old="(n : ℕ) →\n    n + m", new="(k : ℕ) →\n    k + m")
+        self.assertNotIn(self.DOUBLED, found)
 
 
 if __name__ == "__main__":
