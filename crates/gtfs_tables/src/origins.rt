@@ -40,10 +40,10 @@ pub fn read_origins(
     feed: &Feed,
 ) -> Result<Vec<StopNo>, FeedFault>
     requires { IsWithinLimit (bytes_of file) }
-    ensures good { IfOk result (λ v. (spec.origins_faults (bytes_of file) feed.now ≡ [])
-        × (v.items ≡ spec.origins_of (bytes_of file) feed.now)) }
+    ensures good { IfOk result (λ v. (spec.origins_faults (bytes_of file.entry) feed.now ≡ [])
+        × (v.items ≡ spec.origins_of (bytes_of file.entry) feed.now)) }
     ensures stops { IfOk result (λ v. All (λ s. s.0 < length feed.now.stops) v.items) }
-    ensures fault { IfErr result (λ e. Tells e (spec.origins_faults (bytes_of file) feed.now)) }
+    ensures fault { IfErr result (λ e. Tells e (spec.origins_faults (bytes_of file.entry) feed.now)) }
 {
     read_stops(alloc, FileName::Origins, file, feed)
 }
@@ -58,10 +58,10 @@ pub fn read_destinations(
     feed: &Feed,
 ) -> Result<Vec<StopNo>, FeedFault>
     requires { IsWithinLimit (bytes_of file) }
-    ensures good { IfOk result (λ v. (spec.destinations_faults (bytes_of file) feed.now ≡ [])
-        × (v.items ≡ spec.destinations_of (bytes_of file) feed.now)) }
+    ensures good { IfOk result (λ v. (spec.destinations_faults (bytes_of file.entry) feed.now ≡ [])
+        × (v.items ≡ spec.destinations_of (bytes_of file.entry) feed.now)) }
     ensures stops { IfOk result (λ v. All (λ s. s.0 < length feed.now.stops) v.items) }
-    ensures fault { IfErr result (λ e. Tells e (spec.destinations_faults (bytes_of file) feed.now)) }
+    ensures fault { IfErr result (λ e. Tells e (spec.destinations_faults (bytes_of file.entry) feed.now)) }
 {
     read_stops(alloc, FileName::Destinations, file, feed)
 }
