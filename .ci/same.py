@@ -19,7 +19,16 @@ sys.path.insert(0, str(Path(__file__).resolve().parent.parent / "bench"))
 from small import FEED  # noqa: E402
 
 ROOT = Path(__file__).resolve().parent.parent
-OF_TESTS = ["board_trials", "edge_tests", "growth_trials", "matrix_tests", "measure", "network_tests", "table_tests"]
+OF_TESTS = [
+    "board_trials",
+    "edge_tests",
+    "growth_trials",
+    "matrix_tests",
+    "measure",
+    "network_tests",
+    "surface_tests",
+    "table_tests",
+]
 BYTES = re.compile(r'b"((?:[^"\\]|\\.)*)"', re.DOTALL)
 LIMIT = re.compile(r"(?m)^(?:pub )?const (MOST_\w+|LANES): \w+ = ([\d_]+);")
 

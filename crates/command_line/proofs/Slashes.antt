@@ -1,5 +1,5 @@
 -- The part of a path after its last slash, as a walk along the path finds it.
-use Rattle.std.proofs.Common.{◌≡◌, ◌∙◌, ◌==◌, ℕ, Bool, true, false, List, [], ◌∷◌, refl, ap, if◌then◌else◌}
+use Rattle.std.proofs.Common.{◌≡◌, ◌==◌, ℕ, Bool, true, false, List, [], ◌∷◌, refl, if◌then◌else◌}
 use Rattle.std.specs.List.{list_any}
 use Rattle.command_line.specs.Paths.{after_slash}
 
@@ -18,15 +18,3 @@ found_whole (b ∷ bs) = go (has_slash (b ∷ bs)) refl
     go : (t : Bool) → has_slash (b ∷ bs) ≡ t → after_slash (b ∷ bs) ≡ found (b ∷ bs) (b ∷ bs)
     go true e = rw e refl
     go false e = rw e refl
-
--- a slash begins a name
-pub found_slash : (name : List ℕ) (b : ℕ) (bs : List ℕ) → b ≡ 47 → found name (b ∷ bs) ≡ found bs bs
-found_slash name b bs is = ap (λ x. found name (x ∷ bs)) is ∙ found_whole bs
-
--- any other byte changes nothing
-pub found_other : (name : List ℕ) (b : ℕ) (bs : List ℕ) → (b == 47) ≡ false → found name (b ∷ bs) ≡ found name bs
-found_other name b bs other = go (has_slash bs) refl
-  where
-    go : (t : Bool) → has_slash bs ≡ t → found name (b ∷ bs) ≡ found name bs
-    go true e = rw (other, e) refl
-    go false e = rw (other, e) refl

@@ -78,9 +78,6 @@ not_taken a b words is refused = false_from_ne_true _ (λ e. refused (ap (λ (x 
 pub same_settings : (a b : List Row) (s : Settings) → a ≡ b → IsAsked a s → IsAsked b s
 same_settings a b s is h = subst (λ rows. IsAsked rows s) is h
 
-pub same_paths : (a b : List Row) (t : Task) → a ≡ b → NamesFiles a t → NamesFiles b t
-same_paths a b t is h = subst (λ rows. NamesFiles rows t) is h
-
 pub same_report : (a b : List Row) (t : Task) → a ≡ b → t.report ≡ is_reported a → t.report ≡ is_reported b
 same_report a b t is h = h ∙ ap is_reported is
 

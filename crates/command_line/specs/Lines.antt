@@ -63,6 +63,7 @@ file_text file.Transfers = codes "transfers.txt"
 file_text file.Footpaths = codes "footpaths.csv"
 file_text file.Origins = codes "origins"
 file_text file.Opportunities = codes "opportunities"
+file_text file.Destinations = codes "destinations"
 
 abbrev pub what_text : What → List ℕ
 what_text what.MissingFile = codes "missing file"
@@ -85,11 +86,6 @@ abbrev pub feed_text : FileName → ℕ → What → List ℕ
 feed_text f at what.MissingFile = file_text f ++ codes ": " ++ what_text what.MissingFile
 feed_text f at what.Memory = no_memory
 feed_text f at w = at_record (file_text f) at (what_text w)
-
--- the file of destinations is told by its own name, whichever file the fault names
-abbrev pub destinations_text : ℕ → What → List ℕ
-destinations_text at what.Memory = no_memory
-destinations_text at w = at_record (codes "destinations") at (what_text w)
 
 -- ---- a fault of a scenario
 
@@ -137,7 +133,6 @@ abbrev pub rest_of : StudyFault → List (List ℕ) → List ℕ
 rest_of fault.Scenarios names = codes "too many scenarios"
 rest_of (fault.Name k) names = codes "scenario name: " ++ file_name names k
 rest_of (fault.Feed f) names = feed_text f.file f.at f.what
-rest_of (fault.Destinations f) names = destinations_text f.at f.what
 rest_of (fault.Scenario k f) names = scenario_text (file_name names k) f.at f.what
 rest_of (fault.Days f) names = day_words f
 rest_of (fault.Feet f) names = foot_words f
@@ -202,7 +197,6 @@ abbrev pub status_of : StudyFault → ℕ
 status_of fault.Scenarios = REFUSED
 status_of (fault.Name k) = REFUSED
 status_of (fault.Feed f) = feed_status f.what
-status_of (fault.Destinations f) = feed_status f.what
 status_of (fault.Scenario k f) = edit_status f.what
 status_of (fault.Days f) = day_status f
 status_of (fault.Feet f) = foot_status f

@@ -44,7 +44,6 @@ pub fn status(fault: &StudyFault) -> u8
     match fault {
         StudyFault::Scenarios | StudyFault::Name(_) => REFUSED,
         StudyFault::Feed(fault) => feed_status(fault.what),
-        StudyFault::Destinations(fault) => feed_status(fault.what),
         StudyFault::Scenario(_, fault) => edit_status(fault.what),
         StudyFault::Days(DayFault::Memory) => NO_ROOM,
         StudyFault::Days(_) => REFUSED,
@@ -137,7 +136,6 @@ fn rest(alloc: Global, fault: &StudyFault, files: &[NamedFile]) -> Result<Vec<u8
         StudyFault::Scenarios => Vec::from_slice(alloc, b"too many scenarios"),
         StudyFault::Name(k) => two(alloc, b"scenario name: ", file_name(files, k)),
         StudyFault::Feed(fault) => feed_text(alloc, fault),
-        StudyFault::Destinations(fault) => destinations_text(alloc, fault),
         StudyFault::Scenario(k, fault) => scenario_text(alloc, file_name(files, k), fault),
         StudyFault::Days(fault) => Vec::from_slice(alloc, fault.words().as_bytes()),
         StudyFault::Feet(fault) => Vec::from_slice(alloc, fault.words().as_bytes()),
@@ -192,16 +190,6 @@ fn feed_text(alloc: Global, fault: FeedFault) -> Result<Vec<u8>, AllocError>
     }
 }
 
-/// What is wrong with the file of destinations.
-fn destinations_text(alloc: Global, fault: FeedFault) -> Result<Vec<u8>, AllocError>
-    ensures { IfOk result (λ text. text.items ≡ spec.destinations_text fault.at fault.what) }
-{
-    match fault.what {
-        What::Memory => Vec::from_slice(alloc, OUT_OF_MEMORY),
-        what => at_record(alloc, b"destinations", fault.at, what_text(what)),
-    }
-}
-
 /// The name of a file.
 fn file_text(file: FileName) -> &'static [u8]
     ensures { result.now ≡ spec.file_text file }
@@ -218,6 +206,7 @@ fn file_text(file: FileName) -> &'static [u8]
         FileName::Footpaths => b"footpaths.csv",
         FileName::Origins => b"origins",
         FileName::Opportunities => b"opportunities",
+        FileName::Destinations => b"destinations",
     }
 }
 

@@ -169,14 +169,14 @@ fn tells_each_file_of_an_analyst(rt: HostRuntime) {
 fn tells_the_file_of_destinations(rt: HostRuntime) {
     let alloc = rt.alloc();
     let fault = FeedFault {
-        file: FileName::Origins,
+        file: FileName::Destinations,
         at: 9,
         what: What::BadDate,
     };
     expect_words(
         &rt,
         alloc,
-        StudyFault::Destinations(fault),
+        StudyFault::Feed(fault),
         b"ttm: ",
         b"destinations: record 9: bad date\n",
     );
@@ -187,7 +187,7 @@ fn tells_the_file_of_destinations(rt: HostRuntime) {
     expect_line(
         &rt,
         alloc,
-        StudyFault::Destinations(short),
+        StudyFault::Feed(short),
         b"ttm: out of memory\n",
         3,
     );

@@ -1,6 +1,6 @@
 -- The direct footpaths of a feed: those of the walks in transfers.txt, and then those of a file of footpaths, row by
 -- row.
--- Each end of a walk is a stop, or a station that stands for all its stops, or another location that stands for none.
+-- Each end of a walk is a stop, or a station that stands for all its stops, or another place that stands for none.
 -- (After the GTFS Schedule reference, transfers.txt: from_stop_id and to_stop_id may name stations.)
 use Rattle.std.specs.Prelude.{◌++◌, ℕ, Bool, List, [], ◌∷◌, Option, codes, is_none, length, nat_lt, position, unwrap_or}
 use Rattle.std.specs.Prelude.{if◌then◌else◌}
@@ -80,8 +80,8 @@ walk_rows bytes = table_rows row_of (records_of bytes)
 -- the walk that a record states
 abbrev pub walk_of : FeedData → WalkRow → Walk
 walk_of feed r = record {
-  origin = end_of feed.names feed.locations r.from;
-  target = end_of feed.names feed.locations r.to;
+  origin = end_of feed.names feed.places r.from;
+  target = end_of feed.names feed.places r.to;
   seconds = unwrap_or (number_of r.seconds) 0;
 }
 

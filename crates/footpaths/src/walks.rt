@@ -4,7 +4,7 @@ ghost use Rattle.std.specs.Prelude.{◌≡◌, ◌≤◌, [], length, map, OnOk,
 ghost use Rattle.csv.specs.Records.{fields_of};
 ghost use Rattle.gtfs_tables.specs.Feed.{FeedData};
 ghost use Rattle.gtfs_tables.specs.Files.{IsWithinLimit, bytes_of};
-ghost use Rattle.table_files.specs.Children.{IsLocation};
+ghost use Rattle.table_files.specs.Children.{IsPlace};
 ghost use Rattle.table_records.specs.Checks.{Explains};
 ghost use Rattle.table_records.specs.Faults.{Tells};
 ghost use Rattle.table_records.specs.declared.limits.TheConstants.{MOST_BYTES};
@@ -15,18 +15,18 @@ use crate::changes::change_times;
 use crate::direct_list::Direct;
 use crate::pairs::add_pairs;
 use csv::ByteRecord;
-use gtfs_tables::{Feed, Location};
+use gtfs_tables::{Feed, Place};
 use std::alloc::Global;
 use table_records::{
     Check, Checks, FeedFault, FileName, RecordReader, Rule, What, column, field, number,
     open_table, read_records, trim,
 };
 
-/// A walk from one location to another. A station stands for all its stops.
+/// A walk from one place to another. A station stands for all its stops.
 #[derive(Clone, Copy)]
 pub(crate) struct Walk {
-    pub origin: Location,
-    pub target: Location,
+    pub origin: Place,
+    pub target: Place,
     /// How long the walk takes.
     pub seconds: u32,
 }
@@ -36,8 +36,8 @@ const CHECKS: Checks = Checks {
     fields: &[
         Check(b"from_stop_id", Rule::Filled, What::EmptyId),
         Check(b"to_stop_id", Rule::Filled, What::EmptyId),
-        Check(b"from_stop_id", Rule::Location, What::UnknownStop),
-        Check(b"to_stop_id", Rule::Location, What::UnknownStop),
+        Check(b"from_stop_id", Rule::Place, What::UnknownStop),
+        Check(b"to_stop_id", Rule::Place, What::UnknownStop),
         Check(b"seconds", Rule::Number, What::BadNumber),
     ],
 };
@@ -58,7 +58,7 @@ pub(crate) struct WalkColumns {
     pub seconds: Option<usize>,
 }
 
-/// A reader of the file of footpaths, whose records name the feed's locations.
+/// A reader of the file of footpaths, whose records name the feed's places.
 #[derive(Drop)]
 pub(crate) struct WalkReader<'a> {
     pub columns: WalkColumns,
@@ -185,9 +185,9 @@ impl<'a> WalkReader<'a> {
         ensures good { IfOk result (λ walk. (row_checks self.now.feed.now.names
             (row_at self.now.columns (fields_of row.now)) ≡ [])
             × (walk ≡ walk_of self.now.feed.now (row_at self.now.columns (fields_of row.now)))) }
-        ensures origin { IfOk result (λ walk. IsLocation (length self.now.feed.now.stops)
+        ensures origin { IfOk result (λ walk. IsPlace (length self.now.feed.now.stops)
             (length self.now.feed.now.children) walk.origin) }
-        ensures target { IfOk result (λ walk. IsLocation (length self.now.feed.now.stops)
+        ensures target { IfOk result (λ walk. IsPlace (length self.now.feed.now.stops)
             (length self.now.feed.now.children) walk.target) }
         ensures fault { IfErr result (λ w. IsFirst w
             (row_checks self.now.feed.now.names (row_at self.now.columns (fields_of row.now)))) }
@@ -197,10 +197,10 @@ impl<'a> WalkReader<'a> {
         if from.is_empty() || to.is_empty() {
             return Err(What::EmptyId);
         }
-        let Some(origin) = self.feed.location(from) else {
+        let Some(origin) = self.feed.place(from) else {
             return Err(What::UnknownStop);
         };
-        let Some(target) = self.feed.location(to) else {
+        let Some(target) = self.feed.place(to) else {
             return Err(What::UnknownStop);
         };
         let Some(seconds) = number(trim(field(row, self.columns.seconds))) else {
@@ -217,8 +217,8 @@ impl<'a> WalkReader<'a> {
 /// Adds the footpaths of a walk: the pairs of different stops of its two ends.
 fn add_walk(direct: &mut Direct, feed: &Feed, walk: Walk) -> Result<(), What>
     requires stops { direct.old.stops ≡ length feed.now.stops }
-    requires origin { IsLocation (length feed.now.stops) (length feed.now.children) walk.origin }
-    requires target { IsLocation (length feed.now.stops) (length feed.now.children) walk.target }
+    requires origin { IsPlace (length feed.now.stops) (length feed.now.children) walk.origin }
+    requires target { IsPlace (length feed.now.stops) (length feed.now.children) walk.target }
     ensures good { OnOk result (direct.new ≡ with_more direct.old (spec.pairs_of_walk feed.now.children walk)) }
     ensures fault { IfErr result (IsRefusal direct.old (spec.pairs_of_walk feed.now.children walk)) }
 {

@@ -120,7 +120,6 @@ fn is_memory(fault: StudyFault) -> bool {
     match fault {
         StudyFault::Memory => true,
         StudyFault::Feed(fault) => fault.what == What::Memory,
-        StudyFault::Destinations(fault) => fault.what == What::Memory,
         StudyFault::Scenario(_, fault) => fault.what == ScenarioWhat::Memory,
         StudyFault::Days(fault) => fault == DayFault::Memory,
         StudyFault::Feet(fault) => fault == FootFault::Memory,

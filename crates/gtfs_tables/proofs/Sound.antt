@@ -14,8 +14,8 @@ use Rattle.table_files.specs.Calendar as calendar
 use Rattle.table_files.specs.CalendarDates as dates
 use Rattle.table_files.specs.FeedTrips as trips
 use Rattle.table_files.specs.Frequencies.{departures_at, frequency_faults, frequency_rows}
-use Rattle.table_files.specs.Children.{IsLocation}
-use Rattle.table_files.specs.Locations.{AreLocations, LocationData}
+use Rattle.table_files.specs.Children.{IsPlace}
+use Rattle.table_files.specs.Places.{ArePlaces, PlaceData}
 use Rattle.table_files.specs.Routes.{route_faults, route_ids}
 use Rattle.table_records.specs.Identifiers.{number_in}
 use Rattle.table_files.specs.Services.{named}
@@ -155,12 +155,12 @@ module _ (f : FeedFiles) where
   -- the feed that the files state, where they have no fault
   pub is_feed : files.faults_of_routes f ≡ [] → files.faults_of_calendar f ≡ [] → files.faults_of_trips f ≡ [] →
       files.faults_of_frequencies f ≡ []
-      → AreLocations (files.locations_in f) → length (files.routes_in f) ≤ MOST_BYTES →
+      → ArePlaces (files.places_in f) → length (files.routes_in f) ≤ MOST_BYTES →
       length (files.services_in f) ≤ 2148483650
       → AreEvents (length (files.stops_in f)) (files.events_in f) → files.aside_in f ≤ length (files.trip_ids_in f)
-      → All (IsLink (length (files.stops_in f)) (length (files.locations_in f).children)) (files.links_in f) →
+      → All (IsLink (length (files.stops_in f)) (length (files.places_in f).children)) (files.links_in f) →
       IsFeed (files.feed_of f)
-  is_feed no_routes no_calendar no_trips no_frequencies locations routes services are aside links =
+  is_feed no_routes no_calendar no_trips no_frequencies places routes services are aside links =
       let ids : List (List ℕ) = files.trip_ids_in f in
       let numbers : List TripNumbers = files.numbers_in f in
       let events : List (List Event) = files.events_in f in
@@ -175,11 +175,11 @@ module _ (f : FeedFiles) where
       let any_events : All (λ (e : List Event). Unit {0}) events = λ k x lt. tt in
       let any_departures : All (λ (d : List Departures). Unit {0}) departures = λ k x lt. tt in
       record {
-        few_names = locations.few;
-        few_stops = omega (arith, locations.few, locations.stops_within);
+        few_names = places.few;
+        few_stops = omega (arith, places.few, places.stops_within);
         few_routes = routes;
         few_services = services;
-        distinct_stops = locations.distinct;
+        distinct_stops = places.distinct;
         distinct_routes = routes_apart no_routes;
         distinct_services = named_distinct (files.dated_services_in f) (map (λ (r : trips.TripRow). r.service) rows)
             (named_distinct (files.calendar_services_in f)
@@ -217,21 +217,21 @@ module _ (f : FeedFiles) where
             < length (files.services_in f)) (dates.data_of (files.services_in f))
             (rows_in dates.date_rows f.calendar_dates) services_dates;
         few_aside = omega (arith, count, aside);
-        as_many = locations.as_many;
-        locations = subst (λ (n : ℕ). All (IsLocation (length (files.stops_in f)) n) (files.locations_in f).locations)
-            (sym locations.lists) locations.in_range;
-        children = locations.children;
+        as_many = places.as_many;
+        places = subst (λ (n : ℕ). All (IsPlace (length (files.stops_in f)) n) (files.places_in f).places)
+            (sym places.lists) places.in_range;
+        children = places.children;
         links = links;
       }
 
   -- the catalog that was read file by file: the rows of both calendars keep the numbers of their services
-  pub is_catalog : (p : LocationData) (routes : List (List ℕ)) (c : Calendar) (d : CalendarDates) (t : FeedTrips)
-      → (p ≡ files.locations_in f) × AreLocations p → (routes ≡ files.routes_in f) × (length routes ≤ MOST_BYTES) →
+  pub is_catalog : (p : PlaceData) (routes : List (List ℕ)) (c : Calendar) (d : CalendarDates) (t : FeedTrips)
+      → (p ≡ files.places_in f) × ArePlaces p → (routes ≡ files.routes_in f) × (length routes ≤ MOST_BYTES) →
       calendar.IsCalendar c (rows_in calendar.service_rows f.calendar)
       → dates.AreExceptions c.services d (rows_in dates.date_rows f.calendar_dates) × (length d.services ≤ 2147483650)
       → trips.AreTrips routes d.services t (rows_in trips.trip_rows f.trips) × (files.faults_of_trips f ≡ [])
-      → IsCatalog (record { locations = p; routes = routes; calendar = c.rows; exceptions = d.rows; trips = t }) f
-  is_catalog p routes c d t (locations_are, sound) (routes_are, few_routes) weekly (
+      → IsCatalog (record { places = p; routes = routes; calendar = c.rows; exceptions = d.rows; trips = t }) f
+  is_catalog p routes c d t (places_are, sound) (routes_are, few_routes) weekly (
     are_exceptions,
     few_dated,
   ) (are_trips, no_trips) =
@@ -256,7 +256,7 @@ module _ (f : FeedFiles) where
       let dates_stay = values_stay of_date make_date (files.dated_services_in f) named_in_trips date_rows
       (all_named of_date (files.calendar_services_in f) date_rows) in
       record {
-        locations = locations_are;
+        places = places_are;
         routes = routes_are;
         calendar = weekly.values ∙ ap (λ (l : List (List ℕ)). map (calendar.data_of l) service_rows) weekly.services
             ∙ sym (rows_stay_too ∙ rows_stay);
@@ -265,7 +265,7 @@ module _ (f : FeedFiles) where
         services = all;
         trip_ids = are_trips.ids;
         numbers = are_trips.numbers ∙ (λ k. map (trips.numbers_of (routes_are k) (all k)) trip_rows);
-        sound_locations = sound;
+        sound_places = sound;
         few_routes = few_routes;
         few_services = let dated_few : length (files.dated_services_in f) ≤ 2147483650 =
             subst (λ (l : List (List ℕ)). length l ≤ 2147483650) dated few_dated in
@@ -297,10 +297,10 @@ module _ (f : FeedFiles) where
         -- what was read is what the files state
         pub data_is : data_of c all aside transfers ≡ files.feed_of f
         data_is = λ k. record {
-          names = (is.locations k).names;
-          locations = (is.locations k).locations;
-          stops = (is.locations k).stops;
-          children = (is.locations k).children;
+          names = (is.places k).names;
+          places = (is.places k).places;
+          stops = (is.places k).stops;
+          children = (is.places k).children;
           routes = is.routes k;
           services = is.services k;
           calendar = is.calendar k;
@@ -311,31 +311,31 @@ module _ (f : FeedFiles) where
           unused = are_unused k;
         }
 
-        sound_locations : AreLocations (files.locations_in f)
-        sound_locations = subst AreLocations is.locations is.sound_locations
+        sound_places : ArePlaces (files.places_in f)
+        sound_places = subst ArePlaces is.places is.sound_places
 
-        -- both ends of each walk are locations of the feed
-        sound_links : All (IsLink (length c.locations.stops) (length c.locations.stations)) transfers.links.items
-            → All (IsLink (length (files.stops_in f)) (length (files.locations_in f).children)) (files.links_in f)
+        -- both ends of each walk are places of the feed
+        sound_links : All (IsLink (length c.places.stops) (length c.places.stations)) transfers.links.items
+            → All (IsLink (length (files.stops_in f)) (length (files.places_in f).children)) (files.links_in f)
         sound_links in_range =
             let stops : ℕ = length (files.stops_in f) in
-            let here = subst (λ (p : LocationData). All (IsLink (length p.stops) (length p.stations))
-            transfers.links.items) is.locations in_range in
-            let stated = subst (All (IsLink stops (length (files.locations_in f).stations))) are_links here in
-            subst (λ (n : ℕ). All (IsLink stops n) (files.links_in f)) (sym sound_locations.lists) stated
+            let here = subst (λ (p : PlaceData). All (IsLink (length p.stops) (length p.stations))
+            transfers.links.items) is.places in_range in
+            let stated = subst (All (IsLink stops (length (files.places_in f).stations))) are_links here in
+            subst (λ (n : ℕ). All (IsLink stops n) (files.links_in f)) (sym sound_places.lists) stated
 
         pub feed_is_sound : files.catalog_faults f ≡ [] → files.faults_of_frequencies f ≡ [] →
-            AreEvents (length c.locations.stops) events → aside ≤ length c.trips.ids
-            → All (IsLink (length c.locations.stops) (length c.locations.stations)) transfers.links.items →
+            AreEvents (length c.places.stops) events → aside ≤ length c.trips.ids
+            → All (IsLink (length c.places.stops) (length c.places.stations)) transfers.links.items →
             IsFeed (data_of c all aside transfers)
         feed_is_sound none no_frequencies are few_aside in_range =
             let (no_routes, no_calendar, no_trips) =
             none_each (files.faults_of_stops f) (files.faults_of_routes f) (files.faults_of_calendar f)
             (files.faults_of_calendar_dates f) (files.faults_of_trips f) none in
-            subst IsFeed (sym data_is) (is_feed no_routes no_calendar no_trips no_frequencies sound_locations
+            subst IsFeed (sym data_is) (is_feed no_routes no_calendar no_trips no_frequencies sound_places
             (subst (λ (l : List (List ℕ)). length l ≤ MOST_BYTES) is.routes is.few_routes)
             (subst (λ (l : List (List ℕ)). length l ≤ 2148483650) is.services is.few_services)
             (subst (AreEvents (length (files.stops_in f))) are_events
-            (subst (λ (p : LocationData). AreEvents (length p.stops) events) is.locations are))
+            (subst (λ (p : PlaceData). AreEvents (length p.stops) events) is.places are))
             (let ids = ap length is.trip_ids in omega (arith, few_aside, are_aside, ids))
             (sound_links in_range))

@@ -7,9 +7,9 @@ use Rattle.timetable.specs.declared.limits.TheConstants.{MOST_EVENTS, MOST_STOPS
 use Rattle.timetable.specs.Trips.{EventsRise}
 use Rattle.timetable.specs.declared.trips.StopNo.{StopNo}
 use Rattle.table_records.specs.declared.limits.TheConstants.{MOST_BYTES}
-use Rattle.table_files.specs.Children.{AreChildren, IsLocation}
+use Rattle.table_files.specs.Children.{AreChildren, IsPlace}
 use Rattle.table_files.specs.Transfers.{IsLink}
-use Rattle.table_files.specs.declared.location.Location.{Location}
+use Rattle.table_files.specs.declared.place.Place.{Place}
 use Rattle.table_files.specs.declared.transfers.Link.{Link}
 use Rattle.table_files.specs.Calendar as calendar
 use Rattle.table_files.specs.CalendarDates as calendar_dates
@@ -21,12 +21,12 @@ pub use Rattle.table_files.specs.Calendar.{CalendarData}
 pub use Rattle.table_files.specs.CalendarDates.{ExceptionData}
 pub use Rattle.table_files.specs.Days.{day_number}
 
--- the identifiers of all locations, and what each of them is; the identifiers of the stops, each at its number, and the
+-- the identifiers of all places, and what each of them is; the identifiers of the stops, each at its number, and the
 -- stops of each station; the identifiers of the routes and services; the rows of both calendars; the trips, and how
 -- many of them were set aside; the walks and change times that transfers.txt gives, and how many of its rows give none
 pub record FeedData : Type 0 where
   pub names : List (List ℕ)
-  pub locations : List Location
+  pub places : List Place
   pub stops : List (List ℕ)
   pub children : List (List StopNo)
   pub routes : List (List ℕ)
@@ -67,8 +67,8 @@ pub record IsFeed (d : FeedData) : Type 0 where
   pub calendar_services : All (λ r. r.service < length d.services) d.calendar
   pub exception_services : All (λ r. r.service < length d.services) d.exceptions
   pub few_aside : d.aside ≤ length d.trips
-  pub as_many : length d.locations ≡ length d.names
-  pub locations : All (IsLocation (length d.stops) (length d.children)) d.locations
+  pub as_many : length d.places ≡ length d.names
+  pub places : All (IsPlace (length d.stops) (length d.children)) d.places
   pub children : AreChildren (length d.stops) d.children
   pub links : All (IsLink (length d.stops) (length d.children)) d.links
 

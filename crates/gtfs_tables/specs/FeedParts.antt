@@ -8,10 +8,10 @@ use Rattle.gtfs_tables.specs.declared.trip.FeedTrip.{FeedTrip}
 -- what a catalog, its trips, of which so many were set aside, and the walks of transfers.txt say
 abbrev pub data_of : Catalog → List FeedTrip → ℕ → Transfers → FeedData
 data_of c trips aside transfers = record {
-  names = c.locations.names;
-  locations = c.locations.locations;
-  stops = c.locations.stops;
-  children = c.locations.children;
+  names = c.places.names;
+  places = c.places.places;
+  stops = c.places.stops;
+  children = c.places.children;
   routes = c.routes;
   services = c.trips.services;
   calendar = map calendar_data c.calendar.items;

@@ -11,7 +11,7 @@ use Rattle.table_records.specs.declared.fault.FileName.{FileName}
 use Rattle.table_records.specs.declared.fault.FileName.TheVariants as file
 use Rattle.table_records.specs.declared.fault.What.TheVariants.{MissingFile}
 use Rattle.table_records.specs.declared.limits.TheConstants.{MOST_BYTES}
-use Rattle.table_files.specs.Locations as locations
+use Rattle.table_files.specs.Places as places
 use Rattle.table_files.specs.Transfers as transfers
 use Rattle.table_files.specs.Routes.{route_faults, route_ids}
 use Rattle.table_files.specs.Calendar as calendar
@@ -88,16 +88,16 @@ abbrev pub rows_in : {R : Type 0} → (Bytes → List R) → Option Bytes → Li
 rows_in rows None = []
 rows_in rows (Some bytes) = rows bytes
 
--- the locations of stops.txt: the stops, the stations and the others
-abbrev pub locations_in : FeedFiles → locations.LocationData
-locations_in files = locations.locations_in (rows_in locations.location_records files.stops)
+-- the places of stops.txt: the stops, the stations and the others
+abbrev pub places_in : FeedFiles → places.PlaceData
+places_in files = places.places_in (rows_in places.place_records files.stops)
 
--- the identifiers of all locations, of the stops, of the routes and of the trips, each in file order
+-- the identifiers of all places, of the stops, of the routes and of the trips, each in file order
 abbrev pub names_in : FeedFiles → List (List ℕ)
-names_in files = locations.names_of (rows_in locations.location_records files.stops)
+names_in files = places.names_of (rows_in places.place_records files.stops)
 
 abbrev pub stops_in : FeedFiles → List (List ℕ)
-stops_in files = locations.stops_of (rows_in locations.location_records files.stops)
+stops_in files = places.stops_of (rows_in places.place_records files.stops)
 
 abbrev pub routes_in : FeedFiles → List (List ℕ)
 routes_in files = rows_in route_ids files.routes
@@ -144,15 +144,15 @@ departures_in files = departures_by_trip (trip_ids_in files) (rows_in frequency_
 
 -- the walks that transfers.txt gives
 abbrev pub links_in : FeedFiles → List Link
-links_in files = transfers.links_of (locations_in files) (rows_in transfers.transfer_rows files.transfers)
+links_in files = transfers.links_of (places_in files) (rows_in transfers.transfer_rows files.transfers)
 
 -- how many of its rows give none
 abbrev pub unused_in : FeedFiles → ℕ
-unused_in files = transfers.unused_of (locations_in files) (rows_in transfers.transfer_rows files.transfers)
+unused_in files = transfers.unused_of (places_in files) (rows_in transfers.transfer_rows files.transfers)
 
 -- the faults of each file
 abbrev pub faults_of_stops : FeedFiles → List FeedFault
-faults_of_stops files = required file.Stops locations.stop_faults files.stops
+faults_of_stops files = required file.Stops places.stop_faults files.stops
 
 abbrev pub faults_of_routes : FeedFiles → List FeedFault
 faults_of_routes files = required file.Routes route_faults files.routes
@@ -205,9 +205,9 @@ trips_of _ _ _ _ = []
 abbrev pub feed_of : FeedFiles → FeedData
 feed_of files = record {
   names = names_in files;
-  locations = (locations_in files).locations;
+  places = (places_in files).places;
   stops = stops_in files;
-  children = (locations_in files).children;
+  children = (places_in files).children;
   routes = routes_in files;
   services = services_in files;
   calendar = calendar_in files;

@@ -6,22 +6,22 @@ ghost use Rattle.table_records.specs.declared.limits.TheConstants.{MOST_BYTES};
 ghost use Rattle.table_files.specs.Calendar.{IsCalendar, service_rows};
 ghost use Rattle.table_files.specs.CalendarDates.{AreExceptions, date_rows};
 ghost use Rattle.table_files.specs.FeedTrips.{AreTrips, trip_rows};
-ghost use Rattle.table_files.specs.Locations.{AreLocations};
+ghost use Rattle.table_files.specs.Places.{ArePlaces};
 ghost use Rattle.gtfs_tables.specs.Files as spec;
 ghost use Rattle.gtfs_tables.specs.Catalog.{IsCatalog};
 
 use crate::feed_bytes::{FeedBytes, missing};
 use std::alloc::Global;
 use table_files::{
-    Calendar, CalendarDates, CalendarRow, ExceptionRow, FeedTrips, Locations, read_calendar,
-    read_calendar_dates, read_feed_trips, read_locations, read_routes,
+    Calendar, CalendarDates, CalendarRow, ExceptionRow, FeedTrips, Places, read_calendar,
+    read_calendar_dates, read_feed_trips, read_places, read_routes,
 };
 use table_records::{FeedFault, FileName, Identifiers};
 
-/// The locations, routes, services and trips of a feed, by number, and the rows of its calendars.
+/// The places, routes, services and trips of a feed, by number, and the rows of its calendars.
 #[derive(Drop)]
 pub struct Catalog {
-    pub locations: Locations,
+    pub places: Places,
     pub routes: Identifiers,
     pub calendar: Vec<CalendarRow>,
     pub exceptions: Vec<ExceptionRow>,
@@ -36,7 +36,7 @@ pub fn read_catalog(alloc: Global, files: &FeedBytes<'_>) -> Result<Box<Catalog>
         × IsCatalog c.value (spec.files_of files.now)) }
     ensures fault { IfErr result (λ e. Tells e (spec.catalog_faults (spec.files_of files.now))) }
 {
-    let locations = locations_of(alloc, files)?;
+    let places = places_of(alloc, files)?;
     let routes = routes_of(alloc, files)?;
     let Calendar {
         services: weekly,
@@ -50,7 +50,7 @@ pub fn read_catalog(alloc: Global, files: &FeedBytes<'_>) -> Result<Box<Catalog>
     Ok(Box::new(
         alloc,
         Catalog {
-            locations: Box::into_inner(locations),
+            places: Box::into_inner(places),
             routes,
             calendar,
             exceptions,
@@ -59,20 +59,20 @@ pub fn read_catalog(alloc: Global, files: &FeedBytes<'_>) -> Result<Box<Catalog>
     )?)
 }
 
-// The locations of `stops.txt`, in a box.
-fn locations_of(alloc: Global, files: &FeedBytes<'_>) -> Result<Box<Locations>, FeedFault>
+// The places of `stops.txt`, in a box.
+fn places_of(alloc: Global, files: &FeedBytes<'_>) -> Result<Box<Places>, FeedFault>
     requires { spec.IsWithinLimit (spec.bytes_of files.now.stops) }
     ensures good { IfOk result (λ p. (spec.faults_of_stops (spec.files_of files.now) ≡ [])
-        × (p.value ≡ spec.locations_in (spec.files_of files.now))) }
-    ensures sound { IfOk result (λ p. AreLocations p.value) }
+        × (p.value ≡ spec.places_in (spec.files_of files.now))) }
+    ensures sound { IfOk result (λ p. ArePlaces p.value) }
     ensures fault { IfErr result (λ e. Tells e (spec.faults_of_stops (spec.files_of files.now))) }
 {
     let Some(bytes) = files.stops else {
         return Err(missing(FileName::Stops));
     };
-    let locations = read_locations(alloc, bytes)?;
-    locations.known();
-    Ok(Box::new(alloc, locations)?)
+    let places = read_places(alloc, bytes)?;
+    places.known();
+    Ok(Box::new(alloc, places)?)
 }
 
 // The identifiers of the routes.

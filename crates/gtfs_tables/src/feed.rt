@@ -4,14 +4,14 @@ ghost use Rattle.std.specs.Prelude.{◌≡◌, ◌<◌, Some, is_none, length, m
 ghost use Rattle.std.specs.Str.{bytes_eq};
 ghost use Rattle.table_files.specs.Children as children_spec;
 ghost use Rattle.table_files.specs.Ends as ends_spec;
-ghost use Rattle.table_files.specs.Locations.{location_named};
+ghost use Rattle.table_files.specs.Places.{place_named};
 ghost use Rattle.gtfs_tables.specs.Feed.{IsFeed, calendar_data, exception_data};
 ghost use Rattle.gtfs_tables.specs.FeedParts.{data_of};
 
 use crate::catalog::Catalog;
 use crate::trip::FeedTrip;
 use std::marker::Model;
-use table_files::{CalendarRow, Ends, ExceptionRow, Link, Location, Locations, Transfers};
+use table_files::{CalendarRow, Ends, ExceptionRow, Link, Place, Places, Transfers};
 use table_records::Identifiers;
 use timetable::StopNo;
 
@@ -19,7 +19,7 @@ use timetable::StopNo;
 /// that of `trips.txt`, and services as `calendar.txt`, `calendar_dates.txt` and `trips.txt` first name them.
 #[derive(Drop)]
 pub struct Feed {
-    locations: Locations,
+    places: Places,
     routes: Identifiers,
     services: Identifiers,
     calendar: Vec<CalendarRow>,
@@ -37,10 +37,10 @@ impl Model for Feed {
     ghost Value = { FeedData };
 
     ghost view = { λ f. record {
-      names = f.locations.names;
-      locations = f.locations.locations;
-      stops = f.locations.stops;
-      children = f.locations.children;
+      names = f.places.names;
+      places = f.places.places;
+      stops = f.places.stops;
+      children = f.places.children;
       routes = f.routes;
       services = f.services;
       calendar = map calendar_data f.calendar.items;
@@ -52,10 +52,10 @@ impl Model for Feed {
     } };
 
     ghost invariant = { λ f. IsFeed (record {
-      names = f.locations.names;
-      locations = f.locations.locations;
-      stops = f.locations.stops;
-      children = f.locations.children;
+      names = f.places.names;
+      places = f.places.places;
+      stops = f.places.stops;
+      children = f.places.children;
       routes = f.routes;
       services = f.services;
       calendar = map calendar_data f.calendar.items;
@@ -80,14 +80,14 @@ impl Feed {
         ensures { result ≡ data_of catalog trips.items aside transfers }
     {
         let Catalog {
-            locations,
+            places,
             routes,
             calendar,
             exceptions,
             trips: listed,
         } = catalog;
         Feed {
-            locations,
+            places,
             routes,
             services: listed.services,
             calendar,
@@ -111,7 +111,7 @@ impl Feed {
     pub fn stop_count(&self) -> u32
         ensures { result ≡ length self.now.stops }
     {
-        self.locations.stops().len() as u32
+        self.places.stops().len() as u32
     }
 
     /// The identifier of a stop. [`Feed::stop_no`] leads back from it to the stop.
@@ -120,7 +120,7 @@ impl Feed {
         ensures id { slice_get self.now.stops stop.0 ≡ Some result.now }
         ensures leads_back { position (bytes_eq result.now) self.now.stops ≡ Some stop.0 }
     {
-        match self.locations.stops().id(stop.0 as usize) {
+        match self.places.stops().id(stop.0 as usize) {
             Some(id) => id,
             None => unreachable!(),
         }
@@ -131,7 +131,7 @@ impl Feed {
         ensures number { option_map (λ s. s.0) result ≡ position (bytes_eq id.now) self.now.stops }
         ensures leads_back { IfSome result (λ s. slice_get self.now.stops s.0 ≡ Some id.now) }
     {
-        match self.locations.stops().number(id) {
+        match self.places.stops().number(id) {
             Some(number) => Some(StopNo(number as u32)),
             None => None,
         }
@@ -210,14 +210,14 @@ impl Feed {
         self.aside
     }
 
-    /// The location with an identifier, a record of `stops.txt`; none where no record has it.
-    pub fn location(&self, id: &[u8]) -> Option<Location>
-        ensures named { result ≡ location_named self.now.names self.now.locations id.now }
+    /// The place with an identifier, a record of `stops.txt`; none where no record has it.
+    pub fn place(&self, id: &[u8]) -> Option<Place>
+        ensures named { result ≡ place_named self.now.names self.now.places id.now }
         ensures unknown { is_none result ≡ is_none (position (bytes_eq id.now) self.now.names) }
-        ensures in_range { IfSome result (children_spec.IsLocation (length self.now.stops) (length self.now.children)) }
+        ensures in_range { IfSome result (children_spec.IsPlace (length self.now.stops) (length self.now.children)) }
     {
-        self.locations.known();
-        self.locations.location(id)
+        self.places.known();
+        self.places.place(id)
     }
 
     /// The stops of a station, in file order.
@@ -225,17 +225,17 @@ impl Feed {
         requires { station < length self.now.children }
         ensures { slice_get self.now.children station ≡ Some result.now }
     {
-        self.locations.known();
-        self.locations.children(station)
+        self.places.known();
+        self.places.children(station)
     }
 
-    /// The stops that a location stands for: a stop for itself, a station for its stops, another for none.
-    pub fn stops_at(&self, location: Location) -> Ends<'_>
-        requires { children_spec.IsLocation (length self.now.stops) (length self.now.children) location }
-        ensures { ends_spec.stops_of result ≡ children_spec.stops_at location self.now.children }
+    /// The stops that a place stands for: a stop for itself, a station for its stops, another for none.
+    pub fn stops_at(&self, place: Place) -> Ends<'_>
+        requires { children_spec.IsPlace (length self.now.stops) (length self.now.children) place }
+        ensures { ends_spec.stops_of result ≡ children_spec.stops_at place self.now.children }
     {
-        self.locations.known();
-        self.locations.stops_at(location)
+        self.places.known();
+        self.places.stops_at(place)
     }
 
     /// The rows of `transfers.txt` that give a walk between two different stops, or a change time, in file order.

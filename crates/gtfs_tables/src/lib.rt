@@ -2,12 +2,13 @@
 //! (GTFS Schedule reference, the files from `stops.txt` to `transfers.txt`.)
 //!
 //! [`read_feed`] takes the files as [`FeedBytes`] and gives a [`Feed`]: stops, routes, services and trips by number,
-//! each trip a [`FeedTrip`] with its events, the rows of both calendars, the [`Location`]s of `stops.txt` with the
-//! stops of each station, and each walk of `transfers.txt` as a [`Link`] between two locations. A refusal is a
+//! each trip a [`FeedTrip`] with its events, the rows of both calendars, the [`Place`]s of `stops.txt` with the
+//! stops of each station, and each walk of `transfers.txt` as a [`Link`] between two places. A refusal is a
 //! [`FeedFault`]: which file, which record, and what is wrong with it.
 //!
-//! [`read_origins`] and [`read_opportunities`] read the two files of an analysis that name the feed's stops: where
-//! journeys begin, and how much there is to reach at each stop. Neither is part of GTFS, and each may be absent.
+//! [`read_origins`], [`read_opportunities`] and [`read_destinations`] read the files of an analysis that name the feed's
+//! stops: where journeys begin, how much there is to reach at each stop, and which stops have a column of cells. None
+//! of them is part of GTFS, and each may be absent.
 //!
 //! - `feed_bytes`: the files' bytes; `read` and `catalog` read them, `feed` and `trip` are what they say.
 //! - `origins` and `opportunities` read an analysis' own files, with `named_stops`.
@@ -29,11 +30,11 @@ mod trip;
 pub use feed::Feed;
 pub use feed_bytes::{FeedBytes, file_fits};
 pub use opportunities::{opportunity_checks, read_opportunities};
-pub use origins::{origin_checks, read_origins};
+pub use origins::{origin_checks, read_destinations, read_origins};
 pub use read::read_feed;
 pub use table_files::{
-    CalendarRow, Departures, Ends, ExceptionRow, Link, Location, calendar_checks,
-    calendar_date_checks, feed_trip_checks, frequency_checks, location_checks, route_checks,
+    CalendarRow, Departures, Ends, ExceptionRow, Link, Place, calendar_checks,
+    calendar_date_checks, feed_trip_checks, frequency_checks, place_checks, route_checks,
     transfer_checks,
 };
 pub use table_records::{

@@ -1,4 +1,4 @@
-//! The origins file: the stops at which journeys begin.
+//! The origins file: the stops at which journeys begin; and the destinations file: the stops that have a column.
 
 ghost use Rattle.std.specs.Prelude.{◌≡◌, ◌<◌, ℕ, List, [], length, map, All, IfOk, IfErr};
 ghost use Rattle.std.specs.List.{range_with_len};
@@ -22,7 +22,7 @@ const CHECKS: Checks = Checks {
     ],
 };
 
-/// What is checked of the origins file: each fault of a record is that of a check.
+/// What is checked of the origins file, and of the destinations file: each fault of a record is that of a check.
 pub fn origin_checks() -> Checks
     ensures required { map (λ name. name.now) result.required.now ≡ spec.required }
     ensures explains { (stops : List (List ℕ)) → Explains result.fields.now spec.row_of (spec.checks stops) }
@@ -45,17 +45,44 @@ pub fn read_origins(
     ensures stops { IfOk result (λ v. All (λ s. s.0 < length feed.now.stops) v.items) }
     ensures fault { IfErr result (λ e. Tells e (spec.origins_faults (bytes_of file.entry) feed.now)) }
 {
+    read_stops(alloc, FileName::Origins, file, feed)
+}
+
+/// The stops that have a column of cells, in file order. Without a file they are all stops of the feed, in order.
+///
+/// The file is read as one of origins is, and a fault of it names it. The bytes are at most 2^30, the limit of an
+/// input file.
+pub fn read_destinations(
+    alloc: Global,
+    file: Option<&[u8]>,
+    feed: &Feed,
+) -> Result<Vec<StopNo>, FeedFault>
+    requires { IsWithinLimit (bytes_of file) }
+    ensures good { IfOk result (λ v. (spec.destinations_faults (bytes_of file.entry) feed.now ≡ [])
+        × (v.items ≡ spec.destinations_of (bytes_of file.entry) feed.now)) }
+    ensures stops { IfOk result (λ v. All (λ s. s.0 < length feed.now.stops) v.items) }
+    ensures fault { IfErr result (λ e. Tells e (spec.destinations_faults (bytes_of file.entry) feed.now)) }
+{
+    read_stops(alloc, FileName::Destinations, file, feed)
+}
+
+// The stops that a file names, in file order. Without a file they are all stops of the feed, in order.
+fn read_stops(
+    alloc: Global,
+    name: FileName,
+    file: Option<&[u8]>,
+    feed: &Feed,
+) -> Result<Vec<StopNo>, FeedFault>
+    requires { IsWithinLimit (bytes_of file) }
+    ensures good { IfOk result (λ v. (spec.stops_faults name (bytes_of file.entry) feed.now ≡ [])
+        × (v.items ≡ spec.origins_of (bytes_of file.entry) feed.now)) }
+    ensures stops { IfOk result (λ v. All (λ s. s.0 < length feed.now.stops) v.items) }
+    ensures fault { IfErr result (λ e. Tells e (spec.stops_faults name (bytes_of file.entry) feed.now)) }
+{
     let Some(bytes) = file else {
         return Ok(all_stops(alloc, feed)?);
     };
-    match read_named(
-        alloc,
-        bytes,
-        feed,
-        FileName::Origins,
-        CHECKS.required,
-        false,
-    ) {
+    match read_named(alloc, bytes, feed, name, CHECKS.required, false) {
         Ok(list) => Ok(list.stops),
         Err(fault) => Err(fault),
     }

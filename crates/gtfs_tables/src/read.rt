@@ -14,7 +14,7 @@ use crate::feed_bytes::{FeedBytes, missing};
 use crate::trip::{DepartureList, FeedTrip, TripId};
 use std::alloc::{AllocError, Global};
 use table_files::{
-    Departures, FeedTrips, Locations, Transfers, no_departures, read_frequencies, read_transfers,
+    Departures, FeedTrips, Places, Transfers, no_departures, read_frequencies, read_transfers,
 };
 use table_records::{FeedFault, FileName, Identifiers};
 use timetable::Events;
@@ -40,10 +40,10 @@ pub fn read_feed(alloc: Global, files: &FeedBytes<'_>) -> Result<Feed, FeedFault
     let StopTimes {
         trips: events,
         aside,
-    } = times_of(alloc, files, ids, listed.locations.stops())?;
+    } = times_of(alloc, files, ids, listed.places.stops())?;
     let departures = departures_of(alloc, files, ids)?;
     let trips = trips_of(alloc, &listed.trips, events, departures)?;
-    let transfers = transfers_of(alloc, files, &listed.locations)?;
+    let transfers = transfers_of(alloc, files, &listed.places)?;
     Ok(Feed::new(Box::into_inner(catalog), trips, aside, transfers))
 }
 
@@ -94,19 +94,19 @@ fn departures_of(
 fn transfers_of(
     alloc: Global,
     files: &FeedBytes<'_>,
-    locations: &Locations,
+    places: &Places,
 ) -> Result<Transfers, FeedFault>
     requires size { spec.IsWithinLimit (spec.bytes_of files.now.transfers) }
-    requires locations { locations.now ≡ spec.locations_in (spec.files_of files.now) }
+    requires places { places.now ≡ spec.places_in (spec.files_of files.now) }
     ensures good { IfOk result (λ t. (spec.faults_of_transfers (spec.files_of files.now) ≡ [])
         × (t.links.items ≡ spec.links_in (spec.files_of files.now))
         × (t.unused ≡ spec.unused_in (spec.files_of files.now))) }
-    ensures in_range { IfOk result (λ t. All (IsLink (length locations.now.stops) (length locations.now.stations))
+    ensures in_range { IfOk result (λ t. All (IsLink (length places.now.stops) (length places.now.stations))
         t.links.items) }
     ensures fault { IfErr result (λ e. Tells e (spec.faults_of_transfers (spec.files_of files.now))) }
 {
     match files.transfers {
-        Some(bytes) => read_transfers(alloc, bytes, locations),
+        Some(bytes) => read_transfers(alloc, bytes, places),
         None => Ok(Transfers {
             links: Vec::new(alloc),
             unused: 0,

@@ -34,6 +34,14 @@ impl TripId {
     {
         self.bytes.as_slice()
     }
+
+    /// The bytes, to keep. It takes no memory.
+    pub fn into_vec(self) -> Vec<u8>
+        ensures { result.items ≡ self }
+    {
+        let TripId { bytes } = self;
+        bytes
+    }
 }
 
 /// The rows of `frequencies.txt` for a trip, in file order. Contracts see the list.
@@ -64,6 +72,14 @@ impl DepartureList {
         ensures { result.now ≡ self.now }
     {
         self.items.as_slice()
+    }
+
+    /// The rows, to keep. It takes no memory.
+    pub fn into_vec(self) -> Vec<Departures>
+        ensures { result.items ≡ self }
+    {
+        let DepartureList { items } = self;
+        items
     }
 }
 

@@ -140,7 +140,7 @@ fn gives_large(alloc: Global, stops: u32, own: &[u8], expected: Expected<'_>) ->
     }
 }
 
-/// `direct`, `Locations::children`, `Children::at`, `Locations::stops`, `Ends::as_slice`.
+/// `direct`, `Places::children`, `Children::at`, `Places::stops`, `Ends::as_slice`.
 #[test]
 fn a_station_stands_for_its_stops(rt: HostRuntime) {
     let all = [path(1, 2, 30), path(2, 1, 30), path(0, 1, 60)];

@@ -9,7 +9,7 @@ use Rattle.table_files.specs.Calendar as calendar
 use Rattle.table_files.specs.CalendarDates as calendar_dates
 use Rattle.table_files.specs.FeedTrips as trips
 use Rattle.table_files.specs.Frequencies as frequencies
-use Rattle.table_files.specs.Locations as locations
+use Rattle.table_files.specs.Places as places
 use Rattle.table_files.specs.Routes as routes
 use Rattle.trip_events.specs.StopTimes as stop_times
 use Rattle.table_files.specs.Transfers as transfers
@@ -20,7 +20,7 @@ use Rattle.table_records.specs.declared.fault.FileName.TheVariants as file
 
 -- the columns that the header of a file must have
 abbrev pub required_of : FileName → List (List ℕ)
-required_of file.Stops = locations.required
+required_of file.Stops = places.required
 required_of file.Routes = routes.required
 required_of file.Calendar = calendar.required
 required_of file.CalendarDates = calendar_dates.required
@@ -31,10 +31,11 @@ required_of file.Transfers = []
 required_of file.Footpaths = footpaths.required
 required_of file.Origins = origins.required
 required_of file.Opportunities = opportunities.required
+required_of file.Destinations = origins.required
 
 -- each fault of a record of the file, as its reader's definition states them, is that of one of these checks
 abbrev pub ExplainsFile : FileName → List Check → Type 0
-ExplainsFile file.Stops checks = Explains checks locations.row_of locations.checks
+ExplainsFile file.Stops checks = Explains checks places.row_of places.checks
 ExplainsFile file.Routes checks = Explains checks routes.row_of routes.checks
 ExplainsFile file.Calendar checks = Explains checks calendar.row_of calendar.checks
 ExplainsFile file.CalendarDates checks = Explains checks calendar_dates.row_of calendar_dates.checks
@@ -48,3 +49,4 @@ ExplainsFile file.Footpaths checks = (feed : FeedData) → Explains checks footp
 ExplainsFile file.Origins checks = (stops : List (List ℕ)) → Explains checks origins.row_of (origins.checks stops)
 ExplainsFile file.Opportunities checks = (stops : List (List ℕ)) →
     Explains checks opportunities.row_of (opportunities.checks stops)
+ExplainsFile file.Destinations checks = (stops : List (List ℕ)) → Explains checks origins.row_of (origins.checks stops)

@@ -10,7 +10,7 @@ use csv::ByteRecord;
 use footpaths::footpath_checks;
 use gtfs_tables::{
     Check, Checks, FeedFault, Rule, calendar_checks, calendar_date_checks, feed_trip_checks,
-    frequency_checks, location_checks, opportunity_checks, origin_checks, route_checks,
+    frequency_checks, opportunity_checks, origin_checks, place_checks, route_checks,
     stop_time_checks, transfer_checks,
 };
 use scenarios::{EditCheck, ScenarioFault, ScenarioWhat, edit_checks};
@@ -37,7 +37,6 @@ pub(crate) fn explanation(
 ) -> Option<String> {
     match fault {
         StudyFault::Feed(fault) => of_feed(alloc, *fault, bytes_of(inputs, fault.file), inputs),
-        StudyFault::Destinations(fault) => of_feed(alloc, *fault, inputs.destinations, inputs),
         StudyFault::Scenario(number, fault) => {
             let file = inputs.scenarios.get(*number)?;
             of_scenario(alloc, *fault, &file.bytes)
@@ -98,7 +97,7 @@ fn checks_of(file: FileName) -> Checks
     ensures explains { spec.ExplainsFile file result.fields.now }
 {
     match file {
-        FileName::Stops => location_checks(),
+        FileName::Stops => place_checks(),
         FileName::Routes => route_checks(),
         FileName::Calendar => calendar_checks(),
         FileName::CalendarDates => calendar_date_checks(),
@@ -107,7 +106,7 @@ fn checks_of(file: FileName) -> Checks
         FileName::Frequencies => frequency_checks(),
         FileName::Transfers => transfer_checks(),
         FileName::Footpaths => footpath_checks(),
-        FileName::Origins => origin_checks(),
+        FileName::Origins | FileName::Destinations => origin_checks(),
         FileName::Opportunities => opportunity_checks(),
     }
 }
@@ -126,6 +125,7 @@ fn bytes_of<'a>(inputs: &Inputs<'a>, file: FileName) -> Option<&'a [u8]> {
         FileName::Footpaths => inputs.footpaths,
         FileName::Origins => inputs.origins,
         FileName::Opportunities => inputs.opportunities,
+        FileName::Destinations => inputs.destinations,
     }
 }
 
@@ -149,7 +149,7 @@ fn refused_line(
 
 /// Whether a rule may have refused a text, given the bytes of `stops.txt`; none where there is no memory to find out.
 fn refuses(alloc: Global, rule: Rule, text: &[u8], stops: Option<&[u8]>) -> Option<bool> {
-    if rule == Rule::Location {
+    if rule == Rule::Place {
         Some(!is_named(alloc, stops?, b"stop_id", text)?)
     } else {
         Some(rule.refuses(text))

@@ -10,7 +10,7 @@ pub(crate) fn words_of(rule: Rule) -> &'static str {
         Rule::Once => "a record before has the same",
         Rule::OnceInTrip => "another record of the trip has the same",
         Rule::Stop => "stops.txt has to name it, as a stop (location_type 0 or empty)",
-        Rule::Location => "stops.txt has to name it",
+        Rule::Place => "stops.txt has to name it",
         Rule::Route => "routes.txt has to name it",
         Rule::Trip => "trips.txt has to name it",
         Rule::Number => "a number is digits alone, 0 to 4294967295",

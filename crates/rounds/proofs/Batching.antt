@@ -39,14 +39,6 @@ module _ (lanes minutes : ℕ) (some : 0 < lanes) where
       let e : q * lanes ≡ lanes * q = mul_comm q lanes in
       omega (arith, within, few, e)
 
-  -- so they hold each sixteen of minutes
-  pub sixteens_reach : 16 * (lanes / 16) ≡ lanes →
-      16 * ((minutes + 15) / 16) ≤ lanes * ((minutes + (lanes - 1)) / lanes)
-  sixteens_reach whole =
-      let e = sixteens lanes ((minutes + (lanes - 1)) / lanes) whole in
-      let reach = batches_reach in
-      omega (arith, e, reach)
-
 -- the batch of a turn, of which the first has the last batch
 abbrev pub batch_at : ℕ → ℕ → ℕ → ℕ
 batch_at lanes minutes i = (minutes + (lanes - 1)) / lanes - 1 - i

@@ -8,12 +8,13 @@ use Rattle.std.proofs.lemmas.Slice.{between_is}
 use Rattle.std.specs.List.{slice_range}
 use Rattle.timetable.specs.Networks.{Net}
 use Rattle.timetable.specs.Journeys.{IsDuration}
+use Rattle.useful_minutes.proofs.Filled.{position_before}
 use Rattle.rounds.specs.declared.window.Window.{Window}
 use Rattle.rounds.specs.Window.{departure, AreDurations}
 use Rattle.rounds.specs.Batches.{AreLabels}
 use Rattle.rounds.specs.Table.{IsTimes, AreLanes, times_of, durations_of, batches_of, label_in, label_of, known_of, at}
 use Rattle.rounds.specs.Table.{IsLeastOrNone}
-use Rattle.rounds.proofs.Filling.{position_before, known_least}
+use Rattle.rounds.proofs.Filling.{known_least}
 
 length_durations : (stops minutes : ℕ) (labels : List (List ℕ)) →
     length (durations_of stops minutes labels) ≡ stops * minutes

@@ -25,7 +25,6 @@ module _ (decides : Decides) (was_told : WasTold) where
     any_gate fault.Scenarios h = h
     any_gate (fault.Name k) h = h
     any_gate (fault.Feed e) h = h
-    any_gate (fault.Destinations e) h = h
     any_gate (fault.Scenario k e) h = h
     any_gate (fault.Days e) h = h
     any_gate (fault.Feet e) h = h
@@ -39,7 +38,6 @@ module _ (decides : Decides) (was_told : WasTold) where
     by_gate fault.Scenarios other h = h
     by_gate (fault.Name k) other h = h
     by_gate (fault.Feed e) other h = h
-    by_gate (fault.Destinations e) other h = h
     by_gate (fault.Scenario k e) other h = h
     by_gate (fault.Days e) other h = h
     by_gate (fault.Feet e) other h = h
@@ -57,7 +55,6 @@ pub names_no_run : (e : StudyFault) (files : List NamedBytes) → TellsNames e f
 names_no_run fault.Scenarios files h = tt
 names_no_run (fault.Name k) files h = tt
 names_no_run (fault.Feed e) files h = absurd h
-names_no_run (fault.Destinations e) files h = absurd h
 names_no_run (fault.Scenario k e) files h = absurd h
 names_no_run (fault.Days e) files h = absurd h
 names_no_run (fault.Feet e) files h = absurd h

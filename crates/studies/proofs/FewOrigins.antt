@@ -1,4 +1,4 @@
--- There are no more origins than stops: a file names no stop twice.
+-- There are no more origins, and no more destinations, than stops: a file names no stop twice.
 use Rattle.std.proofs.Common.{◌≡◌, ◌≤◌, ℕ, true, List, [], ◌∷◌, ◌++◌, All, Option, Some, None, length, refl, arith}
 use Rattle.std.proofs.lemmas.Cmp.{nat_list_eq_equiv}
 use Rattle.std.proofs.lemmas.List.{length-map, map-append}
@@ -12,12 +12,12 @@ use Rattle.std.proofs.lemmas.Slice.Eq.{bytes_eq-Decides}
 use Rattle.std.specs.List.{Contains, IsDistinct}
 use Rattle.std.specs.Str.{bytes_eq}
 use Rattle.table_records.specs.Table.{records_of}
-use Rattle.table_records.specs.declared.fault.FileName.TheVariants as file
+use Rattle.table_records.specs.declared.fault.FileName.{FileName}
 use Rattle.table_records.specs.Identifiers.{number_in}
 use Rattle.timetable.specs.declared.trips.StopNo.{StopNo}
 use Rattle.gtfs_tables.specs.Feed.{FeedData}
 use Rattle.gtfs_tables.specs.NamedStops.{NamedRow, named_rows, named_stop, row_of, stops_named}
-use Rattle.gtfs_tables.specs.Origins.{checks, origins_faults, origins_of, required}
+use Rattle.gtfs_tables.specs.Origins.{checks, origins_of, required, stops_faults}
 use Rattle.gtfs_tables.proofs.MarkFacts.{found_stop}
 use Rattle.gtfs_tables.proofs.NoFaults.{kept_rows}
 
@@ -57,14 +57,14 @@ few_rows stops rows once =
     (All-contains (Contains stops) (stops_named rows) q once.known
     (Contains-from_any equal q (stops_named rows) named)))
 
-pub few_origins : (bytes : Option (List ℕ)) (feed : FeedData) (origins : List StopNo) → origins_faults bytes feed ≡ [] →
-    origins ≡ origins_of bytes feed → length origins ≤ length feed.stops
-few_origins None feed origins none are =
+pub few_origins : (name : FileName) (bytes : Option (List ℕ)) (feed : FeedData) (origins : List StopNo) →
+    stops_faults name bytes feed ≡ [] → origins ≡ origins_of bytes feed → length origins ≤ length feed.stops
+few_origins name None feed origins none are =
     let stop : ℕ → StopNo = λ m. record { 0 = m } in
     rw are (omega (arith, length-map-range_with_len stop 0 (length feed.stops)))
-few_origins (Some bytes) feed origins none are =
+few_origins name (Some bytes) feed origins none are =
     let once : NameOnce feed.stops (named_rows bytes) =
-    kept_rows file.Origins (checks feed.stops) (NameOnce feed.stops) (one_more feed.stops) required row_of
+    kept_rows name (checks feed.stops) (NameOnce feed.stops) (one_more feed.stops) required row_of
     (records_of bytes)
     (record { distinct = nothing_distinct; known = All-nil (Contains feed.stops) }) none in
     let few : length (stops_named (named_rows bytes)) ≤ length feed.stops =

@@ -24,5 +24,3 @@ pub no_first : {F : Type 0} (e : F) (xs : List F) → xs ≡ [] → IsFirst e xs
 no_first e xs none h =
     let nothing : slice_get xs 0 ≡ None = rw none refl in
     cc (h, nothing)
-
-pub ruleset firsts = (first_left, first_right, tells_left, tells_right, none_of_both)

@@ -12,7 +12,7 @@ use Rattle.studies.specs.declared.fault.StudyFault.TheVariants as fault
 use Rattle.studies.specs.Inputs.{InputFiles}
 use Rattle.studies.specs.Names.{name_faults}
 use Rattle.studies.specs.Laws.{RefusedHaveNoMeaning, TextsAreUnique}
-use Rattle.studies.specs.Parts.{day_faults, destination_faults, direct_in, edit_faults, feed_in, labels_in}
+use Rattle.studies.specs.Parts.{day_faults, direct_in, edit_faults, feed_in, labels_in}
 use Rattle.studies.specs.Parts.{network_faults, networks_of, runs_in, scenarios_in, study_in, table_faults}
 use Rattle.studies.specs.Settings.{SettingsData}
 use Rattle.studies.specs.Study.{Means}
@@ -43,8 +43,6 @@ refused_meaningless none i s (fault.Name k) study r m =
     no_first k (name_faults i.scenarios) m.made.walked.dated.edited.read.named.names r.1
 refused_meaningless none i s (fault.Feed e) study r m =
     no_first e (table_faults i) m.made.walked.dated.edited.read.tables r.1
-refused_meaningless none i s (fault.Destinations e) study r m =
-    no_first e (destination_faults i (feed_in i)) m.made.walked.dated.edited.read.destinations r.2
 refused_meaningless none i s (fault.Scenario k e) study r m =
     no_first (k, e) (edit_faults (feed_in i) 0 i.scenarios) m.made.walked.dated.edited.edits r.1
 refused_meaningless none i s (fault.Days e) study r m = no_first e (day_faults i s) m.made.walked.dated.days r.1

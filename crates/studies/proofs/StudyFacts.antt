@@ -16,7 +16,7 @@ use Rattle.timetable.specs.Networks.{Net}
 use Rattle.gtfs_tables.specs.Feed.{FeedData, IsFeed, day_number}
 use Rattle.gtfs_tables.specs.Files.{feed_faults}
 use Rattle.gtfs_tables.specs.Opportunities.{opportunities_of}
-use Rattle.gtfs_tables.specs.Origins.{origins_of}
+use Rattle.gtfs_tables.specs.Origins.{destinations_of, origins_of}
 use Rattle.service_days.specs.declared.fault.DayFault.{DayFault}
 use Rattle.service_days.specs.declared.fault.DayFault.TheVariants as day
 use Rattle.service_days.specs.declared.run.Run.{Run}
@@ -44,7 +44,7 @@ use Rattle.studies.specs.declared.parts.Tables.{Tables}
 use Rattle.studies.specs.NamedFile.{NamedBytes}
 use Rattle.studies.specs.Names.{name_faults, names_of}
 use Rattle.studies.specs.Settings.{SettingsData, SettingsFit, query_of, window_of}
-use Rattle.studies.specs.Parts.{destination_faults, destinations_in, direct_in, edit_faults, feed_in, labels_in}
+use Rattle.studies.specs.Parts.{destinations_in, direct_in, edit_faults, feed_in, labels_in}
 use Rattle.studies.specs.Parts.{network_faults, networks_of, opportunities_in, origins_in, own_faults, runs_in}
 use Rattle.studies.specs.Parts.{scenarios_in, study_in, table_faults}
 use Rattle.work_book.specs.declared.rule.View.{View}
@@ -85,7 +85,6 @@ module _ (i : InputFiles) (s : SettingsData) where
   names_told fault.Scenarios h = inr h
   names_told (fault.Name k) h = inr h
   names_told (fault.Feed e) h = absurd h
-  names_told (fault.Destinations e) h = absurd h
   names_told (fault.Scenario k e) h = absurd h
   names_told (fault.Days e) h = absurd h
   names_told (fault.Feet e) h = absurd h
@@ -123,28 +122,14 @@ module _ (i : InputFiles) (s : SettingsData) where
       none_of_both (feed_faults i.feed) (own_faults i (feed_in i)) is.faultless
       (subst (λ (d : FeedData). own_faults i d ≡ []) is.feed_is none)
 
-  pub are_read : (feed : FeedData) → AreNamed i → IsFeedOf i feed → own_faults i feed ≡ [] →
-      destination_faults i feed ≡ [] → AreRead i
-  are_read feed named is none known = record {
-    named = named;
-    tables = no_table_faults feed is none;
-    destinations = subst (λ (d : FeedData). destination_faults i d ≡ []) is.feed_is known;
-  }
+  pub are_read : (feed : FeedData) → AreNamed i → IsFeedOf i feed → own_faults i feed ≡ [] → AreRead i
+  are_read feed named is none = record { named = named; tables = no_table_faults feed is none }
 
   pub tables_told : (decides : Decides) (was_told : WasTold) (e : StudyFault) (feed : FeedData) → AreNamed i →
       IsFeedOf i feed → TellsTables e i feed → TellsBy decides was_told e i s
   tables_told decides was_told fault.Scenarios feed named is h = absurd h
   tables_told decides was_told (fault.Name k) feed named is h = absurd h
   tables_told decides was_told (fault.Feed e) feed named is h = own_told e feed named is h
-  tables_told decides was_told (fault.Destinations e) feed named is h =
-      elim h.1 [
-        | inl m ↦ inl m
-        | inr f ↦ inr (
-          named,
-          no_table_faults feed is h.0,
-          subst (λ (d : FeedData). IsFirst e (destination_faults i d)) is.feed_is f,
-        )
-      ]
   tables_told decides was_told (fault.Scenario k e) feed named is h = absurd h
   tables_told decides was_told (fault.Days e) feed named is h = absurd h
   tables_told decides was_told (fault.Feet e) feed named is h = absurd h
@@ -164,7 +149,6 @@ module _ (i : InputFiles) (s : SettingsData) where
   edits_told fault.Scenarios feed read is h = absurd h
   edits_told (fault.Name k) feed read is h = absurd h
   edits_told (fault.Feed e) feed read is h = absurd h
-  edits_told (fault.Destinations e) feed read is h = absurd h
   edits_told (fault.Scenario k e) feed read is h =
       elim h [
         | inl m ↦ inl m
@@ -217,7 +201,6 @@ module _ (i : InputFiles) (s : SettingsData) where
   text_told decides was_told (Err fault.Scenarios) h = absurd h
   text_told decides was_told (Err (fault.Name k)) h = absurd h
   text_told decides was_told (Err (fault.Feed e)) h = absurd h
-  text_told decides was_told (Err (fault.Destinations e)) h = absurd h
   text_told decides was_told (Err (fault.Scenario k e)) h = absurd h
   text_told decides was_told (Err (fault.Days e)) h = absurd h
   text_told decides was_told (Err (fault.Feet e)) h = absurd h
@@ -272,7 +255,6 @@ module _ (i : InputFiles) (s : SettingsData) (feed : FeedData) (p : NetworkParts
   networks_told fault.Scenarios h = absurd h
   networks_told (fault.Name k) h = absurd h
   networks_told (fault.Feed e) h = absurd h
-  networks_told (fault.Destinations e) h = absurd h
   networks_told (fault.Scenario k e) h = absurd h
   networks_told (fault.Days e) h = absurd h
   networks_told (fault.Feet e) h = absurd h
@@ -326,7 +308,7 @@ means i s feed t networks origins opportunities query is are made p q asked = re
       (p ∙ are.origins_are ∙ ap (λ (d : FeedData). origins_of i.origins d) is)
       (q ∙ are.opportunities_are ∙ ap (λ (d : FeedData). opportunities_of i.opportunities d) is)
       (asked ∙ ap (λ (l : List StopNo). query_of s l) (are.destinations_are
-      ∙ ap (λ (d : FeedData). origins_of i.destinations d) is));
+      ∙ ap (λ (d : FeedData). destinations_of i.destinations d) is));
 }
 
 pub text_made : {V : Type 0} (items : V →

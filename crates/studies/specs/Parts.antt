@@ -7,7 +7,7 @@ use Rattle.timetable.specs.Footpaths.{FeetData}
 use Rattle.timetable.specs.Networks.{Net}
 use Rattle.gtfs_tables.specs.Feed.{FeedData, day_number}
 use Rattle.gtfs_tables.specs.Files.{feed_faults, feed_of}
-use Rattle.gtfs_tables.specs.Origins.{origins_faults, origins_of}
+use Rattle.gtfs_tables.specs.Origins.{destinations_faults, destinations_of, origins_faults, origins_of}
 use Rattle.gtfs_tables.specs.Opportunities.{opportunities_faults, opportunities_of}
 use Rattle.service_days.specs.declared.fault.DayFault.{DayFault}
 use Rattle.service_days.specs.declared.run.Run.{Run}
@@ -41,21 +41,18 @@ origins_in i = origins_of i.origins (feed_in i)
 abbrev pub opportunities_in : InputFiles → List ℕ
 opportunities_in i = opportunities_of i.opportunities (feed_in i)
 
--- the stops that a row has cells for: the file that names them is read as that of origins is
+-- the stops that a row has cells for
 abbrev pub destinations_in : InputFiles → List StopNo
-destinations_in i = origins_of i.destinations (feed_in i)
+destinations_in i = destinations_of i.destinations (feed_in i)
 
--- the faults of that file, which are those that a file of origins would have
-abbrev pub destination_faults : InputFiles → FeedData → List FeedFault
-destination_faults i feed = origins_faults i.destinations feed
-
--- the faults of the analyst's own tables: those of footpaths, of origins, and of opportunities
+-- the faults of the analyst's own tables: those of footpaths, of origins, of opportunities, and of destinations
 abbrev pub own_faults : InputFiles → FeedData → List FeedFault
 own_faults i feed =
-    direct_faults feed i.footpaths ++ (origins_faults i.origins feed ++ opportunities_faults i.opportunities feed)
+    direct_faults feed i.footpaths
+    ++ (origins_faults i.origins feed
+    ++ (opportunities_faults i.opportunities feed ++ destinations_faults i.destinations feed))
 
--- the faults of all files but that of destinations and the scenarios: the feed's, and then those of the analyst's own
--- tables
+-- the faults of all files but the scenarios: the feed's, and then those of the analyst's own tables
 abbrev pub table_faults : InputFiles → List FeedFault
 table_faults i = feed_faults i.feed ++ own_faults i (feed_in i)
 

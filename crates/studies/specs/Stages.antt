@@ -4,7 +4,7 @@ use Rattle.table_records.specs.Faults.{IsFirst, Tells}
 use Rattle.timetable.specs.declared.faults.NetFault.TheVariants as net
 use Rattle.gtfs_tables.specs.Feed.{FeedData}
 use Rattle.gtfs_tables.specs.Files.{feed_faults}
-use Rattle.gtfs_tables.specs.Origins.{origins_of}
+use Rattle.gtfs_tables.specs.Origins.{destinations_of, origins_of}
 use Rattle.gtfs_tables.specs.Opportunities.{opportunities_of}
 use Rattle.footpaths.specs.Walks.{direct_of}
 use Rattle.service_days.specs.declared.run.Run.{Run}
@@ -20,7 +20,7 @@ use Rattle.studies.specs.declared.parts.Tables.{Tables}
 use Rattle.studies.specs.Inputs.{InputFiles}
 use Rattle.studies.specs.NamedFile.{NamedBytes}
 use Rattle.studies.specs.Names.{name_faults}
-use Rattle.studies.specs.Parts.{destination_faults, feed_in, edit_faults, network_faults, own_faults, runs_in}
+use Rattle.studies.specs.Parts.{feed_in, edit_faults, network_faults, own_faults, runs_in}
 use Rattle.studies.specs.Parts.{scenarios_in}
 use Rattle.studies.specs.Settings.{SettingsData}
 use Rattle.studies.specs.Study.{AreWalked}
@@ -39,7 +39,7 @@ pub record AreTables (i : InputFiles) (feed : FeedData) (t : Tables) : Type 0 wh
   pub in_range : All (λ o. o.0 < length feed.stops) t.origins.items
   pub few_origins : length t.origins.items ≤ length feed.stops
   pub count : length t.opportunities.items ≡ length feed.stops
-  pub destinations_are : t.destinations.items ≡ origins_of i.destinations feed
+  pub destinations_are : t.destinations.items ≡ destinations_of i.destinations feed
   pub destinations_in_range : All (λ o. o.0 < length feed.stops) t.destinations.items
   pub few_destinations : length t.destinations.items ≤ length feed.stops
 
@@ -50,10 +50,9 @@ pub record AreNetworkParts (i : InputFiles) (s : SettingsData) (p : NetworkParts
   pub of_feed : All (IsRun (feed_in i)) p.runs.items
   pub walked : AreWalked i s p.feet
 
--- the first fault of the analyst's own tables, or, where they have none, of the destinations; or out of memory
+-- the first fault of the analyst's own tables, or out of memory
 abbrev pub TellsTables : StudyFault → InputFiles → FeedData → Type 0
 TellsTables (fault.Feed e) i feed = Tells e (own_faults i feed)
-TellsTables (fault.Destinations e) i feed = (own_faults i feed ≡ []) × Tells e (destination_faults i feed)
 TellsTables fault.Memory i feed = ⊤
 TellsTables _ i feed = ⊥
 

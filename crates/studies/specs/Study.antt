@@ -1,7 +1,6 @@
 -- Which study the files mean, or which part of them is refused first.
--- The parts in their order: the names of the scenarios; the feed, footpaths, origins and opportunities; the
--- destinations; the scenario files;
--- the runs of the study's days; the closed footpaths; and the networks.
+-- The parts in their order: the names of the scenarios; the feed, footpaths, origins, opportunities and destinations;
+-- the scenario files; the runs of the study's days; the closed footpaths; and the networks.
 use Rattle.std.specs.Prelude.{◌≡◌, ◌⊎◌, ◌<◌, ◌≤◌, ℕ, List, [], length, ⊤}
 use Rattle.table_records.specs.Faults.{IsFirst}
 use Rattle.table_records.specs.declared.fault.What.TheVariants as what
@@ -26,7 +25,7 @@ use Rattle.studies.specs.declared.fault.StudyFault.TheVariants as fault
 use Rattle.studies.specs.Inputs.{InputFiles}
 use Rattle.studies.specs.Names.{name_faults}
 use Rattle.studies.specs.Settings.{SettingsData}
-use Rattle.studies.specs.Parts.{table_faults, destination_faults, edit_faults, day_faults, network_faults, feed_in}
+use Rattle.studies.specs.Parts.{table_faults, edit_faults, day_faults, network_faults, feed_in}
 use Rattle.studies.specs.Parts.{direct_in, scenarios_in, runs_in, networks_of, study_in, labels_in}
 
 -- there are few enough scenario files, and their names are accepted
@@ -38,7 +37,6 @@ pub record AreNamed (i : InputFiles) : Type 0 where
 pub record AreRead (i : InputFiles) : Type 0 where
   pub named : AreNamed i
   pub tables : table_faults i ≡ []
-  pub destinations : destination_faults i (feed_in i) ≡ []
 
 -- ... and the scenario files
 pub record AreEdited (i : InputFiles) : Type 0 where
@@ -73,7 +71,6 @@ abbrev pub Refuses : StudyFault → InputFiles → SettingsData → Type 0
 Refuses fault.Scenarios i s = MOST_SCENARIOS ≤ length i.scenarios
 Refuses (fault.Name k) i s = (length i.scenarios < MOST_SCENARIOS) × IsFirst k (name_faults i.scenarios)
 Refuses (fault.Feed e) i s = AreNamed i × IsFirst e (table_faults i)
-Refuses (fault.Destinations e) i s = AreNamed i × (table_faults i ≡ []) × IsFirst e (destination_faults i (feed_in i))
 Refuses (fault.Scenario k e) i s = AreRead i × IsFirst (k, e) (edit_faults (feed_in i) 0 i.scenarios)
 Refuses (fault.Days e) i s = AreEdited i × IsFirst e (day_faults i s)
 Refuses (fault.Feet e) i s = AreDated i s × (e ≡ foot.TooMany) × HasTooMany (direct_in i).pairs s.walk
@@ -97,7 +94,6 @@ abbrev pub IsNotOfFiles : Decides → WasTold → StudyFault → InputFiles → 
 IsNotOfFiles decides was_told fault.Scenarios i s = ⊥
 IsNotOfFiles decides was_told (fault.Name k) i s = ⊥
 IsNotOfFiles decides was_told (fault.Feed e) i s = e.what ≡ what.Memory
-IsNotOfFiles decides was_told (fault.Destinations e) i s = e.what ≡ what.Memory
 IsNotOfFiles decides was_told (fault.Scenario k e) i s = e.what ≡ edit.Memory
 IsNotOfFiles decides was_told (fault.Days e) i s = e ≡ day.Memory
 IsNotOfFiles decides was_told (fault.Feet e) i s = e ≡ foot.Memory

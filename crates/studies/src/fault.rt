@@ -19,8 +19,6 @@ pub enum StudyFault {
     Name(usize),
     /// The feed's tables, or a file that names its stops, are refused.
     Feed(FeedFault),
-    /// The file of destinations is refused. It is read as that of origins is, and its fault names no other file.
-    Destinations(FeedFault),
     /// A scenario file is refused. The files count from 0.
     Scenario(usize, ScenarioFault),
     /// The trips that run on the study's days aren't listed.

@@ -5,7 +5,7 @@ pub mod CalendarDateFacts
 pub mod FrequencyFacts
 pub mod FeedTripFacts
 pub mod ChildrenFacts
-pub mod LocationFacts
+pub mod PlaceFacts
 pub mod EndFacts
 pub mod TransferFacts
 pub mod RuleFacts

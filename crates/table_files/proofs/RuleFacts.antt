@@ -8,7 +8,7 @@ use Rattle.table_records.specs.Fields.{day_of, is_empty, number_of}
 use Rattle.table_files.specs.Calendar.{days_of}
 use Rattle.table_files.specs.Days.{choice, date_of, flag_of}
 use Rattle.table_files.specs.Frequencies.{headway_of}
-use Rattle.table_files.specs.Locations.{kind_of}
+use Rattle.table_files.specs.Places.{kind_of}
 
 none_of : {A B : Type 0} (f : A → B) (o : Option A) → is_none (option_map f o) ≡ true → is_none o ≡ true
 none_of f None h = refl

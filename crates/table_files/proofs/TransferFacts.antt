@@ -13,32 +13,32 @@ use Rattle.table_records.specs.declared.limits.TheConstants.{MOST_BYTES}
 use Rattle.table_records.proofs.ReadingFacts.{few_records}
 use Rattle.table_files.specs.declared.transfers.Link.{Link}
 use Rattle.table_files.specs.declared.transfers.Transfers.{Transfers}
-use Rattle.table_files.specs.declared.location.Location.{Location}
-use Rattle.table_files.specs.declared.location.Location.TheVariants.{Other}
-use Rattle.table_files.specs.Children.{IsLocation}
-use Rattle.table_files.specs.Locations.{AreLocations, LocationData, kind_of}
+use Rattle.table_files.specs.declared.place.Place.{Place}
+use Rattle.table_files.specs.declared.place.Place.TheVariants.{Other}
+use Rattle.table_files.specs.Children.{IsPlace}
+use Rattle.table_files.specs.Places.{ArePlaces, PlaceData, kind_of}
 use Rattle.table_files.specs.Transfers.{AreTransfers, IsLink, Takes, TransferRow, checks, end_of, gives_any, is_change}
 use Rattle.table_files.specs.Transfers.{is_general, is_used, is_whole, link_at, link_of, links_of, row_of, unused_of}
 use Rattle.table_files.specs.Transfers.{used_checks}
 use Rattle.table_files.proofs.ChildrenFacts.{enumerate_from-append}
 
 -- the links with one more row
-links_push : (locations : LocationData) (before : List TransferRow) (r : TransferRow) (at : ℕ) → at ≡ length before + 2
-    → links_of locations (before ++ r ∷ []) ≡ links_of locations before ++ filter_map
-    (λ (x : ℕ × TransferRow). link_of locations x.0 x.1) ((at, r) ∷ [])
-links_push locations before r at is =
+links_push : (places : PlaceData) (before : List TransferRow) (r : TransferRow) (at : ℕ) → at ≡ length before + 2
+    → links_of places (before ++ r ∷ []) ≡ links_of places before ++ filter_map
+    (λ (x : ℕ × TransferRow). link_of places x.0 x.1) ((at, r) ∷ [])
+links_push places before r at is =
     let here : 2 + length before ≡ at = omega (arith, is) in
-    let link : ℕ × TransferRow → Option Link = λ x. link_of locations x.0 x.1 in
+    let link : ℕ × TransferRow → Option Link = λ x. link_of places x.0 x.1 in
     ap (filter_map link) (enumerate_from-append 2 before (r ∷ []))
     ∙ filter_map-append link (enumerate_from 2 before) ((2 + length before, r) ∷ [])
-    ∙ (λ k. links_of locations before ++ filter_map link ((here k, r) ∷ []))
+    ∙ (λ k. links_of places before ++ filter_map link ((here k, r) ∷ []))
 
-pub transfers_more : (locations : LocationData) (a b : Transfers) (before : List TransferRow) (r : TransferRow) (at : ℕ)
-    (link : Option Link) → at ≡ length before + 2 → link ≡ link_of locations at r
-    → Takes link a b → AreTransfers locations a before → AreTransfers locations b (before ++ r ∷ [])
-transfers_more locations a b before r at (Some link) number is (links, unused) are = record {
+pub transfers_more : (places : PlaceData) (a b : Transfers) (before : List TransferRow) (r : TransferRow) (at : ℕ)
+    (link : Option Link) → at ≡ length before + 2 → link ≡ link_of places at r
+    → Takes link a b → AreTransfers places a before → AreTransfers places b (before ++ r ∷ [])
+transfers_more places a b before r at (Some link) number is (links, unused) are = record {
   links = links ∙ ap (λ (l : List Link). l ++ link ∷ []) are.links
-      ∙ sym (links_push locations before r at number ∙ rw (← is) refl);
+      ∙ sym (links_push places before r at number ∙ rw (← is) refl);
   unused = omega (
     arith,
     links,
@@ -49,57 +49,57 @@ transfers_more locations a b before r at (Some link) number is (links, unused) a
     length-append before (r ∷ []),
   );
 }
-transfers_more locations a b before r at None number is (links, unused) are = record {
-  links = links ∙ are.links ∙ sym (links_push locations before r at number
-      ∙ rw (← is) (append-nil (links_of locations before)));
+transfers_more places a b before r at None number is (links, unused) are = record {
+  links = links ∙ are.links ∙ sym (links_push places before r at number
+      ∙ rw (← is) (append-nil (links_of places before)));
   unused = omega (arith, unused, are.unused, ap length links, length-append before (r ∷ []));
 }
 
 -- the rows that give no link
-pub count_unused : (locations : LocationData) (t : Transfers) (rows : List TransferRow) →
-    AreTransfers locations t rows → t.unused ≡ unused_of locations rows
-count_unused locations t rows are = omega (arith, are.unused, ap length are.links)
+pub count_unused : (places : PlaceData) (t : Transfers) (rows : List TransferRow) →
+    AreTransfers places t rows → t.unused ≡ unused_of places rows
+count_unused places t rows are = omega (arith, are.unused, ap length are.links)
 
--- an end is a location of the feed, or stands for no stop
-end_in_range : (locations : LocationData) (id : List ℕ) → AreLocations locations →
-    IsLocation (length locations.stops) (length locations.stations) (end_of locations.names locations.locations id)
-end_in_range locations id are = by (position (bytes_eq id) locations.names)
+-- an end is a place of the feed, or stands for no stop
+end_in_range : (places : PlaceData) (id : List ℕ) → ArePlaces places →
+    IsPlace (length places.stops) (length places.stations) (end_of places.names places.places id)
+end_in_range places id are = by (position (bytes_eq id) places.names)
   where
-    at : (o : Option Location) (n : ℕ) → slice_get locations.locations n ≡ o →
-        IsLocation (length locations.stops) (length locations.stations) (unwrap_or o Other)
+    at : (o : Option Place) (n : ℕ) → slice_get places.places n ≡ o →
+        IsPlace (length places.stops) (length places.stations) (unwrap_or o Other)
     at None n e = tt
-    at (Some location) n e =
-        let in_range : Location → Type 0 = IsLocation (length locations.stops) (length locations.stations) in
-        subst in_range (get_or_from_slice_get locations.locations n location Other e)
-        (are.in_range n Other (slice_get_within locations.locations n location e))
+    at (Some place) n e =
+        let in_range : Place → Type 0 = IsPlace (length places.stops) (length places.stations) in
+        subst in_range (get_or_from_slice_get places.places n place Other e)
+        (are.in_range n Other (slice_get_within places.places n place e))
 
-    by : (o : Option ℕ) → IsLocation (length locations.stops) (length locations.stations)
-        (unwrap_or (option_and_then (slice_get locations.locations) o) Other)
+    by : (o : Option ℕ) → IsPlace (length places.stops) (length places.stations)
+        (unwrap_or (option_and_then (slice_get places.places) o) Other)
     by None = tt
-    by (Some n) = at (slice_get locations.locations n) n refl
+    by (Some n) = at (slice_get places.places n) n refl
 
-links_from : (locations : LocationData) → AreLocations locations → (rows : List (ℕ × TransferRow))
-    → All (IsLink (length locations.stops) (length locations.stations))
-    (filter_map (λ (x : ℕ × TransferRow). link_of locations x.0 x.1) rows)
-links_from locations are [] = All-nil (IsLink (length locations.stops) (length locations.stations))
-links_from locations are ((at, r) ∷ rows) =
-    by (is_used r && gives_any locations.children (link_at locations at r)) (links_from locations are rows)
+links_from : (places : PlaceData) → ArePlaces places → (rows : List (ℕ × TransferRow))
+    → All (IsLink (length places.stops) (length places.stations))
+    (filter_map (λ (x : ℕ × TransferRow). link_of places x.0 x.1) rows)
+links_from places are [] = All-nil (IsLink (length places.stops) (length places.stations))
+links_from places are ((at, r) ∷ rows) =
+    by (is_used r && gives_any places.children (link_at places at r)) (links_from places are rows)
   where
-    by : (b : Bool) → All (IsLink (length locations.stops) (length locations.stations))
-        (filter_map (λ (x : ℕ × TransferRow). link_of locations x.0 x.1) rows)
-        → All (IsLink (length locations.stops) (length locations.stations))
-        (cons_option (if b then Some (link_at locations at r) else None)
-        (filter_map (λ (x : ℕ × TransferRow). link_of locations x.0 x.1) rows))
+    by : (b : Bool) → All (IsLink (length places.stops) (length places.stations))
+        (filter_map (λ (x : ℕ × TransferRow). link_of places x.0 x.1) rows)
+        → All (IsLink (length places.stops) (length places.stations))
+        (cons_option (if b then Some (link_at places at r) else None)
+        (filter_map (λ (x : ℕ × TransferRow). link_of places x.0 x.1) rows))
     by true rest =
-        All-cons (IsLink (length locations.stops) (length locations.stations)) (link_at locations at r) _
-        (record { origin = end_in_range locations r.from are; target = end_in_range locations r.to are }) rest
+        All-cons (IsLink (length places.stops) (length places.stations)) (link_at places at r) _
+        (record { origin = end_in_range places r.from are; target = end_in_range places r.to are }) rest
     by false rest = rest
 
--- the ends of all links are locations of the feed
-pub links_in_range : (locations : LocationData) (rows : List TransferRow) (links : List Link) → AreLocations locations →
-    links ≡ links_of locations rows
-    → All (IsLink (length locations.stops) (length locations.stations)) links
-links_in_range locations rows links are is = rw is (links_from locations are (enumerate_from 2 rows))
+-- the ends of all links are places of the feed
+pub links_in_range : (places : PlaceData) (rows : List TransferRow) (links : List Link) → ArePlaces places →
+    links ≡ links_of places rows
+    → All (IsLink (length places.stops) (length places.stations)) links
+links_in_range places rows links are is = rw is (links_from places are (enumerate_from 2 rows))
 
 -- the rows behind a header, or none where there is no header
 pub rows_after : (records rest : List (List (List ℕ))) (found : Bool) (fields : List (List ℕ)) →
@@ -114,7 +114,7 @@ few_after bytes [] rest found fields is few g = rw (g.1) (omega arith)
 few_after bytes (r ∷ rs) rest found fields is few g = rw (g.2) (few_records bytes r rs (sym is) few)
 
 -- what a row of a type gives
-module _ (locations : LocationData) (names : List (List ℕ)) (at : ℕ) (r : TransferRow) (kind : ℕ) (of : Some kind
+module _ (places : PlaceData) (names : List (List ℕ)) (at : ℕ) (r : TransferRow) (kind : ℕ) (of : Some kind
     ≡ kind_of r.kind) where
   pub used_by : is_used r ≡ (nat_le kind 2 && is_general r && is_whole r)
   used_by = rw (← of) refl
@@ -123,7 +123,7 @@ module _ (locations : LocationData) (names : List (List ℕ)) (at : ℕ) (r : Tr
   change_by = rw (← of) refl
 
   -- none where the row is not used
-  pub skips : is_used r ≡ false → (checks names [] r ≡ []) × (None ≡ link_of locations at r)
+  pub skips : is_used r ≡ false → (checks names [] r ≡ []) × (None ≡ link_of places at r)
   skips unused = (rw (unused, ← of) refl, rw unused refl)
 
   -- and otherwise the link, if it gives a pair
@@ -131,10 +131,10 @@ module _ (locations : LocationData) (names : List (List ℕ)) (at : ℕ) (r : Tr
     pub checks_used : checks names [] r ≡ used_checks names r
     checks_used = rw (used, ← of) refl
 
-    pub gives : (link : Link) (b : Bool) → used_checks names r ≡ [] → link ≡ link_at locations at r →
-        b ≡ gives_any locations.children link
-        → (checks names [] r ≡ []) × ((if b then Some link else None) ≡ link_of locations at r)
+    pub gives : (link : Link) (b : Bool) → used_checks names r ≡ [] → link ≡ link_at places at r →
+        b ≡ gives_any places.children link
+        → (checks names [] r ≡ []) × ((if b then Some link else None) ≡ link_of places at r)
     gives link b none is pair =
-        let here : gives_any locations.children (link_at locations at r) ≡ b =
-        ap (gives_any locations.children) (sym is) ∙ sym pair in
+        let here : gives_any places.children (link_at places at r) ≡ b =
+        ap (gives_any places.children) (sym is) ∙ sym pair in
         (checks_used ∙ none, rw (used, here) (ap (λ (x : Link). if b then Some x else None) is))

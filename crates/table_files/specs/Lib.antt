@@ -7,5 +7,5 @@ pub mod Frequencies
 pub mod FeedTrips
 pub mod Children
 pub mod Ends
-pub mod Locations
+pub mod Places
 pub mod Transfers

@@ -19,14 +19,14 @@ use Rattle.table_records.specs.declared.fault.FileName.TheVariants as file
 use Rattle.table_records.specs.declared.fault.What.{What}
 use Rattle.table_records.specs.declared.fault.What.TheVariants as what
 use Rattle.timetable.specs.declared.trips.StopNo.{StopNo}
-use Rattle.table_files.specs.declared.location.Location.{Location}
-use Rattle.table_files.specs.declared.location.Location.TheVariants.{Other}
+use Rattle.table_files.specs.declared.place.Place.{Place}
+use Rattle.table_files.specs.declared.place.Place.TheVariants.{Other}
 use Rattle.table_files.specs.declared.transfers.Link.{Link}
 use Rattle.table_files.specs.declared.transfers.TransferColumns.{TransferColumns}
 use Rattle.table_files.specs.declared.transfers.Transfers.{Transfers}
-use Rattle.table_files.specs.Children.{IsLocation, stops_at}
+use Rattle.table_files.specs.Children.{IsPlace, stops_at}
 use Rattle.table_files.specs.Ends.{pairs_between}
-use Rattle.table_files.specs.Locations.{LocationData, kind_of, location_named}
+use Rattle.table_files.specs.Places.{PlaceData, kind_of, place_named}
 
 -- the fields of a record that are read
 pub record TransferRow : Type 0 where
@@ -88,11 +88,11 @@ abbrev pub is_minimum : Option ℕ → Bool
 is_minimum None = false
 is_minimum (Some kind) = kind == 2
 
--- the row states a change time: a minimum time from a location to itself
+-- the row states a change time: a minimum time from a place to itself
 abbrev pub is_change : TransferRow → Bool
 is_change r = is_minimum (kind_of r.kind) && bytes_eq r.from r.to
 
--- what is wrong with a row that is used, in the order of the checks, by the identifiers of all locations
+-- what is wrong with a row that is used, in the order of the checks, by the identifiers of all places
 abbrev pub used_checks : List (List ℕ) → TransferRow → List What
 used_checks names r =
     when (is_none (position (bytes_eq r.from) names)) what.UnknownStop
@@ -112,15 +112,15 @@ transfer_rows bytes = table_rows row_of (records_of bytes)
 abbrev pub transfer_faults : List (List ℕ) → List ℕ → List FeedFault
 transfer_faults names bytes = faults_after file.Transfers (checks names) [] (transfer_rows bytes)
 
--- the location that an end names
-abbrev pub end_of : List (List ℕ) → List Location → List ℕ → Location
-end_of names locations id = unwrap_or (location_named names locations id) Other
+-- the place that an end names
+abbrev pub end_of : List (List ℕ) → List Place → List ℕ → Place
+end_of names places id = unwrap_or (place_named names places id) Other
 
 -- the values of a record with its number
-abbrev pub link_at : LocationData → ℕ → TransferRow → Link
-link_at locations at r = record {
-  origin = end_of locations.names locations.locations r.from;
-  target = end_of locations.names locations.locations r.to;
+abbrev pub link_at : PlaceData → ℕ → TransferRow → Link
+link_at places at r = record {
+  origin = end_of places.names places.places r.from;
+  target = end_of places.names places.places r.to;
   seconds = unwrap_or (number_of r.time) 0;
   changes = is_change r;
   at = at;
@@ -147,22 +147,22 @@ abbrev pub gives_any : List (List StopNo) → Link → Bool
 gives_any children link = gives_pair children link || gives_change children link
 
 -- the link of a row that is used and gives a pair or a change time
-abbrev pub link_of : LocationData → ℕ → TransferRow → Option Link
-link_of locations at r = if is_used r && gives_any locations.children (link_at locations at r) then Some
-    (link_at locations at r) else None
+abbrev pub link_of : PlaceData → ℕ → TransferRow → Option Link
+link_of places at r = if is_used r && gives_any places.children (link_at places at r) then Some
+    (link_at places at r) else None
 
 -- the links of the rows, each with the number of its record
-abbrev pub links_of : LocationData → List TransferRow → List Link
-links_of locations rows = filter_map (λ x. link_of locations x.0 x.1) (enumerate_from 2 rows)
+abbrev pub links_of : PlaceData → List TransferRow → List Link
+links_of places rows = filter_map (λ x. link_of places x.0 x.1) (enumerate_from 2 rows)
 
 -- how many rows give no link
-abbrev pub unused_of : LocationData → List TransferRow → ℕ
-unused_of locations rows = length rows - length (links_of locations rows)
+abbrev pub unused_of : PlaceData → List TransferRow → ℕ
+unused_of places rows = length rows - length (links_of places rows)
 
--- both ends of a link are locations with these numbers of stops and stations
+-- both ends of a link are places with these numbers of stops and stations
 pub record IsLink (stops stations : ℕ) (link : Link) : Type 0 where
-  pub origin : IsLocation stops stations link.origin
-  pub target : IsLocation stops stations link.target
+  pub origin : IsPlace stops stations link.origin
+  pub target : IsPlace stops stations link.target
 
 -- a row's link stands after the others, or the row is counted as unused
 abbrev pub Takes : Option Link → Transfers → Transfers → Type 0
@@ -170,6 +170,6 @@ Takes (Some link) old new = (new.links.items ≡ old.links.items ++ link ∷ [])
 Takes None old new = (new.links.items ≡ old.links.items) × (new.unused ≡ old.unused + 1)
 
 -- what the rows make
-pub record AreTransfers (locations : LocationData) (t : Transfers) (rows : List TransferRow) : Type 0 where
-  pub links : t.links.items ≡ links_of locations rows
+pub record AreTransfers (places : PlaceData) (t : Transfers) (rows : List TransferRow) : Type 0 where
+  pub links : t.links.items ≡ links_of places rows
   pub unused : t.unused + length t.links.items ≡ length rows

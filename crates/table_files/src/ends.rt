@@ -6,7 +6,7 @@ ghost use Rattle.table_files.specs.Ends as spec;
 
 use timetable::StopNo;
 
-/// The stops that a location stands for: a stop stands for itself, a station for its stops, another for none.
+/// The stops that a place stands for: a stop stands for itself, a station for its stops, another for none.
 #[derive(Clone, Copy, Drop)]
 pub enum Ends<'a> {
     /// One stop.

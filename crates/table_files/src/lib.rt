@@ -2,14 +2,14 @@
 //! them. (GTFS Schedule reference: `stops.txt`, `routes.txt`, `calendar.txt`, `calendar_dates.txt`, `trips.txt`,
 //! `frequencies.txt`, `transfers.txt`.)
 //!
-//! - [`read_locations`] gives the stops, stations and other locations, and the stops of each station.
+//! - [`read_places`] gives the stops, stations and other places, and the stops of each station.
 //! - [`read_routes`] gives the identifiers of the routes, and [`read_feed_trips`] the trips with their routes and
 //!   services.
 //! - [`read_calendar`] and [`read_calendar_dates`] give the days of the services.
 //! - [`read_frequencies`] gives the departures of the trips that run at a headway.
 //! - [`read_transfers`] gives the walks between stops and stations.
 //!
-//! Beside the readers stand `children` and `ends` (the stops for which a location stands). `stop_times.txt` is read by
+//! Beside the readers stand `children` and `ends` (the stops for which a place stands). `stop_times.txt` is read by
 //! `trip_events`. `specs/` has one module per file, with its checks in their order.
 #![tactic(auto)]
 
@@ -20,8 +20,8 @@ mod days;
 mod ends;
 mod feed_trips;
 mod frequencies;
-mod location;
-mod locations;
+mod place;
+mod places;
 mod routes;
 mod services;
 mod transfers;
@@ -32,7 +32,7 @@ pub use children::Children;
 pub use ends::Ends;
 pub use feed_trips::{FeedTrips, TripNumbers, feed_trip_checks, read_feed_trips};
 pub use frequencies::{Departures, frequency_checks, no_departures, read_frequencies};
-pub use location::Location;
-pub use locations::{Locations, location_checks, read_locations};
+pub use place::Place;
+pub use places::{Places, place_checks, read_places};
 pub use routes::{read_routes, route_checks};
 pub use transfers::{Link, Transfers, read_transfers, transfer_checks};

@@ -12,8 +12,8 @@ ghost use Rattle.table_records.specs.declared.limits.TheConstants.{MOST_BYTES};
 ghost use Rattle.table_files.specs.Transfers as spec;
 
 use crate::ends::have_pair;
-use crate::location::Location;
-use crate::locations::{Locations, kind_number};
+use crate::place::Place;
+use crate::places::{Places, kind_number};
 use csv::ByteRecord;
 use std::alloc::{AllocError, Global};
 use table_records::{
@@ -21,12 +21,12 @@ use table_records::{
     number, read_records, trim,
 };
 
-/// A walk from one location to another, as a row of `transfers.txt` states it. A station stands for all its stops.
-/// A row of type 2 from a location to itself states a change time too: the least that a change of vehicles takes there.
+/// A walk from one place to another, as a row of `transfers.txt` states it. A station stands for all its stops.
+/// A row of type 2 from a place to itself states a change time too: the least that a change of vehicles takes there.
 #[derive(Clone, Copy, Debug, PartialEq, Eq)]
 pub struct Link {
-    pub origin: Location,
-    pub target: Location,
+    pub origin: Place,
+    pub target: Place,
     /// How long the walk takes, or the change.
     pub seconds: u32,
     /// Whether the row states a change time, for the stop or for each stop of the station.
@@ -47,8 +47,8 @@ const CHECKS: Checks = Checks {
     required: &[],
     fields: &[
         Check(b"transfer_type", Rule::OpenNumber, What::BadNumber),
-        Check(b"from_stop_id", Rule::Location, What::UnknownStop),
-        Check(b"to_stop_id", Rule::Location, What::UnknownStop),
+        Check(b"from_stop_id", Rule::Place, What::UnknownStop),
+        Check(b"to_stop_id", Rule::Place, What::UnknownStop),
         Check(b"min_transfer_time", Rule::Number, What::BadNumber),
     ],
 };
@@ -120,11 +120,11 @@ impl TransferColumns {
     }
 }
 
-/// A reader of `transfers.txt`, whose records name the feed's locations.
+/// A reader of `transfers.txt`, whose records name the feed's places.
 #[derive(Drop)]
 pub struct TransferReader<'a> {
     pub columns: TransferColumns,
-    pub locations: &'a Locations,
+    pub places: &'a Places,
 }
 
 impl<'a> TransferReader<'a> {
@@ -134,19 +134,19 @@ impl<'a> TransferReader<'a> {
     // The values of a row that is used, and states a change time or none.
     fn link(&self, at: u64, changes: bool, row: &ByteRecord) -> Result<Link, FeedFault>
         requires { changes ≡ is_change (row_at self.now.columns (fields_of row.now)) }
-        ensures good { IfOk result (λ link. (used_checks self.now.locations.now.names
+        ensures good { IfOk result (λ link. (used_checks self.now.places.now.names
             (row_at self.now.columns (fields_of row.now)) ≡ [])
-            × (link ≡ link_at self.now.locations.now at (row_at self.now.columns (fields_of row.now)))) }
-        ensures in_range { IfOk result (λ link. IsLink (length self.now.locations.now.stops)
-            (length self.now.locations.now.stations) link) }
+            × (link ≡ link_at self.now.places.now at (row_at self.now.columns (fields_of row.now)))) }
+        ensures in_range { IfOk result (λ link. IsLink (length self.now.places.now.stops)
+            (length self.now.places.now.stations) link) }
         ensures fault { IfErr result (λ e. IsFirst e
             (map (λ w. record { file = file_name.Transfers; at = at; what = w })
-            (used_checks self.now.locations.now.names (row_at self.now.columns (fields_of row.now))))) }
+            (used_checks self.now.places.now.names (row_at self.now.columns (fields_of row.now))))) }
     {
-        let Some(origin) = self.locations.location(field(row, self.columns.from)) else {
+        let Some(origin) = self.places.place(field(row, self.columns.from)) else {
             return Err(FeedFault::at(FileName::Transfers, at, What::UnknownStop));
         };
-        let Some(target) = self.locations.location(field(row, self.columns.to)) else {
+        let Some(target) = self.places.place(field(row, self.columns.to)) else {
             return Err(FeedFault::at(FileName::Transfers, at, What::UnknownStop));
         };
         let Some(seconds) = number(trim(field(row, self.columns.time))) else {
@@ -163,12 +163,12 @@ impl<'a> TransferReader<'a> {
 
     // The link of a row, if it gives a walk or a change time.
     fn link_in(&self, at: u64, row: &ByteRecord) -> Result<Option<Link>, FeedFault>
-        ensures good { IfOk result (λ link. (checks self.now.locations.now.names []
+        ensures good { IfOk result (λ link. (checks self.now.places.now.names []
             (row_at self.now.columns (fields_of row.now)) ≡ [])
-            × (link ≡ link_of self.now.locations.now at (row_at self.now.columns (fields_of row.now)))) }
+            × (link ≡ link_of self.now.places.now at (row_at self.now.columns (fields_of row.now)))) }
         ensures fault { IfErr result (λ e. IsFirst e
             (map (λ w. record { file = file_name.Transfers; at = at; what = w })
-            (checks self.now.locations.now.names [] (row_at self.now.columns (fields_of row.now))))) }
+            (checks self.now.places.now.names [] (row_at self.now.columns (fields_of row.now))))) }
     {
         let Some(kind) = kind_number(trim(field(row, self.columns.kind))) else {
             return Err(FeedFault::at(FileName::Transfers, at, What::BadNumber));
@@ -185,28 +185,28 @@ impl<'a> TransferReader<'a> {
 
     // Whether a link gives a pair or a change time.
     fn gives_any(&self, link: Link) -> bool
-        requires { IsLink (length self.now.locations.now.stops) (length self.now.locations.now.stations) link }
-        ensures { result ≡ spec.gives_any self.now.locations.now.children link }
+        requires { IsLink (length self.now.places.now.stops) (length self.now.places.now.stations) link }
+        ensures { result ≡ spec.gives_any self.now.places.now.children link }
     {
         self.gives_pair(link) || self.gives_change(link)
     }
 
     // Whether a link states a change time for some stop.
     fn gives_change(&self, link: Link) -> bool
-        requires { IsLink (length self.now.locations.now.stops) (length self.now.locations.now.stations) link }
-        ensures { result ≡ spec.gives_change self.now.locations.now.children link }
+        requires { IsLink (length self.now.places.now.stops) (length self.now.places.now.stations) link }
+        ensures { result ≡ spec.gives_change self.now.places.now.children link }
     {
-        let stops = self.locations.stops_at(link.origin);
+        let stops = self.places.stops_at(link.origin);
         link.changes && !stops.as_slice().is_empty()
     }
 
     // Whether a link's ends give a pair of different stops.
     fn gives_pair(&self, link: Link) -> bool
-        requires { IsLink (length self.now.locations.now.stops) (length self.now.locations.now.stations) link }
-        ensures { result ≡ spec.gives_pair self.now.locations.now.children link }
+        requires { IsLink (length self.now.places.now.stops) (length self.now.places.now.stations) link }
+        ensures { result ≡ spec.gives_pair self.now.places.now.children link }
     {
-        let from = self.locations.stops_at(link.origin);
-        let to = self.locations.stops_at(link.target);
+        let from = self.places.stops_at(link.origin);
+        let to = self.places.stops_at(link.target);
         have_pair(from.as_slice(), to.as_slice())
     }
 }
@@ -240,9 +240,9 @@ impl<'a> RecordReader for TransferReader<'a> {
 
     ghost row_of = { λ s. row_at s.columns };
 
-    ghost checks = { λ s. checks s.locations.now.names };
+    ghost checks = { λ s. checks s.places.now.names };
 
-    ghost After = { λ s _ rows now. AreTransfers s.locations.now now rows };
+    ghost After = { λ s _ rows now. AreTransfers s.places.now now rows };
 
     ghost HasRoom = { λ _ table at. table.unused + 2 ≤ at };
 
@@ -291,18 +291,14 @@ fn open_file(alloc: Global, bytes: &[u8]) -> Result<OpenTable<'_>, AllocError>
 /// A row counts where its type is empty or at most 2, it names no route and no trip, it has a `min_transfer_time`, and
 /// its ends stand for two different stops at least, or its type is 2 and its two ends are one stop or one station with
 /// stops; all other rows are counted as unused. The bytes are at most 2^30, the limit of an input file.
-pub fn read_transfers(
-    alloc: Global,
-    bytes: &[u8],
-    locations: &Locations,
-) -> Result<Transfers, FeedFault>
+pub fn read_transfers(alloc: Global, bytes: &[u8], places: &Places) -> Result<Transfers, FeedFault>
     requires { length bytes.now ≤ MOST_BYTES }
-    ensures good { IfOk result (λ t. (spec.transfer_faults locations.now.names bytes.now ≡ [])
-        × (t.links.items ≡ spec.links_of locations.now (spec.transfer_rows bytes.now))
-        × (t.unused ≡ spec.unused_of locations.now (spec.transfer_rows bytes.now))) }
-    ensures in_range { IfOk result (λ t. All (spec.IsLink (length locations.now.stops) (length locations.now.stations))
+    ensures good { IfOk result (λ t. (spec.transfer_faults places.now.names bytes.now ≡ [])
+        × (t.links.items ≡ spec.links_of places.now (spec.transfer_rows bytes.now))
+        × (t.unused ≡ spec.unused_of places.now (spec.transfer_rows bytes.now))) }
+    ensures in_range { IfOk result (λ t. All (spec.IsLink (length places.now.stops) (length places.now.stations))
         t.links.items) }
-    ensures fault { IfErr result (λ e. Tells e (spec.transfer_faults locations.now.names bytes.now)) }
+    ensures fault { IfErr result (λ e. Tells e (spec.transfer_faults places.now.names bytes.now)) }
 {
     let mut file = open_file(alloc, bytes)?;
     let mut transfers = Transfers {
@@ -311,10 +307,10 @@ pub fn read_transfers(
     };
     let reader = TransferReader {
         columns: columns_in(&file.header),
-        locations,
+        places,
     };
     let read = read_records(alloc, &reader, &mut transfers, &mut file.rows);
     drop(file);
-    locations.known();
+    places.known();
     read.and(Ok(transfers))
 }

@@ -17,8 +17,8 @@ pub enum Rule {
     OnceInTrip,
     /// A stop.
     Stop,
-    /// A stop, a station or another location.
-    Location,
+    /// A stop, a station or another place.
+    Place,
     /// A route.
     Route,
     /// A trip.

@@ -7,8 +7,8 @@ use std::alloc::{AllocError, AllocFailed};
 
 /// The files that are read, in the order in which they are read.
 ///
-/// `Stops` to `Transfers` are the files of a GTFS feed. `Footpaths` is a table of walks, and `Origins` and
-/// `Opportunities` name stops of the feed.
+/// `Stops` to `Transfers` are the files of a GTFS feed. `Footpaths` is a table of walks; `Origins`,
+/// `Opportunities` and `Destinations` name stops of the feed.
 #[derive(Clone, Copy, Debug, PartialEq, Eq)]
 pub enum FileName {
     Stops,
@@ -22,6 +22,7 @@ pub enum FileName {
     Footpaths,
     Origins,
     Opportunities,
+    Destinations,
 }
 
 /// What is wrong with a file or one of its records.

@@ -2,9 +2,9 @@
 //! calls.
 //!
 //! - `records`: records, columns, fields and identifiers.
-//! - `calendar`, `calendar_dates`, `feed_trips`, `frequencies`, `locations`, `routes`, `stop_times`, `transfers`: one
+//! - `calendar`, `calendar_dates`, `feed_trips`, `frequencies`, `places`, `routes`, `stop_times`, `transfers`: one
 //!   file each.
-//! - `feeds`, `feed_locations`, `origins`: whole feeds (`test_feeds`), and an analyst's own files.
+//! - `feeds`, `feed_places`, `origins`: whole feeds (`test_feeds`), and an analyst's own files.
 //! Files that are refused are data (`tests/program/fault_cases.py`), and so are those past a limit (`test_sizes.py`).
 //!
 //! - `test_identifiers`: identifiers of trips, stops, routes and services, which several of these are read beside.
@@ -15,7 +15,7 @@ mod calendar;
 #[cfg(test)]
 mod calendar_dates;
 #[cfg(test)]
-mod feed_locations;
+mod feed_places;
 #[cfg(test)]
 mod feed_trips;
 #[cfg(test)]
@@ -23,9 +23,9 @@ mod feeds;
 #[cfg(test)]
 mod frequencies;
 #[cfg(test)]
-mod locations;
-#[cfg(test)]
 mod origins;
+#[cfg(test)]
+mod places;
 #[cfg(test)]
 mod records;
 #[cfg(test)]

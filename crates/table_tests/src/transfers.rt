@@ -5,14 +5,14 @@ ghost use Rattle.table_records.specs.declared.limits.TheConstants.{MOST_BYTES};
 
 use std::alloc::Global;
 use std::test::Fail;
-use table_files::{Link, Location, Locations, Transfers, read_locations, read_transfers};
+use table_files::{Link, Place, Places, Transfers, read_places, read_transfers};
 use table_records::FeedFault;
 use timetable::StopNo;
 
 // Stops A and B, station S with the stops B and C, the empty station T, and an entrance E. They stand in a box, so that
 // whoever holds them drops them in one step.
-fn some_places(alloc: Global) -> Option<Box<Locations>> {
-    match read_locations(
+fn some_places(alloc: Global) -> Option<Box<Places>> {
+    match read_places(
         alloc,
         b"stop_id,location_type,parent_station\nA,,\nB,,S\nS,1,\nC,0,S\nT,1,\nE,2,S\n",
     ) {
@@ -41,22 +41,22 @@ fn gives(alloc: Global, bytes: &[u8], links: &[Link], unused: u32) -> Result<boo
 #[test]
 fn stops_and_stations_are_linked(rt: HostRuntime) -> Result<(), Fail> {
     let walk = Link {
-        origin: Location::Stop(StopNo(0)),
-        target: Location::Stop(StopNo(1)),
+        origin: Place::Stop(StopNo(0)),
+        target: Place::Stop(StopNo(1)),
         seconds: 60,
         changes: false,
         at: 2,
     };
     let change = Link {
-        origin: Location::Station(0),
-        target: Location::Station(0),
+        origin: Place::Station(0),
+        target: Place::Station(0),
         seconds: 30,
         changes: false,
         at: 3,
     };
     let short = Link {
-        origin: Location::Stop(StopNo(1)),
-        target: Location::Station(0),
+        origin: Place::Stop(StopNo(1)),
+        target: Place::Station(0),
         seconds: 0,
         changes: false,
         at: 4,
@@ -75,8 +75,8 @@ fn stops_and_stations_are_linked(rt: HostRuntime) -> Result<(), Fail> {
 #[test]
 fn rows_without_a_walk_are_counted(rt: HostRuntime) -> Result<(), Fail> {
     let walk = Link {
-        origin: Location::Stop(StopNo(0)),
-        target: Location::Stop(StopNo(1)),
+        origin: Place::Stop(StopNo(0)),
+        target: Place::Stop(StopNo(1)),
         seconds: 60,
         changes: false,
         at: 10,
@@ -98,15 +98,15 @@ A,B,3,60,,\nA,B,2,60,R1,\nA,Z,2,x,,T1\nA,B,2,  ,,\nA,,2,60,,\nA,A,0,60,,\nS,T,2,
 #[test]
 fn change_times_are_stated(rt: HostRuntime) -> Result<(), Fail> {
     let stop = Link {
-        origin: Location::Stop(StopNo(0)),
-        target: Location::Stop(StopNo(0)),
+        origin: Place::Stop(StopNo(0)),
+        target: Place::Stop(StopNo(0)),
         seconds: 60,
         changes: true,
         at: 2,
     };
     let station = Link {
-        origin: Location::Station(0),
-        target: Location::Station(0),
+        origin: Place::Station(0),
+        target: Place::Station(0),
         seconds: 4_294_967_295,
         changes: true,
         at: 3,

@@ -304,7 +304,7 @@ def too_many_footpaths(feed: Feed, table: Table) -> Iterator[Fault]:
 
 def footpaths_of(table: Table, stops: Table) -> Whole:
     """How many footpaths each row of transfers.txt makes: from each stop of its first end to each other one of its
-    second, where a station stands for its children, and another location for none.
+    second, where a station stands for its children, and another place for none.
     """
     places: dict[str, int] = {}
     for place, code in enumerate(stops["stop_id"].codes):
@@ -315,14 +315,14 @@ def footpaths_of(table: Table, stops: Table) -> Whole:
     parents = np.where(is_stop & (parents >= 0) & is_station[parents], parents, -1)
     children = np.bincount(parents[parents >= 0], minlength=len(stops))
     sizes = np.append(np.where(is_stop, 1, np.where(is_station, children, 0)), 0)
-    parents = np.append(parents, -2)  # that of a location that isn't known
+    parents = np.append(parents, -2)  # that of a place that isn't known
     a, b = (ends_at(table[name], places) for name in ("from_stop_id", "to_stop_id"))
     shared = np.where(a == b, sizes[a], ((parents[a] == b) | (parents[b] == a)).astype(np.int64))
     return np.where((a >= 0) & (b >= 0), sizes[a] * sizes[b] - shared, 0)
 
 
 def ends_at(column: Column, places: dict[str, int]) -> Whole:
-    """The place of each record's location; -1 where it isn't known."""
+    """The place of each record's place; -1 where it isn't known."""
     return np.array([places.get(text, -1) for text in column.values] or [-1], dtype=np.int64)[column.codes]
 
 

@@ -4,7 +4,7 @@ use Rattle.std.proofs.lemmas.List.{length-replicate}
 use Rattle.timetable.specs.declared.trips.StopNo.{StopNo}
 use Rattle.timetable.specs.declared.limits.TheConstants.{MOST_CHANGE_SECONDS}
 use Rattle.table_files.specs.declared.transfers.Link.{Link}
-use Rattle.table_files.specs.declared.location.Location.TheVariants.{Stop}
+use Rattle.table_files.specs.declared.place.Place.TheVariants.{Stop}
 use Rattle.table_files.specs.Transfers.{changes_at}
 use Rattle.footpaths.specs.Changes.{change_of, has_stop, longer}
 use Rattle.footpaths.proofs.ChangeFacts.{change_more, change_stops, changes_all, changes_each, changes_short}

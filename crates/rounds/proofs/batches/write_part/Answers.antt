@@ -4,9 +4,10 @@ use Rattle.std.proofs.lemmas.Bool.{cases_lt}
 use Rattle.std.proofs.lemmas.List.{length-set}
 use Rattle.trip_lanes.specs.Lane.{lane, labels_in}
 use Rattle.trip_lanes.specs.Since.{IsSinceTo}
+use Rattle.useful_minutes.proofs.Filled.{position_before}
 use Rattle.rounds.specs.State.{arrival}
 use Rattle.rounds.proofs.BatchRows.{lower_arrival}
-use Rattle.rounds.proofs.Filling.{position_before, placed, apart}
+use Rattle.rounds.proofs.Filling.{placed, apart}
 use Rattle.rounds.proofs.batches.write_part.Goals as goal
 
 pub since-requires-clause-fits : goal.since-requires-clause-fits

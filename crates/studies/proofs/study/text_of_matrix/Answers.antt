@@ -1,7 +1,7 @@
 use Rattle.std.proofs.Common.{◌<◌, ◌++◌, ◌∙◌, ℕ, List, All, Vec, ap, length, map, refl, subst, sym}
 use Rattle.std.specs.declared.alloc.Global.{Global}
 use Rattle.gtfs_tables.specs.Feed.{FeedData}
-use Rattle.gtfs_tables.specs.Origins.{origins_of}
+use Rattle.gtfs_tables.specs.Origins.{destinations_of, origins_of}
 use Rattle.timetable.specs.declared.trips.StopNo.{StopNo}
 use Rattle.matrix_text.specs.Text.{LabelData, matrix_text}
 use Rattle.studies.specs.Inputs.{inputs_of}
@@ -42,7 +42,7 @@ returns-in-Ok-clause-text c =
     let shares = c.as_slice-3.ensures.value ∙ ap (λ (s : SettingsData). s.shares) c.settings.view_is in
     let limits = c.as_slice-4.ensures.value ∙ ap (λ (s : SettingsData). s.withins) c.settings.view_is in
     let destinations = c.as_slice-5.ensures.value ∙ c.requires.tables.destinations_are
-    ∙ ap (λ (d : FeedData). origins_of i.destinations d) c.requires.feed in
+    ∙ ap (λ (d : FeedData). destinations_of i.destinations d) c.requires.feed in
     let labels = labels_are i c.args.settings.now (map (λ v. v.items) c.as_slice.result.now) c.as_slice-2.result.now
     c.as_slice-3.result.now c.as_slice-4.result.now c.as_slice-5.result.now c.args.feed.now.stops names origins
     shares limits destinations stops in

@@ -78,7 +78,6 @@ network_parts-requires-clause-read g c =
     let is = is_feed i s c.in_ok-feed.feed.value feed c.as_ref-feed.ensures c.in_ok-feed.ensures.good
     c.in_ok-feed.ensures.feed in
     are_read i s feed (are_named i s c.in_ok-check_names.ensures.good) is c.in_ok-tables.ensures.good
-    c.in_ok-tables.ensures.named
 
 pub returns-in_err-parts-clause-run : goal.returns-in_err-parts-clause-run
 returns-in_err-parts-clause-run g c =

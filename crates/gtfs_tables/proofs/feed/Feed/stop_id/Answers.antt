@@ -5,6 +5,6 @@ use Rattle.gtfs_tables.proofs.feed.Feed.stop_id.Goals as goal
 
 pub returns-clause-leads_back : goal.returns-clause-leads_back
 returns-clause-leads_back c =
-    let here : slice_get c.self.inside.locations.stops c.args.stop.0 ≡ Some c.in-Some.id.now = cc c.in-Some.ensures in
-    rw (← c.self.view_is) (position_of c.self.inside.locations.stops c.args.stop.0 c.in-Some.id.now
+    let here : slice_get c.self.inside.places.stops c.args.stop.0 ≡ Some c.in-Some.id.now = cc c.in-Some.ensures in
+    rw (← c.self.view_is) (position_of c.self.inside.places.stops c.args.stop.0 c.in-Some.id.now
     c.self.invariant.0.distinct_stops here)

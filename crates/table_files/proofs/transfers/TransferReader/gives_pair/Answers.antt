@@ -6,7 +6,7 @@ use Rattle.table_files.proofs.transfers.TransferReader.gives_pair.Goals as goal
 
 pub returns : goal.returns
 returns c =
-    let children = c.args.self.now.locations.now.children in
+    let children = c.args.self.now.places.now.children in
     let from = c.as_slice.ensures ∙ c.stops_at-from.ensures in
     let to = c.as_slice-2.ensures ∙ c.stops_at-to.ensures in
     c.have_pair.ensures ∙ (λ k. have_pair (from k) (to k))

@@ -15,6 +15,6 @@ returns-clause-good c start before at are =
     let r : TransferRow = row_at c.args.self.now.columns (fields_of c.args.row.now) in
     let (none, is) = c.in_ok-link.ensures.good in (
       none,
-      transfers_more c.args.self.now.locations.now c.args.table.now _ before r c.args.at c.in_ok-link.link at is
+      transfers_more c.args.self.now.places.now c.args.table.now _ before r c.args.at c.in_ok-link.link at is
           c.in_ok-take.ensures are,
     )

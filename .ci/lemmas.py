@@ -1,0 +1,207 @@
+#!/usr/bin/env python3
+"""Looks in the proofs for lemmas that nothing cites, and for those that are stated and proved twice.
+
+A lemma is what a file of `crates/NAME/proofs` states and proves: not an answer to a goal of the prover, and no
+invariant. It is cited where its name stands in another lemma of its file, in a file that imports it, or in a function's
+`using`. It stands twice where its statement and proof begin with the same 4 lines as another's, whatever the names of
+the two. The last line is 'N passed, M failed'. Standard library only.
+
+A promised theorem that supports no other proof is a law: a public function with an empty body, whose contract says it.
+So its lemma is cited by that law's answer.
+"""
+
+from __future__ import annotations
+
+import re
+import sys
+from collections.abc import Iterator
+from dataclasses import dataclass, field
+from pathlib import Path
+
+ROOT = Path(__file__).resolve().parent.parent
+LINES_ALIKE = 4
+FOR_THE_PROVER = ("Answers.antt", "Invariants.antt")
+NAME = r"[^\s(){};,.:=\\→λ]+"
+STATED = re.compile(rf"(?P<words>(?:(?:pub|abbrev) )*)(?P<name>{NAME}) :(?:\s|$)")
+RULES = re.compile(rf"(?:pub )?ruleset (?P<name>{NAME}) =")
+MODULE = re.compile(r"(?:pub )?module\b")
+LISTED = re.compile(r"(?:pub |ghost )?use (?P<path>[\w.]+?)\.\{(?P<names>[^}]*)\}")
+RENAMED = re.compile(r"(?:pub |ghost )?use (?P<path>[\w.]+) as (?P<name>\w+)")
+USING = re.compile(r"(?:crate|Rattle)(?:::|\.)[\w:.]*proofs(?:::|\.)[\w:.]+")
+TOKEN = re.compile(rf"(?:{NAME}\.)*{NAME}")
+OF_A_LOOP = re.compile(r"(?:invariant|decreases)-")
+NO_LEMMAS = re.compile(r"(?:pub )?(?:use|mod|record|data)\b")
+
+
+@dataclass
+class Item:
+    """A lemma with its text, or other text of a file."""
+
+    name: str
+    at: int
+    is_answer: bool
+    lines: list[tuple[int, str]] = field(default_factory=list)
+
+
+@dataclass
+class Proof:
+    """A file of proofs."""
+
+    path: Path
+    module: str
+    items: list[Item]
+    imports: dict[str, set[tuple[str, str]]]
+    renamed: dict[str, str]
+
+
+def without_comment(line: str) -> str:
+    return re.sub(r"(?:^|\s)--(?:\s.*)?$", "", line).rstrip()
+
+
+def module_of(root: Path, path: Path) -> str:
+    """The module that a file is, as others import it."""
+    crate, *rest = path.relative_to(root / "crates").with_suffix("").parts
+    return ".".join(["Rattle", crate, *rest])
+
+
+def imports_in(text: str) -> tuple[dict[str, set[tuple[str, str]]], dict[str, str]]:
+    """The names that a text imports, each with its name here, by module; and the modules that have a name here."""
+    names: dict[str, set[tuple[str, str]]] = {}
+    for found in LISTED.finditer(text):
+        for name in filter(None, (it.strip() for it in found["names"].split(","))):
+            there, _, here = name.partition(" as ")
+            names.setdefault(found["path"], set()).add((there, here or there))
+    return names, {it["name"]: it["path"] for it in RENAMED.finditer(text)}
+
+
+def items_in(lines: list[str], for_the_prover: bool) -> list[Item]:
+    """The lemmas of a file, and its other text, by indent: what stands deeper than an item's first line is its own."""
+    items: list[Item] = []
+    bodies, header = [0], False
+    for at, whole in enumerate(lines, 1):
+        line = without_comment(whole)
+        if not line.strip():
+            continue
+        indent = len(line) - len(line.lstrip())
+        while not header and indent < bodies[-1]:
+            bodies.pop()
+        text = line.strip()
+        if not header and indent == bodies[-1]:
+            header = bool(MODULE.match(text))
+            begin_item(items, text, at, for_the_prover)
+        items[-1].lines.append((at, text))
+        if header and text.endswith("where"):
+            bodies, header = [*bodies, bodies[-1] + 2], False
+    return items
+
+
+def begin_item(items: list[Item], text: str, at: int, for_the_prover: bool) -> None:
+    """Begins an item, unless the line goes on with the one before: its equations stand at its own indent."""
+    found = None if NO_LEMMAS.match(text) or MODULE.match(text) else STATED.match(text) or RULES.match(text)
+    if found:
+        is_asked = text.startswith("pub ") or OF_A_LOOP.match(found["name"])
+        items.append(Item(found["name"], at, for_the_prover and bool(is_asked)))
+    elif not (items and items[-1].name and text.split()[0].strip("()") in (items[-1].name, "unfolding")):
+        items.append(Item("", at, False))
+
+
+def proof_at(root: Path, path: Path) -> Proof:
+    text = path.read_text()
+    imports, renamed = imports_in(text)
+    items = items_in(text.splitlines(), path.name in FOR_THE_PROVER)
+    return Proof(path, module_of(root, path), items, imports, renamed)
+
+
+def is_import(item: Item) -> bool:
+    return bool(re.match(r"(?:pub )?(?:use|mod)\b", item.lines[0][1]))
+
+
+def tokens_of(item: Item) -> set[str]:
+    return {it.strip("()") for _, line in item.lines for it in TOKEN.findall(line)}
+
+
+def cited_in(proof: Proof) -> set[tuple[str, str]]:
+    """The module and the name of each lemma that a file cites."""
+    cited: set[tuple[str, str]] = set()
+    here = {there: (module, name) for module, names in proof.imports.items() for name, there in names}
+    for item in proof.items:
+        for token in set() if is_import(item) else tokens_of(item):
+            first, *rest = token.split(".")
+            if first != item.name:
+                cited.add((proof.module, first))
+            if first in here:
+                cited.add(here[first])
+            for name in rest[:1]:
+                cited |= {(proof.renamed.get(first, proof.module), name)}
+    again = {(module, name) for module, names in imports_in(passed_on(proof))[0].items() for name, _ in names}
+    return cited | again
+
+
+def passed_on(proof: Proof) -> str:
+    """The imports that a file hands on to those that import it."""
+    given = [it for it in proof.items if it.lines[0][1].startswith("pub use")]
+    return "\n".join(" ".join(text for _, text in it.lines) for it in given)
+
+
+def cited_by_code(root: Path, path: Path) -> set[tuple[str, str]]:
+    """The module and the name of each lemma that a source file names."""
+    text = path.read_text()
+    crate = path.relative_to(root / "crates").parts[0]
+    found = {it.replace("::", ".").replace("crate.", f"Rattle.{crate}.", 1) for it in USING.findall(text)}
+    listed, _ = imports_in(text)
+    named = {(module, name) for module, names in listed.items() for name, _ in names}
+    return named | {(it.rpartition(".")[0], it.rpartition(".")[2]) for it in found}
+
+
+def uncited(root: Path, proofs: list[Proof]) -> Iterator[tuple[str, bool]]:
+    """Each lemma, and whether it is cited."""
+    cited: set[tuple[str, str]] = set()
+    for proof in proofs:
+        cited |= cited_in(proof)
+    for path in sorted((root / "crates").glob("*/src/**/*.rt")):
+        cited |= cited_by_code(root, path)
+    for proof in proofs:
+        for item in proof.items:
+            if item.name and not item.is_answer:
+                place = f"{proof.path.relative_to(root)}:{item.at}: {item.name}"
+                yield f"{place} is cited by nothing", (proof.module, item.name) in cited
+
+
+def begin_of(item: Item) -> str:
+    """The first lines of a lemma's statement and proof, but for its own name and who may cite it."""
+    name = re.compile(rf"(?<![\w.-]){re.escape(item.name)}(?![\w-])")
+    lines = [name.sub("", text) for _, text in item.lines[:LINES_ALIKE]]
+    return re.sub(r"^(?:pub |abbrev )+", "", "\n".join(lines))
+
+
+def doubled(root: Path, proofs: list[Proof]) -> Iterator[tuple[str, bool]]:
+    """Each lemma of some lines, and whether none before it begins with its statement and proof."""
+    seen: dict[str, str] = {}
+    for proof in proofs:
+        for item in proof.items:
+            if item.name and not item.is_answer and len(item.lines) >= LINES_ALIKE:
+                place = f"{proof.path.relative_to(root)}:{item.at}: {item.name}"
+                first = seen.setdefault(begin_of(item), place)
+                yield f"{place} stands at {first}, too", first == place
+
+
+def judged(root: Path) -> Iterator[tuple[str, bool]]:
+    """Each thing that is looked at, and whether it is as it should be."""
+    paths = sorted((root / "crates").glob("*/proofs/**/*.antt"))
+    proofs = [proof_at(root, it) for it in paths if it.name not in ("Goals.antt", "Lib.antt")]
+    yield from uncited(root, proofs)
+    yield from doubled(root, proofs)
+
+
+def main() -> int:
+    passed = failed = 0
+    for what, holds in judged(ROOT):
+        passed, failed = passed + holds, failed + (not holds)
+        if not holds:
+            print(f"FAILED: {what}")
+    print(f"{passed} passed, {failed} failed")
+    return 1 if failed else 0
+
+
+if __name__ == "__main__":
+    sys.exit(main())
