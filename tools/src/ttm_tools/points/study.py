@@ -21,10 +21,11 @@ from ..opening.paths import inside
 from ..parts import write_stops
 from ..records import Rounded, places_of, records, shown, write_rows
 from ..walks import Walks, told as what_is_told
+from .areas import AREAS_FILE, write_areas
 from .table import Points, plain
 
 MOST_STOPS, MOST_PAIRS = 65_535, 4_000_000  # that `ttm` takes
-FEED, POINTS, WORDS, LABELS = "feed", "points.csv", "words.txt", "labels.csv"
+FEED, POINTS, WORDS, LABELS, FOOTPATHS = "feed", "points.csv", "words.txt", "labels.csv", "footpaths.csv"
 SCENARIOS, NEW_STOPS = "scenarios", "new_stops.csv"  # of a plan, beside its feed
 HELPS, HELPS_AFTER = "--leave-out leaves out points without a stop in reach; or ", "take parts of the region"
 PLACE = ("stop_name", "stop_lat", "stop_lon")
@@ -124,7 +125,8 @@ def study_of(files: Sequence[Points], prefixes: Sequence[str]) -> Study:
     for points in files:
         for name, texts in labels.items():
             texts.extend(points.labels.get(name, [""] * len(points.identifiers)))
-    whole = Points(path, identifiers, names, north, east, wide, columns, numbers, labels, high)
+    areas = {prefix + own: area for points, prefix in zip(files, prefixes) for own, area in points.areas.items()}
+    whole = Points(path, identifiers, names, north, east, wide, columns, numbers, labels, high, areas)
     return Study(whole, np.repeat(np.arange(len(files)), [len(points.identifiers) for points in files]))
 
 
@@ -192,6 +194,9 @@ def write_feed(folder: Path, feed: str, points: Points) -> None:
     with open(folder / POINTS, "wb") as out:
         sides = ["width", *(["height"] if has_heights(points) else [])]
         write_rows(out, ["id", "name", "lat", "lon", *sides, *points.columns], point_lines(points))
+    if points.areas:
+        with open(folder / AREAS_FILE, "wb") as out:
+            write_areas(out, points.areas)
 
 
 def stops_with(path: Path, points: Points) -> tuple[list[str], Iterator[list[str]]]:
@@ -240,7 +245,7 @@ def has_heights(points: Points) -> bool:
 def write_files(folder: Path, asked: Asked, study: Study, walks: Walks, rounded: Rounded) -> None:
     """Writes what stands beside the feed."""
     ends = {"origins.csv": study.of_files(asked.begins), "destinations.csv": study.of_files(asked.ends)}
-    with open(folder / "footpaths.csv", "wb") as out:
+    with open(folder / FOOTPATHS, "wb") as out:
         write_rows(out, ["from_stop_id", "to_stop_id", "seconds"], walks.rows())
     for name, stops in ends.items():
         with open(folder / name, "wb") as out:
@@ -269,7 +274,7 @@ def words(asked: Asked) -> str:
     folder = Path(asked.out)
     options = {
         "feed": folder / FEED,
-        "footpaths": folder / "footpaths.csv",
+        "footpaths": folder / FOOTPATHS,
         "walk": asked.limit,
         "origins": folder / "origins.csv",
     }

@@ -23,7 +23,9 @@ class FeedWish:
     """The timetable."""
 
     files: tuple[str, ...] = told(FILES, "published feeds, zip files or folders; several are merged", '["feed.zip"]')
-    ready: bool = told(FLAG, "the feed is one folder that ttm reads, and isn't checked", "true", False)
+    ready: bool = told(
+        FLAG, "the feed is one folder that ttm reads, not checked but for trips on the date", "true", False
+    )
     repair: bool = told(FLAG, "repair errors by the rules of ttm-tools prepare; false refuses them", "false", True)
     allow_loss: bool = told(
         FLAG, "continue if a repair removes much of a file, or if no trip runs on the date", "true", False
