@@ -28,6 +28,7 @@ COMMANDS = (
     "compare",
     "access",
     "equity",
+    "bands",
     "explain",
     "map",
     "page",

@@ -2,7 +2,18 @@
 
 import argparse
 
-from .options import add_base, add_feed, add_matrix, add_number, add_out, add_points, add_share, add_text, add_within
+from .options import (
+    add_base,
+    add_feed,
+    add_matrix,
+    add_number,
+    add_out,
+    add_points,
+    add_share,
+    add_text,
+    add_within,
+    opened,
+)
 
 TOLD = "who loses and who wins between two scenarios"
 HELP = """\
@@ -45,12 +56,12 @@ def run(words: argparse.Namespace) -> int:
 
     needs("numpy")
     from ..files import output
-    from ..matrices import open_matrix, pair_of
+    from ..matrices import pair_of
     from ..measures.comparison import compare
     from ..points.shown import shown_of
     from ..views.differences import summary, write_origins, write_pairs
 
-    (matrix, stops), by_pair = shown_of(open_matrix(words.matrix), words.feed, words.points), words.by == "pair"
+    (matrix, stops), by_pair = shown_of(opened(words), words.feed, words.points), words.by == "pair"
     place = None if by_pair else matrix.limit(words.within)[0]
     pair = pair_of(matrix, words.base, words.scenario, words.share)
     if pair.lacking and not words.partial:

@@ -14,6 +14,10 @@ of the tenth with the least access) and least_tenth_change (the mean change of t
 Gini and Palma fall where the well served lose: read them beside mean and losers. docs/MEASURES.md has each formula, its
 source, and which can mislead.
 
+Of a table of `ttm-tools access --nearest` the line has people, reached_percent (who reach so many at all), the mean
+time of these, median_minutes and nine_tenths_minutes (the least time that is enough for half of all people, for nine of
+ten), and losers_percent (who need --lose percent longer or more, or don't reach them any more); --cutoff says how many.
+
 Groups are the columns of numbers of --people: a file with the column stop_id (or id). With --picture Lorenz curves and
 the mean change of each tenth of the people are drawn as PNG, of one opportunity, percentile, cutoff and group; that
 needs matplotlib. Memory: some 100 MB, and 300 bytes for each line of the table."""
@@ -27,7 +31,7 @@ def describe(parser: argparse.ArgumentParser) -> None:
     parser.add_argument("--column", metavar="NAME", action="append", default=[], help=told)
     add_text(parser, "--opportunity", "NAME", "the opportunity that is taken", without="all")
     add_number(parser, "--percentile", "the percentile that is taken", "percent", (1, 100), without="all")
-    add_number(parser, "--cutoff", "the cutoff that is taken", "minutes", (0, 10000), without="all", whole=False)
+    add_number(parser, "--cutoff", "the cutoff that is taken", "minutes", (0, 1e15), without="all", whole=False)
     add_base(parser)
     told = "of the base's access, from which on somebody counts as a loser"
     add_number(parser, "--lose", told, "percent", (0, 100), default=10, whole=False)

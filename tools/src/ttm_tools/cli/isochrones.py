@@ -2,7 +2,7 @@
 
 import argparse
 
-from .options import add_matrix, add_number, add_numbers, add_points, add_share, add_text, scenarios_of
+from .options import add_matrix, add_number, add_numbers, add_points, add_share, add_text, opened, scenarios_of
 
 TOLD = "areas that are reached from an origin within so many minutes"
 HELP = """\
@@ -41,12 +41,11 @@ def run(words: argparse.Namespace) -> int:
         raise WrongWords("--out ends in .geojson, .json or .gpkg")
     needs("numpy", "shapely", *(["geopandas"] if kind == "gpkg" else []))
     from ..files import output
-    from ..matrices import open_matrix
     from ..measures.opportunities import read_counts
     from ..points.shown import points_in, shown_of
     from ..views import isochrones as areas
 
-    matrix, stops = shown_of(open_matrix(words.matrix), words.feed, words.points)
+    matrix, stops = shown_of(opened(words), words.feed, words.points)
     assert stops is not None
     ground = areas.ground_of(stops.of(matrix.stops), areas.polygons_of(words.points or points_in(words.feed)))
     counts = read_counts([words.people], matrix.stops, "column") if words.people else None

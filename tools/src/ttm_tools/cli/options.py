@@ -105,6 +105,15 @@ def add_matrix(parser: argparse.ArgumentParser) -> None:
     parser.add_argument(
         "matrix", metavar="MATRIX", help="a matrix as ttm prints it, or an Open Matrix file of ttm-tools omx"
     )
+    told = "the greatest travel time: a pair that takes longer counts as not reached"
+    add_number(parser, "--max-minutes", told, "minutes", (0, 10000), without="each counts", whole=False)
+
+
+def opened(words: argparse.Namespace) -> "Matrix":
+    """The matrix that a command names, with the greatest travel time that it names."""
+    from ..matrices import capped, open_matrix
+
+    return capped(open_matrix(words.matrix), words.max_minutes)
 
 
 def add_share(parser: argparse.ArgumentParser, without: str = "the only one") -> None:

@@ -5,6 +5,7 @@ The room is called `matrices`, since `ttm_tools.matrix` is the function that run
 """
 
 from ..opening.paths import as_one_line, regular
+from .capped import capped
 from .csv_matrix import CsvMatrix
 from .layout import Layout, layout_of
 from .lines import Seconds
@@ -21,6 +22,7 @@ __all__ = [
     "Seconds",
     "Share",
     "Sums",
+    "capped",
     "has_all",
     "lacking",
     "layout_of",

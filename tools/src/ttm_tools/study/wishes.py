@@ -152,6 +152,27 @@ class ResultWish:
     decay_value: float | None = told(
         number(0, 10000, "minutes"), "which linear and logistic need; without it, none", "10", None
     )
+    nearest: tuple[float, ...] = told(
+        ascending(0.000001, 1e15, "opportunities", False),
+        "nearest.csv: the time within which so many are reached; equity_nearest.csv where people are named; and a map",
+        "[1, 3]",
+        (),
+    )
+    bands: tuple[float, ...] = told(
+        ascending(0, 1e15, "opportunities", False),
+        "bands.csv: how many people have at least so many; needs people",
+        "[1000, 10000]",
+        (),
+    )
+    nearest_bands: tuple[float, ...] = told(
+        ascending(0, 10000, "minutes", False),
+        "bands_nearest.csv: how many people have the nearest within so many; needs people and nearest",
+        "[10, 20, 30]",
+        (),
+    )
+    max_minutes: float | None = told(
+        number(0, 10000, "minutes"), "beyond which a pair counts as not reached; without it, each counts", "90", None
+    )
     compare: bool = told(FLAG, "winners and losers by origin, for each scenario", "false", True)
     pairs: bool = told(FLAG, "and by pair: a line for each that differs", "true", False)
     differs: int = told(whole(0, 604800, "seconds"), "travel times differ by more than this", "60", 60)
