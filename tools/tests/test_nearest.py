@@ -16,7 +16,8 @@ def small(town: Town) -> Town:
     town.write("schools.csv", "stop_id,schools", [["C", 1]])
     town.write("jobs.csv", "stop_id,jobs", [["B", 10], ["C", 5]])
     town.write("people.csv", "stop_id,residents", [["A", 100], ["B", 200], ["C", 100]])
-    for name, more in (("schools", ["--nearest", "1"]), ("jobs", [])):
+    kinds: dict[str, list[str]] = {"schools": ["--nearest", "1"], "jobs": []}
+    for name, more in kinds.items():
         words = ["--opportunities", town.path(f"{name}.csv"), *more, "--out", town.path(f"{name}_access.csv")]
         assert town.ran("access", *words, town.file)[2] == 0
     return town

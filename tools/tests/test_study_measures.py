@@ -1,8 +1,8 @@
 """Measures of a study beside access: the nearest, people by band, a greatest travel time; by hand on nine stops.
 
-The stops lie 444.8 m apart, 435 seconds of walking, and every second one has a school. From 08:00 on one bus goes
-along, past each stop three minutes later than past the one before; by the median nobody gains by waiting for it to the
-next stop.
+The stops lie 444.8 m apart, 435 seconds of walking, and every second one has a school. A bus goes along: it leaves S0 at
+08:00, S2 at 08:06, and takes three minutes to each next stop. Of the departures from 08:00 to 08:04 three of five get
+from S2 to S3 in 420 seconds or less (08:02 to 08:04); from all other stops the median is the walk.
 """
 
 from pathlib import Path
@@ -24,11 +24,11 @@ def test_the_nearest_and_bands_of_people_by_hand(place: Place) -> None:  # noqa:
     assert place.ran("study", path)[2] == 0
     kind = {"scenario": "base", "opportunity": "schools", "percentile": "50", "nearest": "1"}
     found = [it for it in table(place, "nearest.csv") if kind.items() <= it.items()]
-    assert [it["seconds"] for it in found] == ["435", "0"] * 4 + ["435"]
+    assert [it["seconds"] for it in found] == ["435", "0", "420", "0", "435", "0", "435", "0", "435"]
     (people,) = [it for it in table(place, "equity_nearest.csv") if kind.items() <= it.items()]
-    # people are 1, 3, 5, 7, 9 at the stops without a school, and 2, 4, 6, 8 at those with one: 25 of 45 walk
-    assert people["mean_minutes"] == f"{25 * 7.25 / 45:.4f}" and people["reached_percent"] == "100"
-    assert (people["median_minutes"], people["nine_tenths_minutes"]) == ("7.25", "7.25")
+    # people are 1, 3, 5, 7, 9 at the stops without a school, and 20 of 45 at those with one: 23 need up to 7 minutes
+    assert people["mean_minutes"] == f"{(22 * 7.25 + 3 * 7) / 45:.4f}" and people["reached_percent"] == "100"
+    assert (people["median_minutes"], people["nine_tenths_minutes"]) == ("7", "7.25")
     bands = [it for it in table(place, "bands_nearest.csv") if kind.items() <= it.items()]
     assert [(it["within_minutes"], it["people"], it["percent"]) for it in bands] == [
         ("5", "20", "44.4444"),

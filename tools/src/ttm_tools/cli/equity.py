@@ -2,7 +2,7 @@
 
 import argparse
 
-from .options import add_base, add_number, add_out, add_text
+from .options import add_base, add_number, add_out, add_text, is_file_of_base
 
 TOLD = "how access is spread over people, by group and scenario"
 HELP = """\
@@ -41,15 +41,23 @@ def describe(parser: argparse.ArgumentParser) -> None:
 
 
 def run(words: argparse.Namespace) -> int:
-    from ..faults import needs
+    from ..faults import WrongWords, needs, say
 
     needs("numpy", *(["matplotlib"] if words.picture else []))
     from ..files import output
-    from ..measures.access_table import read_access
+    from ..matrices.beside import labels_of
+    from ..measures.access_table import beside, read_access, told_lost
     from ..measures.opportunities import read_counts
     from ..views.equity import Asked, chosen_kinds, figure_of, measured, write_equity
 
     table = read_access(words.access)
+    if words.base is not None and is_file_of_base(words.base, table.scenarios):
+        other = read_access(words.base)
+        say(*told_lost(table, other))
+        table = beside(table, other, labels_of(words.access, words.base), words.base_scenario)
+        words.base = None
+    elif words.base_scenario is not None:
+        raise WrongWords("--base-scenario goes with a file as --base")
     people = read_counts(words.people, table.origins, f"origin of {words.access}", words.column)
     asked = Asked(
         words.base or table.base, words.lose, chosen_kinds(table, words.opportunity, words.percentile, words.cutoff)

@@ -82,10 +82,10 @@ def run(words: argparse.Namespace) -> int:
     from ..views.page.make import Wish, page_of, tell
 
     leaflet_files(words.leaflet)
+    matrix = opened(words)
     wish = Wish(
         **{name: getattr(words, WORDS.get(name, name)) for name in Wish.__dataclass_fields__ if name != "within"}
     )
-    matrix = opened(words)
     scenarios_of(matrix, words.scenario)  # tells which of them is left out
     page = page_of(matrix, wish)
     with output(words.out) as file:

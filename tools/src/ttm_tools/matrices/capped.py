@@ -15,7 +15,7 @@ class Capped(Matrix):
     """
 
     def __init__(self, whole: Matrix, seconds: float) -> None:
-        self.whole, self.path, self.greatest = whole, whole.path, seconds
+        self.whole, self.path, self.greatest, self.end = whole, whole.path, seconds, seconds
         self.scenarios, self.shares = whole.scenarios, whole.shares
         kept = [place for place, limit in enumerate(whole.layout.limits) if limit is None or limit <= seconds]
         self.limits_kept: Places = np.array(kept, dtype=np.intp)
@@ -30,13 +30,13 @@ class Capped(Matrix):
 
     def rows(self, scenario: str, share: Share, begin: int, end: int) -> Seconds:
         found = self.whole.rows(scenario, share, begin, end)
-        made: Seconds = np.where(found > self.greatest, np.float32(np.nan), found)
+        made: Seconds = np.where(found > self.end, np.float32(np.nan), found)
         return made
 
     def limit(self, asked: int | None) -> tuple[int, int | None]:
-        if not self.layout.limits or asked is not None and asked > self.greatest:
+        if not self.layout.limits or asked is not None and asked > self.end:
             told = "access of the matrix counts pairs that take longer than the greatest travel time"
-            raise BadInput(self.path, f"{told}, {self.greatest:g} seconds: take ttm-tools access")
+            raise BadInput(self.path, f"{told}, {self.end:g} seconds: take ttm-tools access")
         return super().limit(asked)
 
 

@@ -40,6 +40,8 @@ class Matrix(ABC):
     scenarios: list[str]  # in the file's order
     shares: list[Share]  # ascending
     greatest: float | None = None  # seconds above which a pair counts as not reached
+    heading: str = ""  # what stands above it where it is two files, one beside the other
+    files: tuple[str, ...] = ()  # those that it has beside its own
 
     @abstractmethod
     def origins(self, scenario: str, share: Share) -> list[str]:

@@ -47,11 +47,12 @@ class AccessTable:
     origins: list[str]
     numbers: Floats  # by scenario, kind and origin; of times seconds, NaN where so many aren't reached
     of_times: bool = False
+    named_base: str | None = None  # where it is of another table
 
     @property
     def base(self) -> str:
         """The scenario that others are compared with where none is named."""
-        return TODAY if TODAY in self.scenarios else BASE
+        return self.named_base or (TODAY if TODAY in self.scenarios else BASE)
 
     def told(self, kind: Kind) -> str:
         return kind.told_nearest if self.of_times else kind.told
@@ -83,6 +84,40 @@ def read_access(path: str) -> AccessTable:
     tell_gaps(table)
     table.numbers[np.isinf(table.numbers)] = np.nan
     return table
+
+
+def beside(own: AccessTable, other: AccessTable, labels: tuple[str, str], scenario: str | None) -> AccessTable:
+    """The scenarios of a table, and as their base one of another: the kinds and origins that both have. Labels are what
+    the bases of both are called.
+    """
+    if own.of_times != other.of_times:
+        raise BadInput(other.path, f"one has access and the other times to the nearest, as {own.path}")
+    kinds = [kind for kind in own.kinds if kind in other.kinds]
+    origins = [name for name in own.origins if name in set(other.origins)]
+    if not kinds or not origins:
+        what = "origin" if kinds else "opportunity, percentile and cutoff"
+        raise BadInput(other.path, f"has no {what} in common with {own.path}")
+    renamed = [labels[0] if name == own.base else name for name in own.scenarios]
+    parts = [
+        it.numbers[np.ix_(rows, [it.kinds.index(kind) for kind in kinds], [it.origins.index(name) for name in origins])]
+        for it, rows in ((other, [other.scenario(scenario or other.base)]), (own, range(len(own.scenarios))))
+    ]
+    names = [labels[1], *(name for name in renamed if name != labels[1])]
+    kept = [row for row, name in enumerate(renamed) if name != labels[1]]
+    numbers = np.concatenate([parts[0], parts[1][kept]])
+    return AccessTable(own.path, names, kinds, origins, numbers, own.of_times, labels[1])
+
+
+def told_lost(own: AccessTable, other: AccessTable) -> list[str]:
+    """The origins that only one of two tables has."""
+    made = []
+    for one, another in ((own, other), (other, own)):
+        there = set(another.origins)
+        lost = [shown(name) for name in one.origins if name not in there]
+        if lost:
+            count = f"{len(lost):,} of {len(one.origins):,} origins of {one.path}"
+            made.append(f"{count} aren't in {another.path}, and are left out: {some(lost)}")
+    return made
 
 
 def is_of_times(path: str) -> bool:

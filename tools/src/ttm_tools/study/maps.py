@@ -76,9 +76,9 @@ def maps_stage(whole: Whole) -> Stage:
 
     study, inputs = whole.study, whole.inputs
     words = [study.about.note, whole.unit, list(study.results.map_origins), whole.scenarios]
-    words += [list(study.results.nearest[:1])]
     counted = inputs.records["counted"].outputs if "counted" in inputs.records and study.results.nearest else {}
     facts = {**whole.depends, "words": words, "run": inputs.sums, "counted": counted}
+    facts["nearest"] = list(study.results.nearest[:1])
     return Stage("maps", facts, [MAPS], make)
 
 

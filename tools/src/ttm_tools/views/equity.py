@@ -1,7 +1,7 @@
 """What is shown of equity: a table, as CSV or Markdown, and a picture of Lorenz curves and of changes by tenths."""
 
 from dataclasses import astuple, dataclass
-from typing import Any, BinaryIO, Iterator, Sequence
+from typing import Any, BinaryIO, Callable, Iterator, Sequence
 
 import numpy as np
 
@@ -57,7 +57,8 @@ def is_number(text: str, asked: float) -> bool:
 
 def measured(table: AccessTable, people: Counts, asked: Asked) -> Iterator[tuple[Kind, str, str, Equity | Nearness]]:
     """The measures of each kind, group and scenario."""
-    base, measure = table.scenario(asked.base), nearness if table.of_times else equity
+    base = table.scenario(asked.base)
+    measure: Callable[[Floats, Floats, Floats, float], Equity | Nearness] = nearness if table.of_times else equity
     for kind in asked.kinds:
         numbers = table.numbers[:, table.kinds.index(kind)]
         for group in people.names:

@@ -90,7 +90,7 @@ def source_told(scenario: str, share: Share, matrix: Matrix) -> str:
         f"Scenario {scenario}",
         *([] if share is None else [f"travel times that {share} of 100 departures keep to"]),
     ]
-    return "; ".join([*told, *([matrix.told_greatest] if matrix.told_greatest else [])]) + "."
+    return "; ".join([*told, *(it for it in (matrix.told_greatest, matrix.heading) if it)]) + "."
 
 
 def within_told(limit: int | None) -> str:

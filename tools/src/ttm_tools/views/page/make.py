@@ -88,7 +88,7 @@ def frame_of(matrix: Matrix, content: Content, asked: Asked, wish: Wish) -> Fram
     words = sources.Words(wish.words or "")
     name = shown(os.path.basename(os.path.abspath(wish.feed)))
     files = {
-        "Matrix": [matrix.path],
+        "Matrix": [matrix.path, *matrix.files],
         "Points": [path for path in [wish.points or points_in(wish.feed)] if path is not None],
         "Opportunities": wish.opportunities,
         "People": wish.people,
@@ -101,7 +101,7 @@ def frame_of(matrix: Matrix, content: Content, asked: Asked, wish: Wish) -> Fram
         asked.shares,
         [sources.meaning(share, words) + end_told(matrix) for share in asked.shares],
         sources.table(files, wish.feed, words),
-        told_rows(content, asked),
+        [*told_rows(content, asked), *([f"{matrix.heading}."] if matrix.heading else [])],
         first_minutes(matrix, wish.within),
         wish.tiles,
         wish.attribution or "",
