@@ -38,7 +38,7 @@ def test_the_nearest_and_bands_of_people_by_hand(place: Place) -> None:  # noqa:
     (all_of_them,) = [it for it in table(place, "bands.csv") if kind.items() <= it.items()]
     assert (all_of_them["at_least"], all_of_them["people"]) == ("1", "45")
     report = Path(place.path("nine/report.md")).read_text()
-    assert "pairs beyond 30 minutes count as not reached" in report and "bands_nearest.csv" in report
+    assert "pairs beyond 30 minutes count as not reached" in report and "bands\\_nearest.csv" in report
 
 
 def test_maps_show_the_nearest_of_each_thing_counted(place: Place) -> None:  # noqa: F811
