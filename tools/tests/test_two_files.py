@@ -5,10 +5,10 @@ from pathlib import Path
 
 import pytest
 
-from helpers import TOWN, Town, read, town_matrix
+from helpers import TOWN, Cell, Town, read, town_matrix
 from ttm_tools.matrices.beside import labels_of
 
-OLD, NEW = {"base": TOWN["base"]}, {"base": TOWN["cut"]}
+OLD, NEW = {"base": TOWN["base"]}, {"base": TOWN["cut"]}  # both under the name base
 PAIRS = ["A,D,cut off,2400,,", "A,C,slower,900,1900,1000", "D,B,new,,1700,", "D,A,faster,1500,1400,-100"]
 
 
@@ -36,7 +36,7 @@ def test_pairs_are_those_of_two_scenarios_of_one_file(two: Town) -> None:
 
 
 def test_another_order_and_other_stops_are_matched_by_identifiers(two: Town) -> None:
-    rows = {"D": [0, "", 600, 1500, 7], "Z": [0, 0, 0, 0, 0], "A": [2400, 300, 900, 0, 7]}
+    rows: dict[str, list[Cell]] = {"D": [0, "", 600, 1500, 7], "Z": [0, 0, 0, 0, 0], "A": [2400, 300, 900, 0, 7]}
     Path(two.path("old.csv")).write_text(town_matrix(True, {"base": rows}, stops="DBCAY"))
     out, told, status = two.ran("compare", "--base", two.path("old.csv"), two.file)
     assert (out.splitlines()[1:], status) == (PAIRS, 0)

@@ -134,9 +134,9 @@ def sorted_pairs(changes: Changes, sort: str) -> npt.NDArray[np.intp]:
     change = np.nan_to_num(changes.after.astype(np.float64) - changes.before)
     if sort == RELATIVE:
         part = np.abs(change) / np.maximum(np.nan_to_num(changes.before.astype(np.float64)), 1)
-        return np.lexsort([-part, changes.kind])
+        return as_order(np.lexsort([-part, changes.kind]))
     rank = np.array(RANKS[sort])[changes.kind]
-    return np.lexsort([-change if sort == LOSS else change, rank])
+    return as_order(np.lexsort([-change if sort == LOSS else change, rank]))
 
 
 def sorted_origins(first: Sums, second: Sums, sort: str) -> npt.NDArray[np.intp]:
@@ -148,7 +148,12 @@ def sorted_origins(first: Sums, second: Sums, sort: str) -> npt.NDArray[np.intp]
         return np.argsort(change if sort == LOSS else -change, kind="stable")
     part = np.abs(change) / np.where(first > 0, first, np.where(change == 0, 1, 1e-300))
     rank = np.select([change < 0, change > 0], [0, 1], 2)
-    return np.lexsort([-part, rank])
+    return as_order(np.lexsort([-part, rank]))
+
+
+def as_order(places: Any) -> npt.NDArray[np.intp]:
+    made: npt.NDArray[np.intp] = places
+    return made
 
 
 def order_of_origins(change: Sums, counts: npt.NDArray[np.int64]) -> npt.NDArray[np.intp]:

@@ -2,6 +2,7 @@
 
 from dataclasses import dataclass
 from pathlib import Path
+from typing import Any
 
 from ..files import output
 from ..naming import file_names
@@ -77,7 +78,7 @@ def maps_stage(whole: Whole) -> Stage:
     study, inputs = whole.study, whole.inputs
     words = [study.about.note, whole.unit, list(study.results.map_origins), whole.scenarios]
     counted = inputs.records["counted"].outputs if "counted" in inputs.records and study.results.nearest else {}
-    facts = {**whole.depends, "words": words, "run": inputs.sums, "counted": counted}
+    facts: dict[str, Any] = {**whole.depends, "words": words, "run": inputs.sums, "counted": counted}
     facts["nearest"] = list(study.results.nearest[:1])
     return Stage("maps", facts, [MAPS], make)
 

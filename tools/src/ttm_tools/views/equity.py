@@ -58,7 +58,9 @@ def is_number(text: str, asked: float) -> bool:
 def measured(table: AccessTable, people: Counts, asked: Asked) -> Iterator[tuple[Kind, str, str, Equity | Nearness]]:
     """The measures of each kind, group and scenario."""
     base = table.scenario(asked.base)
-    measure: Callable[[Floats, Floats, Floats, float], Equity | Nearness] = nearness if table.of_times else equity
+    measure: Callable[[Floats, Floats, Floats, float], Equity | Nearness] = equity
+    if table.of_times:
+        measure = nearness
     for kind in asked.kinds:
         numbers = table.numbers[:, table.kinds.index(kind)]
         for group in people.names:
