@@ -29,6 +29,7 @@ COMMANDS = (
     "access",
     "equity",
     "bands",
+    "service",
     "explain",
     "map",
     "page",
