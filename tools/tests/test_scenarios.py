@@ -142,6 +142,29 @@ def test_a_new_line_by_its_speed_in_one_direction(small: Room) -> None:
     assert feed["T-0#1"] == ["A 08:00:00", "N 08:02:30"] and "T-1#1" not in feed
 
 
+def test_departures_are_added_between_those_that_are_there(small: Room) -> None:
+    # R1 leaves at 08:00 and R2 at 08:20; behind R2 the next departure on a Monday is that of R3, of another service
+    feed, told = made(small, 'do = "headway"\nroute = "R"\ntimes = 2\nfrom = "08:00"\nto = "09:00"')
+    assert [line for name, line in feed.items() if "#" in name] == [
+        ["A 08:10:00", "B 08:15:00 08:15:30", "C 08:21:00 08:21:30", "D 08:30:00"],
+        ["A 08:40:00", "B 08:45:00 08:45:30", "C 08:51:00 08:51:30", "D 09:01:00"],
+    ]
+    assert {"R1", "R2", "R3", "S1", "Q1"} <= feed.keys()
+    assert [line for line in told if "added between" in line] == [
+        "  route R, A to D: 2 departures added between 2",
+        "  route R, D to A: 0 departures added between 1",
+    ]
+    services = {row["trip_id"]: row["service_id"] for row in rows(small, "out/trips.txt")}
+    assert [service for name, service in services.items() if "#" in name] == ["M", "M"]
+
+
+def test_three_times_as_often_is_two_more_in_each_gap(small: Room) -> None:
+    words = 'route = "R"\ndirection = 0\ntimes = 3\nfrom = "08:00"\nto = "08:13"'
+    feed, _ = made(small, f'do = "headway"\n{words}')
+    # a third and two thirds of 20 minutes behind 08:00, the latter past the end
+    assert [line[0] for name, line in feed.items() if "#" in name] == ["A 08:06:40"]
+
+
 def test_copies_of_a_typical_trip_run_every_so_often(small: Room) -> None:
     """From A to D three trips leave from 8:00 to 9:00, in 20, 21 and 20 minutes: the median is 20, first R1."""
     feed, told = made(small, 'do = "headway"\nroute = "R"\nevery = 1200\nfrom = "08:00"\nto = "09:01"')
@@ -407,6 +430,14 @@ FAULTS = [
     (
         'do = "headway"\nroute = "R"\nevery = 600\nfrom = "9:00"\nto = "08:00"',
         "line 8: to '08:00:00' isn't after from, 09:00:00",
+    ),
+    (
+        'do = "headway"\nroute = "Q"\ntimes = 2\nfrom = "08:00"\nto = "09:00"',
+        "line 6: times leaves nothing between 08:00:00 and 09:00:00 to be added to",
+    ),
+    (
+        'do = "headway"\nroute = "R"\nevery = 600\ntimes = 2\nfrom = "08:00"\nto = "09:00"',
+        "line 7: times is there beside every; allowed: one of every, times",
     ),
     (
         'do = "headway"\nroute = "R"\nevery = 600\nfrom = "9:60"\nto = "10:00"',

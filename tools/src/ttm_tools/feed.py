@@ -6,7 +6,7 @@ import math
 import os
 from dataclasses import dataclass, field
 from functools import cached_property
-from typing import Mapping, Sequence
+from typing import Any, Mapping, Sequence
 
 import numpy as np
 import numpy.typing as npt
@@ -139,6 +139,17 @@ class Projection:
 
     def north(self, latitudes: Floats) -> Floats:
         return (latitudes - self.latitude) * self.degree
+
+    def longitudes(self, east: Floats) -> Floats:
+        """The degrees of places so many kilometres east."""
+        return (east / (self.degree * self.narrow) + self.longitude + 180) % 360 - 180
+
+    def latitudes(self, north: Floats) -> Floats:
+        return north / self.degree + self.latitude
+
+    def kilometres(self, longitudes: Any, latitudes: Any) -> tuple[Floats, Floats]:
+        """Places as shapely hands them on."""
+        return self.east(np.asarray(longitudes)), self.north(np.asarray(latitudes))
 
 
 @dataclass(frozen=True)

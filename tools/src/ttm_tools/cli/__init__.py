@@ -28,6 +28,8 @@ COMMANDS = (
     "compare",
     "access",
     "equity",
+    "bands",
+    "service",
     "explain",
     "map",
     "page",

@@ -12,6 +12,7 @@ from .options import (
     add_points,
     add_share,
     add_text,
+    opened,
     scenarios_of,
 )
 
@@ -63,7 +64,7 @@ def run(words: argparse.Namespace) -> int:
 
     needs("numpy")
     from ..files import output
-    from ..matrices import Share, open_matrix
+    from ..matrices import Share
     from ..measures.access import EXPONENTIAL, Decay, access, nearest
     from ..measures.opportunities import read_counts
     from ..points.shown import shown_of
@@ -74,7 +75,7 @@ def run(words: argparse.Namespace) -> int:
         raise WrongWords("--decay exponential needs --cutoffs above 0: they are half-lives")
     if words.nearest and min(words.nearest) <= 0:
         raise WrongWords("--nearest needs numbers above 0")
-    matrix, _ = shown_of(open_matrix(words.matrix), None, words.points)
+    matrix, _ = shown_of(opened(words), None, words.points)
     scenarios = scenarios_of(matrix, [words.scenario] if words.scenario else None)
     shares = matrix.shares if words.share is None else [matrix.share(words.share)]
     counts = read_counts(words.opportunities, matrix.stops, "stop of the matrix", words.column)

@@ -2,7 +2,18 @@
 
 import argparse
 
-from .options import add_base, add_feed, add_matrix, add_number, add_out, add_points, add_share, add_text, add_within
+from .options import (
+    add_base,
+    add_feed,
+    add_matrix,
+    add_number,
+    add_out,
+    add_points,
+    add_share,
+    add_text,
+    add_within,
+    opened,
+)
 
 TOLD = "who loses and who gains between two scenarios"
 HELP = """\
@@ -18,6 +29,10 @@ By origin, a line for each origin that has such a pair or whose access differs: 
 percent (of access_before), and to how many destinations it is cut_off, slower, new and faster. Losers of access come
 first, then winners, each by the size of the change; then origins whose access is the same.
 
+Travel times and access have thresholds of their own: --limit says by how many seconds a pair differs, --least by how
+much access does. Access can change if a travel time crossed its limit by less than --limit; --listed times leaves out
+an origin for which nothing else differs. --sort and --top write the greatest changes alone.
+
 If one scenario lacks origins that the other has, as in a truncated matrix, a line names them, and the exit status is 1
 unless --partial is given. A line on standard error sums up. Memory: by origin some 100 MB, by pair 60 bytes more for
 each pair that differs."""
@@ -28,6 +43,13 @@ def describe(parser: argparse.ArgumentParser) -> None:
     parser.add_argument("--by", choices=("pair", "origin"), default="pair", help=told)
     told = "travel times that differ by more than this count as slower or faster"
     add_number(parser, "--limit", told, "seconds", (0, 604800), default=60)
+    told = "access that differs by so much or more counts as lost or gained"
+    add_number(parser, "--least", told, "opportunities", (1, 4294967295), default=1)
+    told = "why an origin is listed: a pair that differs, its access, or either (default both)"
+    parser.add_argument("--listed", choices=("both", "times", "access"), default="both", help=told)
+    told = "how lines are sorted: the greatest loss or gain first, or by percent (without it, losers, then winners)"
+    parser.add_argument("--sort", choices=("loss", "gain", "relative"), help=told)
+    add_number(parser, "--top", "how many lines the table has at most", "lines", (1, 1000000000), without="all")
     add_base(parser)
     add_text(parser, "--scenario", "NAME", "the scenario that is compared with the base", without="the only other one")
     add_share(parser)
@@ -41,25 +63,29 @@ def describe(parser: argparse.ArgumentParser) -> None:
 
 
 def run(words: argparse.Namespace) -> int:
-    from ..faults import BadInput, needs, say
+    from ..faults import BadInput, WrongWords, needs, say
 
+    if words.by == "pair" and (words.least > 1 or words.listed != "both"):
+        raise WrongWords("--least and --listed go with --by origin")
     needs("numpy")
     from ..files import output
-    from ..matrices import open_matrix, pair_of
+    from ..matrices import pair_of
     from ..measures.comparison import compare
     from ..points.shown import shown_of
-    from ..views.differences import summary, write_origins, write_pairs
+    from ..views.differences import Choice, summary, write_origins, write_pairs
 
-    (matrix, stops), by_pair = shown_of(open_matrix(words.matrix), words.feed, words.points), words.by == "pair"
+    (matrix, stops), by_pair = shown_of(opened(words), words.feed, words.points), words.by == "pair"
     place = None if by_pair else matrix.limit(words.within)[0]
     pair = pair_of(matrix, words.base, words.scenario, words.share)
     if pair.lacking and not words.partial:
         raise BadInput(words.matrix, f"{pair.lacking} (--partial compares the others)")
+    choice = Choice(words.sort, words.top, words.listed, words.least)
     made = compare(pair, words.limit, with_pairs=by_pair)
     with output(words.out) as file:
         if place is None:
-            write_pairs(file, pair, made.changes, stops)
+            write_pairs(file, pair, made.changes, stops, choice)
         else:
-            write_origins(file, pair, place, made, stops)
-    say(*([f"{pair.lacking}: left out"] if pair.lacking else []), *summary(pair, made, words.limit, place))
+            write_origins(file, pair, place, made, stops, choice)
+    told = summary(pair, made, words.limit, place, words.least)
+    say(*([f"{pair.lacking}: left out"] if pair.lacking else []), *told)
     return 0

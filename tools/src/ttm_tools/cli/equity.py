@@ -2,7 +2,7 @@
 
 import argparse
 
-from .options import add_base, add_number, add_out, add_text
+from .options import add_base, add_number, add_out, add_text, is_file_of_base
 
 TOLD = "how access is spread over people, by group and scenario"
 HELP = """\
@@ -13,6 +13,10 @@ mean of the tenth with the most access, as a multiple of that of the two fifths 
 of the tenth with the least access) and least_tenth_change (the mean change of those who are that tenth in the base).
 Gini and Palma also fall if the well served lose: read them together with mean and losers. docs/reference/measures.md
 has each formula, its source, and what can mislead.
+
+Of a table of `ttm-tools access --nearest` the line has people, reached_percent (who reach so many at all), the mean
+time of these, median_minutes and nine_tenths_minutes (the least time that is enough for half of all people, for nine of
+ten), and losers_percent (who need --lose percent longer or more, or don't reach them any more); --cutoff says how many.
 
 Groups are the columns of numbers of --people: a file with the column stop_id (or id). With --picture Lorenz curves and
 the mean change of each tenth of the people are drawn as PNG, of one opportunity, percentile, cutoff and group; that
@@ -27,7 +31,7 @@ def describe(parser: argparse.ArgumentParser) -> None:
     parser.add_argument("--column", metavar="NAME", action="append", default=[], help=told)
     add_text(parser, "--opportunity", "NAME", "the opportunity that is taken", without="all")
     add_number(parser, "--percentile", "the percentile that is taken", "percent", (1, 100), without="all")
-    add_number(parser, "--cutoff", "the cutoff that is taken", "minutes", (0, 10000), without="all", whole=False)
+    add_number(parser, "--cutoff", "the cutoff that is taken", "minutes", (0, 1e15), without="all", whole=False)
     add_base(parser)
     told = "of the base's access, from which on somebody counts as a loser"
     add_number(parser, "--lose", told, "percent", (0, 100), default=10, whole=False)
@@ -37,15 +41,23 @@ def describe(parser: argparse.ArgumentParser) -> None:
 
 
 def run(words: argparse.Namespace) -> int:
-    from ..faults import needs
+    from ..faults import WrongWords, needs, say
 
     needs("numpy", *(["matplotlib"] if words.picture else []))
     from ..files import output
-    from ..measures.access_table import read_access
+    from ..matrices.beside import labels_of
+    from ..measures.access_table import beside, read_access, told_lost
     from ..measures.opportunities import read_counts
     from ..views.equity import Asked, chosen_kinds, figure_of, measured, write_equity
 
     table = read_access(words.access)
+    if words.base is not None and is_file_of_base(words.base, table.scenarios):
+        other = read_access(words.base)
+        say(*told_lost(table, other))
+        table = beside(table, other, labels_of(words.access, words.base), words.base_scenario)
+        words.base = None
+    elif words.base_scenario is not None:
+        raise WrongWords("--base-scenario goes with a file as --base")
     people = read_counts(words.people, table.origins, f"origin of {words.access}", words.column)
     asked = Asked(
         words.base or table.base, words.lose, chosen_kinds(table, words.opportunity, words.percentile, words.cutoff)

@@ -2,21 +2,26 @@
 
 import argparse
 
-from .options import add_matrix, add_points, add_share, add_text, scenarios_of
+from .options import add_matrix, add_numbers, add_points, add_share, add_text, opened, scenarios_of
 
 TOLD = "stops with access and travel times, for a geographic information system"
 HELP = """\
 Writes the stops of a matrix as points for a geographic information system, with their access, and with --origin their
 travel times from there: a column for each scenario, share and limit, such as base_50_access_1800 and base_50_seconds,
-empty where a stop is no origin or isn't reached. A name that ends in .geojson or .json writes GeoJSON, one in .gpkg a
-GeoPackage (needs geopandas). Points that are areas keep their polygons; in a GeoPackage all of these are of the kind
-MultiPolygon. Stops without coordinates are left out, and counted. Memory: some 100 MB."""
+empty where a stop is no origin or isn't reached. With --opportunities and --nearest there are the seconds within which
+so many are reached, such as base_50_schools_nearest_1. A name that ends in .geojson or .json writes GeoJSON, one in
+.gpkg a GeoPackage (needs geopandas). Points that are areas keep their polygons; in a GeoPackage all of these are of the
+kind MultiPolygon. Stops without coordinates are left out, and counted. Memory: some 100 MB."""
 
 
 def describe(parser: argparse.ArgumentParser) -> None:
     parser.add_argument("--feed", metavar="FOLDER", required=True, help="the unpacked feed of the matrix (needed)")
     add_points(parser)
     add_text(parser, "--origin", "STOP", "the stop whose travel times are written", without="access alone")
+    told = "a file with what each stop has, for --nearest; may be given more than once (without it, none)"
+    parser.add_argument("--opportunities", metavar="FILE", action="append", default=[], help=told)
+    told = "how many of them are to be reached, between commas; needs --opportunities"
+    add_numbers(parser, "--nearest", told, "", (1e-9, 1e15), without="no such columns")
     told = "a scenario that is taken; may be given several times (without it, all are)"
     parser.add_argument("--scenario", metavar="NAME", action="append", help=told)
     add_share(parser, without="all")
@@ -31,17 +36,22 @@ def run(words: argparse.Namespace) -> int:
     kind = words.out.rsplit(".", 1)[-1].lower()
     if kind not in ("geojson", "json", "gpkg"):
         raise WrongWords("--out ends in .geojson, .json or .gpkg")
+    if bool(words.opportunities) != bool(words.nearest):
+        raise WrongWords("--opportunities and --nearest go together")
     needs("numpy", *(["geopandas"] if kind == "gpkg" else []))
     from ..files import output
-    from ..matrices import open_matrix
     from ..points.shown import shown_of
-    from ..views.gis import features_of, write_geojson, write_geopackage
+    from ..measures.opportunities import read_counts
+    from ..views.gis import features_of, with_nearest, write_geojson, write_geopackage
 
-    matrix, stops = shown_of(open_matrix(words.matrix), words.feed, words.points)
+    matrix, stops = shown_of(opened(words), words.feed, words.points)
     assert stops is not None
     scenarios = scenarios_of(matrix, words.scenario)
     shares = matrix.shares if words.share is None else [matrix.share(words.share)]
+    counts = read_counts(words.opportunities, matrix.stops, "stop of the matrix") if words.nearest else None
     features = features_of(matrix, stops, scenarios, shares, words.origin)
+    if counts is not None:
+        features = with_nearest(features, matrix, (scenarios, shares), counts, words.nearest)
     if kind == "gpkg":
         write_geopackage(words.out, features)
     else:

@@ -1,8 +1,19 @@
 """ttm-tools isochrones."""
 
 import argparse
+import os
 
-from .options import add_matrix, add_number, add_numbers, add_points, add_share, add_text, scenarios_of
+from .options import (
+    add_base_scenario,
+    add_matrix,
+    add_number,
+    add_numbers,
+    add_points,
+    add_share,
+    add_text,
+    opened,
+    scenarios_of,
+)
 
 TOLD = "areas that an origin reaches within some minutes"
 HELP = """\
@@ -22,6 +33,9 @@ def describe(parser: argparse.ArgumentParser) -> None:
     about = "a scenario that is taken; may be given several times (without it, all are)"
     parser.add_argument("--scenario", metavar="NAME", action="append", help=about)
     add_share(parser, without="all")
+    told = "another matrix, whose base has its areas beside those of this one"
+    add_text(parser, "--base", "FILE", told, without="none")
+    add_base_scenario(parser)
     add_number(parser, "--walk", "how long you walk on from a stop at most", "seconds", (0, 7200), default=600)
     add_number(parser, "--speed", "how fast you walk", "m/s", (0.01, 100), default=1.33, whole=False)
     about = "metres of way for a metre of straight line"
@@ -41,12 +55,13 @@ def run(words: argparse.Namespace) -> int:
         raise WrongWords("--out ends in .geojson, .json or .gpkg")
     needs("numpy", "shapely", *(["geopandas"] if kind == "gpkg" else []))
     from ..files import output
-    from ..matrices import open_matrix
     from ..measures.opportunities import read_counts
     from ..points.shown import points_in, shown_of
     from ..views import isochrones as areas
 
-    matrix, stops = shown_of(open_matrix(words.matrix), words.feed, words.points)
+    if words.base is not None and not os.path.isfile(words.base):
+        raise WrongWords(f"--base {words.base} is no file")
+    matrix, stops = shown_of(opened(words), words.feed, words.points)
     assert stops is not None
     ground = areas.ground_of(stops.of(matrix.stops), areas.polygons_of(words.points or points_in(words.feed)))
     counts = read_counts([words.people], matrix.stops, "column") if words.people else None

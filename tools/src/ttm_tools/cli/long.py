@@ -5,7 +5,7 @@ import sys
 from dataclasses import replace
 from typing import TYPE_CHECKING
 
-from .options import add_feed, add_matrix, add_out, add_points, add_share, add_text, add_within, scenarios_of
+from .options import add_feed, add_matrix, add_out, add_points, add_share, add_text, add_within, opened, scenarios_of
 
 if TYPE_CHECKING:
     from ..matrices import Matrix
@@ -71,11 +71,10 @@ def run(words: argparse.Namespace) -> int:
         raise WrongWords("--csvt needs --out, the name of a CSV")
     needs("numpy", *(["pandas"] if parquet else []))
     from ..files import output
-    from ..matrices import open_matrix
     from ..points.shown import shown_of
     from ..views import long
 
-    matrix, stops = shown_of(open_matrix(words.matrix), words.feed, words.points)
+    matrix, stops = shown_of(opened(words), words.feed, words.points)
     if words.safe and stops is not None:
         stops = replace(stops, names=list(map(long.safe, stops.names)))
     choice = choice_of(words, matrix)

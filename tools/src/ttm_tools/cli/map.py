@@ -2,15 +2,22 @@
 
 import argparse
 import math
+from typing import TYPE_CHECKING
 
-from .options import add_base, add_matrix, add_number, add_points, add_share, add_text, add_within
+from .options import add_base, add_matrix, add_number, add_points, add_share, add_text, add_within, opened
+
+if TYPE_CHECKING:
+    from ..matrices import Matrix
+    from ..views.nearest import Nearest
 
 TOLD = "a picture of travel times, of access, or of a difference"
 HELP = """\
 Draws a map of a matrix, a PNG file: travel times from an origin (times), access over all origins (access), or who loses
 and who gains in a scenario beside the base (difference): access at each origin, or with --origin the travel time to
 each stop. Who is cut off is a class of its own: a stop that isn't reached any more, an origin that loses all access. So
-is who is newly reached: a stop that wasn't reached before, an origin that had no access before.
+is who is newly reached: a stop that wasn't reached before, an origin that had no access before. With nearest each
+origin shows the travel time within which so many of --opportunities are reached; a difference shows how that changes
+where --nearest says how many.
 
 Points are drawn alone where the matrix has them: as squares where the file of points says how wide they are, and as
 areas where it has these.
@@ -35,7 +42,7 @@ def breaks_of(text: str) -> tuple[float, ...]:
 
 
 def describe(parser: argparse.ArgumentParser) -> None:
-    parser.add_argument("picture", choices=("times", "access", "difference"), help="what is drawn")
+    parser.add_argument("picture", choices=("times", "access", "nearest", "difference"), help="what is drawn")
     add_matrix(parser)
     parser.add_argument("--feed", metavar="FOLDER", required=True, help="the unpacked feed of the matrix (needed)")
     add_points(parser)
@@ -48,6 +55,11 @@ def describe(parser: argparse.ArgumentParser) -> None:
         without="the base, in a difference the only other one",
     )
     add_base(parser)
+    told = "a file with what each stop has, for nearest: a column stop_id (or id), and columns of numbers"
+    add_text(parser, "--opportunities", "FILE", told, without="nearest isn't drawn")
+    add_text(parser, "--column", "NAME", "the column of it that is looked for", without="the only one")
+    told = "how many of these are to be reached"
+    add_number(parser, "--nearest", told, "", (1e-9, 1e15), without="1, and in a difference access", whole=False)
     add_share(parser)
     add_within(parser)
     told = (
@@ -73,22 +85,25 @@ def run(words: argparse.Namespace) -> int:
 
     if words.picture == "times" and words.origin is None:
         raise WrongWords("times needs --origin")
+    of_nearest = words.picture == "nearest" or words.nearest is not None
+    if of_nearest and (words.picture in ("times", "access") or words.opportunities is None or words.origin is not None):
+        raise WrongWords("--nearest goes with nearest or difference, needs --opportunities, and takes no --origin")
     needs("numpy", "pandas", "matplotlib")
     from ..files import output
-    from ..matrices import open_matrix
     from ..points.shown import shown_of
     from ..views.lines import planned_of
     from ..views.maps import Sheet, figure_of, picture_of
     from ..views.pictures import Wish
 
-    whole = open_matrix(words.matrix)
+    whole = opened(words)
     matrix, stops = shown_of(whole, words.feed, words.points)
     assert stops is not None
     stops.of(matrix.stops)
     what = "stops" if matrix is whole else "points"
     base, loses = words.base or matrix.base, words.picture == "difference"
     wish = Wish(words.scenario, base, words.share, words.within, words.breaks, words.unit, what)
-    picture = picture_of(words.picture, matrix, stops, words.origin, wish)
+    sought = sought_of(words, matrix) if of_nearest else None
+    picture = picture_of(words.picture, matrix, stops, words.origin, wish, sought)
     scenario = words.scenario or (matrix.other(base, None) if loses else base)
     planned = planned_of(words.feed, words.edits, base, scenario, loses)
     sheet = Sheet(words.title, words.note or "", words.width, words.edits, planned)
@@ -96,3 +111,16 @@ def run(words: argparse.Namespace) -> int:
     with output(words.out) as file:
         figure.savefig(file, format="png", dpi="figure")
     return 0
+
+
+def sought_of(words: argparse.Namespace, matrix: "Matrix") -> "Nearest":
+    """The opportunities of which the nearest are looked for."""
+    from ..faults import BadInput, some
+    from ..measures.opportunities import read_counts
+    from ..views.nearest import Nearest
+
+    asked = [words.column] if words.column else []
+    counts = read_counts([words.opportunities], matrix.stops, "stop of the matrix", asked)
+    if len(counts.names) > 1:
+        raise BadInput(words.opportunities, f"it has the columns {some(counts.names)}: name one by --column")
+    return Nearest(counts.names[0], counts.numbers[:, 0], words.nearest or 1.0)

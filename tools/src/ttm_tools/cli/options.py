@@ -2,9 +2,10 @@
 
 import argparse
 import math
+import os
 from typing import TYPE_CHECKING, Callable, Sequence
 
-from ..faults import say
+from ..faults import WrongWords, say
 
 if TYPE_CHECKING:
     import datetime
@@ -105,6 +106,30 @@ def add_matrix(parser: argparse.ArgumentParser) -> None:
     parser.add_argument(
         "matrix", metavar="MATRIX", help="a matrix as ttm prints it, or an Open Matrix file of ttm-tools omx"
     )
+    told = "the greatest travel time: a pair that takes longer counts as not reached"
+    add_number(parser, "--max-minutes", told, "minutes", (0, 10000), without="each counts", whole=False)
+
+
+def opened(words: argparse.Namespace) -> "Matrix":
+    """The matrix that a command names, with the greatest travel time that it names, and beside the base of another file
+    where --base names one.
+    """
+    from ..matrices import Beside, capped, open_matrix
+
+    own, base = capped(open_matrix(words.matrix), words.max_minutes), getattr(words, "base", None)
+    if base is None or not is_file_of_base(base, own.scenarios):
+        if getattr(words, "base_scenario", None) is not None:
+            raise WrongWords("--base-scenario goes with a file as --base")
+        return own
+    made = Beside(own, capped(open_matrix(base), words.max_minutes), words.base_scenario)
+    words.base = None  # what is compared with is the base of the whole
+    say(*made.told())
+    return made
+
+
+def is_file_of_base(base: str, scenarios: Sequence[str]) -> bool:
+    """Whether a base is a file, and no scenario of the matrix or table."""
+    return base not in scenarios and os.path.isfile(base)
 
 
 def add_share(parser: argparse.ArgumentParser, without: str = "the only one") -> None:
@@ -141,7 +166,14 @@ def add_cutoffs(parser: argparse.ArgumentParser, told: str, bounds: tuple[float,
 
 def add_base(parser: argparse.ArgumentParser) -> None:
     told = "base, or today of a plan"
-    add_text(parser, "--base", "NAME", "the scenario to compare others with", without=told)
+    about = "the scenario to compare others with, or a file of the same kind with whose base they are compared"
+    add_text(parser, "--base", "NAME|FILE", about, without=told)
+    add_base_scenario(parser)
+
+
+def add_base_scenario(parser: argparse.ArgumentParser) -> None:
+    told = "the scenario of a file that --base names"
+    add_text(parser, "--base-scenario", "NAME", told, without="its base, or today")
 
 
 def add_feed(parser: argparse.ArgumentParser, told: str, without: str) -> None:

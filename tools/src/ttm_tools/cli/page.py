@@ -2,7 +2,17 @@
 
 import argparse
 
-from .options import add_base, add_cutoffs, add_matrix, add_number, add_points, add_share, add_text, scenarios_of
+from .options import (
+    add_base,
+    add_cutoffs,
+    add_matrix,
+    add_number,
+    add_points,
+    add_share,
+    add_text,
+    opened,
+    scenarios_of,
+)
 
 TOLD = "one HTML file to send, with travel times and access to explore in a browser"
 HELP = """\
@@ -68,15 +78,14 @@ def run(words: argparse.Namespace) -> int:
         raise WrongWords("--tiles begins with https:// or http://")
     needs("numpy", "pandas", "jinja2")
     from ..files import output
-    from ..matrices import open_matrix
     from ..views.page.document import leaflet_files
     from ..views.page.make import Wish, page_of, tell
 
     leaflet_files(words.leaflet)
+    matrix = opened(words)
     wish = Wish(
         **{name: getattr(words, WORDS.get(name, name)) for name in Wish.__dataclass_fields__ if name != "within"}
     )
-    matrix = open_matrix(words.matrix)
     scenarios_of(matrix, words.scenario)  # tells which of them is left out
     page = page_of(matrix, wish)
     with output(words.out) as file:

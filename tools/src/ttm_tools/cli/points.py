@@ -1,8 +1,13 @@
 """ttm-tools points."""
 
 import argparse
+from typing import TYPE_CHECKING
 
 from .options import add_number, add_pace, add_text
+
+if TYPE_CHECKING:
+    from ..points import Points
+    from ..walks import Pace
 
 TOLD = "from door to door: a feed with points as stops, and the walks to them"
 HELP = """\
@@ -15,6 +20,12 @@ are there name, width and height (how wide and high a cell is drawn, in metres; 
 numbers from 0 on. A column in which no field is a number has labels. With geopandas a GeoPackage or a GeoJSON file is
 taken, too, with the property id: a point inside of each area; its properties of text are labels. Journeys begin and end
 at the points of POINTS, begin at those of --origins, and end at those of --destinations.
+
+With --grid METRES square cells of that side are points, too: where they have a part in the polygons of --area, else
+where their middle is within a walk of a stop. A cell is called by its row from the south and its column from the west,
+such as r03c12. Journeys begin and end at the cells; with --destinations they only begin there, with --origins they only
+end there. --people sums numbers into the cells: of a file of points by the cell in which each lies, of polygons
+(GeoPackage, GeoJSON) by area. --area, and polygons, need geopandas.
 
 The folder has: feed, the feed with the points; footpaths.csv, the walks between points and stops, of stops and of
 points, within the limit; origins.csv and destinations.csv, the points; opportunities_NAME.csv for each column, its
@@ -38,6 +49,13 @@ def describe(parser: argparse.ArgumentParser) -> None:
     parser.add_argument("--out", metavar="FOLDER", required=True, help="the folder, which is new or empty (needed)")
     for name, told in (("id", "which point it is"), ("lat", "its latitude"), ("lon", "its longitude")):
         add_text(parser, f"--{name}", "COLUMN", f"the column that says {told}", default=name)
+    add_number(
+        parser, "--grid", "how wide the cells of a grid are", "metres", (10, 100000), without="none", whole=False
+    )
+    told = "polygons over which the grid lies (GeoPackage, GeoJSON)"
+    add_text(parser, "--area", "FILE", told, without="wherever a stop is within a walk")
+    told = "points or polygons whose numbers are summed into the cells; may be given more than once (without it, none)"
+    parser.add_argument("--people", metavar="FILE", action="append", default=[], help=told)
     add_number(parser, "--limit", "the longest walk, which is the --walk of a run too", "seconds", (1, 7200), 600)
     add_pace(parser)
     told = "leave out the points without a stop in reach (without it, they are reported)"
@@ -55,12 +73,23 @@ def run(words: argparse.Namespace) -> int:
     from ..walks import Pace, walks_of
 
     files, begins, ends = files_of(words)
+    if words.grid is None and (words.area or words.people):
+        raise WrongWords("--area and --people need --grid")
+    pace = Pace(words.limit, words.speed, words.detour)
+    if words.grid is not None:
+        if words.origins and words.destinations:
+            raise WrongWords("--grid goes with --origins or with --destinations: cells are the other end")
+        begins.append(not words.origins)
+        ends.append(not words.destinations)
     if not any(begins) or not any(ends):
         raise WrongWords("points are needed at which journeys begin, and at which they end")
     called = Columns(words.id, words.lat, words.lon)
     points = [read_points(path, called) for path in files]
+    if words.grid is not None:
+        cells, told = grid_of(words, pace)
+        points.append(cells)
+        say(*told)
     asked = Asked(words.feed, words.out, points, begins, ends, words.limit, words.leave_out, words.near)
-    pace = Pace(words.limit, words.speed, words.detour)
     say(*make(asked, lambda stops, first: walks_of(stops, pace, words.streets, words.near, first)))
     say(*told_nearer(f"{words.out}/{FEED}", f"{words.out}/{FOOTPATHS}", words.limit))
     return 0
@@ -72,3 +101,14 @@ def files_of(words: argparse.Namespace) -> tuple[list[str], list[bool], list[boo
     begins = [path in words.points or path in words.origins for path in files]
     ends = [path in words.points or path in words.destinations for path in files]
     return files, begins, ends
+
+
+def grid_of(words: argparse.Namespace, pace: "Pace") -> "tuple[Points, list[str]]":
+    """The cells of a grid, and what is told of them."""
+    from ..feed import read_stops
+    from ..points import grid
+
+    stops = read_stops(words.feed)
+    cells = grid.grid_over(words.area, words.grid) if words.area else grid.grid_near(stops, words.grid, pace.metres)
+    made, told = grid.filled(cells, words.people)
+    return made, [f"{len(made.identifiers):,} cells of {words.grid:g} metres", *told]

@@ -5,6 +5,8 @@ The room is called `matrices`, since `ttm_tools.matrix` is the function that run
 """
 
 from ..opening.paths import as_one_line, regular
+from .beside import Beside
+from .capped import capped
 from .csv_matrix import CsvMatrix
 from .layout import Layout, layout_of
 from .lines import Seconds
@@ -13,6 +15,7 @@ from .open_matrix import OpenMatrix, is_open_matrix, write_open_matrix
 
 __all__ = [
     "BASE",
+    "Beside",
     "TODAY",
     "Block",
     "Layout",
@@ -21,6 +24,7 @@ __all__ = [
     "Seconds",
     "Share",
     "Sums",
+    "capped",
     "has_all",
     "lacking",
     "layout_of",

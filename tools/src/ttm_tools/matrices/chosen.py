@@ -16,7 +16,8 @@ class Chosen(Matrix):
 
     def __init__(self, whole: Matrix, names: Collection[str]) -> None:
         self.whole, self.path = whole, whole.path
-        self.scenarios, self.shares = whole.scenarios, whole.shares
+        self.scenarios, self.shares, self.greatest = whole.scenarios, whole.shares, whole.greatest
+        self.heading, self.files = whole.heading, whole.files
         self.names = frozenset(names)
         self.columns = self.places_among(whole.stops)
         self.layout = replace(whole.layout, stops=[whole.stops[place] for place in self.columns.tolist()])
@@ -53,6 +54,27 @@ class Chosen(Matrix):
     def rows(self, scenario: str, share: Share, begin: int, end: int) -> Seconds:
         found = self.whole.rows_at(scenario, share, self.rows_of(scenario, share)[begin:end])
         return found if len(self.columns) == len(self.whole.stops) else found[:, self.columns]
+
+    def limit(self, asked: int | None) -> tuple[int, int | None]:
+        return self.whole.limit(asked)
+
+    @property
+    def base(self) -> str:
+        return self.whole.base
+
+    @property
+    def compared(self) -> list[str]:
+        return self.whole.compared
+
+    @property
+    def left_out(self) -> str:
+        return self.whole.left_out
+
+    def scenario(self, name: str) -> str:
+        return self.whole.scenario(name)
+
+    def other(self, base: str, asked: str | None) -> str:
+        return self.whole.other(base, asked)
 
     def rows_at_once(self) -> int:
         return self.whole.rows_at_once()

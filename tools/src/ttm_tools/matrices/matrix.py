@@ -39,6 +39,9 @@ class Matrix(ABC):
     layout: Layout
     scenarios: list[str]  # in the file's order
     shares: list[Share]  # ascending
+    greatest: float | None = None  # seconds above which a pair counts as not reached
+    heading: str = ""  # what stands above it where it is two files, one beside the other
+    files: tuple[str, ...] = ()  # those that it has beside its own
 
     @abstractmethod
     def origins(self, scenario: str, share: Share) -> list[str]:
@@ -137,6 +140,11 @@ class Matrix(ABC):
         if name not in self.scenarios:
             raise BadInput(self.path, f"no scenario {shown(name)}; it has {', '.join(map(shown, self.scenarios))}")
         return name
+
+    @property
+    def told_greatest(self) -> str:
+        """What is told beside the percentile where travel times have an end."""
+        return "" if self.greatest is None else f"pairs beyond {self.greatest / 60:g} minutes count as not reached"
 
     @property
     def left_out(self) -> str:

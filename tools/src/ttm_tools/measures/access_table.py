@@ -1,16 +1,20 @@
-"""A table of access in the long form, as `ttm-tools access` or r5r writes it: columns of numbers by origin again."""
+"""A table of access in the long form, as `ttm-tools access` or r5r writes it: columns of numbers by origin again; or of
+the time to the nearest, as `ttm-tools access --nearest` writes it.
+"""
 
+import math
 from dataclasses import dataclass
-from typing import Iterator
+from typing import Iterator, Sequence
 
 import numpy as np
 
 from ..faults import BadInput, some
 from ..feed import Floats
 from ..matrices import BASE, TODAY
-from ..records import number_of, rows, shown
+from ..records import number_of, records, rows, shown
 
 COLUMNS = ("id", "opportunity", "percentile", "cutoff", "accessibility")
+OF_TIMES = ("id", "opportunity", "percentile", "nearest", "seconds")
 
 
 @dataclass(frozen=True)
@@ -19,12 +23,18 @@ class Kind:
 
     opportunity: str
     percentile: str
-    cutoff: str  # minutes
+    cutoff: str  # minutes; of a table of times how many are to be reached
 
     @property
     def told(self) -> str:
         share = f", share {self.percentile} %" if self.percentile else ""
         return f"{shown(self.opportunity)} within {self.cutoff} minutes{share}"
+
+    @property
+    def told_nearest(self) -> str:
+        share = f", share {self.percentile} %" if self.percentile else ""
+        count = "" if self.cutoff == "1" else f"{self.cutoff} "
+        return f"time to the {count}nearest {shown(self.opportunity)}{share}"
 
 
 @dataclass(frozen=True)
@@ -35,12 +45,17 @@ class AccessTable:
     scenarios: list[str]
     kinds: list[Kind]
     origins: list[str]
-    numbers: Floats  # by scenario, kind and origin
+    numbers: Floats  # by scenario, kind and origin; of times seconds, NaN where so many aren't reached
+    of_times: bool = False
+    named_base: str | None = None  # where it is of another table
 
     @property
     def base(self) -> str:
         """The scenario that others are compared with where none is named."""
-        return TODAY if TODAY in self.scenarios else BASE
+        return self.named_base or (TODAY if TODAY in self.scenarios else BASE)
+
+    def told(self, kind: Kind) -> str:
+        return kind.told_nearest if self.of_times else kind.told
 
     def scenario(self, name: str) -> int:
         """The place of a scenario."""
@@ -54,7 +69,8 @@ def read_access(path: str) -> AccessTable:
     """A table in which each scenario and kind has each origin once; without a column scenario all is `base`."""
     scenarios, kinds, origins = dict[str, int](), dict[Kind, int](), dict[str, int]()
     found: dict[tuple[int, int, int], float] = {}
-    for number, scenario, kind, origin, value in lines_of(path):
+    of_times = is_of_times(path)
+    for number, scenario, kind, origin, value in lines_of(path, OF_TIMES if of_times else COLUMNS):
         places = (scenarios.setdefault(scenario, len(scenarios)), kinds.setdefault(kind, len(kinds)))
         key = (*places, origins.setdefault(origin, len(origins)))
         if key in found:
@@ -64,18 +80,59 @@ def read_access(path: str) -> AccessTable:
     if not found:
         raise BadInput(path, "no lines")
     numbers[tuple(np.array(list(found)).T)] = list(found.values())
-    table = AccessTable(path, list(scenarios), list(kinds), list(origins), numbers)
+    table = AccessTable(path, list(scenarios), list(kinds), list(origins), numbers, of_times)
     tell_gaps(table)
+    table.numbers[np.isinf(table.numbers)] = np.nan
     return table
 
 
-def lines_of(path: str) -> Iterator[tuple[int, str, Kind, str, float]]:
-    """Each line: its record, scenario, kind, origin and access."""
-    for number, (origin, opportunity, percentile, cutoff, text, scenario) in rows(path, COLUMNS, ["scenario"]):
-        value = number_of(text.strip())
+def beside(own: AccessTable, other: AccessTable, labels: tuple[str, str], scenario: str | None) -> AccessTable:
+    """The scenarios of a table, and as their base one of another: the kinds and origins that both have. Labels are what
+    the bases of both are called.
+    """
+    if own.of_times != other.of_times:
+        raise BadInput(other.path, f"one has access and the other times to the nearest, as {own.path}")
+    kinds = [kind for kind in own.kinds if kind in other.kinds]
+    origins = [name for name in own.origins if name in set(other.origins)]
+    if not kinds or not origins:
+        what = "origin" if kinds else "opportunity, percentile and cutoff"
+        raise BadInput(other.path, f"has no {what} in common with {own.path}")
+    renamed = [labels[0] if name == own.base else name for name in own.scenarios]
+    parts = [
+        it.numbers[np.ix_(rows, [it.kinds.index(kind) for kind in kinds], [it.origins.index(name) for name in origins])]
+        for it, rows in ((other, [other.scenario(scenario or other.base)]), (own, range(len(own.scenarios))))
+    ]
+    names = [labels[1], *(name for name in renamed if name != labels[1])]
+    kept = [row for row, name in enumerate(renamed) if name != labels[1]]
+    numbers = np.concatenate([parts[0], parts[1][kept]])
+    return AccessTable(own.path, names, kinds, origins, numbers, own.of_times, labels[1])
+
+
+def told_lost(own: AccessTable, other: AccessTable) -> list[str]:
+    """The origins that only one of two tables has."""
+    made = []
+    for one, another in ((own, other), (other, own)):
+        there = set(another.origins)
+        lost = [shown(name) for name in one.origins if name not in there]
+        if lost:
+            count = f"{len(lost):,} of {len(one.origins):,} origins of {one.path}"
+            made.append(f"{count} aren't in {another.path}, and are left out: {some(lost)}")
+    return made
+
+
+def is_of_times(path: str) -> bool:
+    """Whether a table tells times to the nearest."""
+    _, header = next(records(path), (1, list[str]()))
+    return {*OF_TIMES[3:]} <= {*header} and not {*COLUMNS[3:]} <= {*header}
+
+
+def lines_of(path: str, named: Sequence[str]) -> Iterator[tuple[int, str, Kind, str, float]]:
+    """Each line: its record, scenario, kind, origin and access, or time: infinite where so many aren't reached."""
+    for number, (origin, opportunity, percentile, cutoff, text, scenario) in rows(path, named, ["scenario"]):
+        value = math.inf if named is OF_TIMES and not text.strip() else number_of(text.strip())
         if not value >= 0:
             allowed = "a number from 0 on"
-            raise BadInput(path, "is none", record=number, column=COLUMNS[-1], value=text, allowed=allowed)
+            raise BadInput(path, "is none", record=number, column=named[-1], value=text, allowed=allowed)
         yield number, scenario or "base", Kind(opportunity, percentile, cutoff), origin, value
 
 
@@ -84,5 +141,5 @@ def tell_gaps(table: AccessTable) -> None:
     gaps = np.isnan(table.numbers)
     for scenario, kind in np.argwhere(gaps.any(axis=2))[:1].tolist():
         lost = [shown(table.origins[place]) for place in np.flatnonzero(gaps[scenario, kind]).tolist()]
-        what = f"{table.kinds[kind].told}, {shown(table.scenarios[scenario])}"
+        what = f"{table.told(table.kinds[kind])}, {shown(table.scenarios[scenario])}"
         raise BadInput(table.path, f"{what} lacks {len(lost):,} of {len(table.origins):,} origins: {some(lost)}")

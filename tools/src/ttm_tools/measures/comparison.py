@@ -16,6 +16,8 @@ from ..matrices import Pair, Seconds, Sums
 
 KINDS = ["cut off", "slower", "new", "faster"]  # in the order of a table
 CUT_OFF, SLOWER, NEW, FASTER = range(4)
+LOSS, GAIN, RELATIVE = "loss", "gain", "relative"  # ways to sort beside losers first and then winners, by size
+RANKS = {LOSS: [0, 1, 3, 2], GAIN: [3, 2, 0, 1]}  # of KINDS
 
 
 @dataclass(frozen=True)
@@ -65,9 +67,9 @@ class Sides:
         return f"{lose:,} lose{all_of_it}, {gain:,} gain{from_nothing}"
 
 
-def sides_of(before: Sums, after: Sums) -> Sides:
-    """The sides of origins with this access before and after."""
-    lose, gain = after < before, after > before
+def sides_of(before: Sums, after: Sums, least: int = 1) -> Sides:
+    """The sides of origins with this access before and after; a change below the least counts for none."""
+    lose, gain = before - after >= least, after - before >= least
     return Sides(lose, gain, lose & (after == 0), gain & (before == 0))
 
 
@@ -114,14 +116,44 @@ def columns_of(begin: int, before: Seconds, after: Seconds, kinds: npt.NDArray[n
     return [*ends, kinds[row, column], before[row, column], after[row, column]]
 
 
-def order_of(changes: Changes) -> npt.NDArray[np.intp]:
+def order_of(changes: Changes, sort: str | None = None) -> npt.NDArray[np.intp]:
     """Losers first: those cut off, then the slower, the greatest change first; then new connections, then the faster,
-    the greatest change first.
+    the greatest change first. Sorted by gain new connections and the faster come first, and those cut off last; by loss
+    the faster come before new connections; relative, each by its part of the travel time before.
     """
+    if sort is not None:
+        return sorted_pairs(changes, sort)
     size = np.nan_to_num(np.abs(changes.after - changes.before)).astype(np.int32)
     key = (changes.kind.astype(np.int32) << 25) + ((1 << 24) - size)
     order: npt.NDArray[np.intp] = np.argsort(key, kind="stable")
     return order
+
+
+def sorted_pairs(changes: Changes, sort: str) -> npt.NDArray[np.intp]:
+    """Pairs by kind, and then by change: the least gain, or loss, last of what is first, and first of what is last."""
+    change = np.nan_to_num(changes.after.astype(np.float64) - changes.before)
+    if sort == RELATIVE:
+        part = np.abs(change) / np.maximum(np.nan_to_num(changes.before.astype(np.float64)), 1)
+        return as_order(np.lexsort([-part, changes.kind]))
+    rank = np.array(RANKS[sort])[changes.kind]
+    return as_order(np.lexsort([-change if sort == LOSS else change, rank]))
+
+
+def sorted_origins(first: Sums, second: Sums, sort: str) -> npt.NDArray[np.intp]:
+    """Origins by their change of access: the greatest loss or gain first, or by its part of the access before, losers
+    first and then winners.
+    """
+    change = (second - first).astype(np.float64)
+    if sort != RELATIVE:
+        return np.argsort(change if sort == LOSS else -change, kind="stable")
+    part = np.abs(change) / np.where(first > 0, first, np.where(change == 0, 1, 1e-300))
+    rank = np.select([change < 0, change > 0], [0, 1], 2)
+    return as_order(np.lexsort([-part, rank]))
+
+
+def as_order(places: Any) -> npt.NDArray[np.intp]:
+    made: npt.NDArray[np.intp] = places
+    return made
 
 
 def order_of_origins(change: Sums, counts: npt.NDArray[np.int64]) -> npt.NDArray[np.intp]:

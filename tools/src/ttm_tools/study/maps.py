@@ -2,13 +2,17 @@
 
 from dataclasses import dataclass
 from pathlib import Path
+from typing import Any
 
 from ..files import many_written_aside, output
 from ..naming import file_names
 from ..views.lines import planned_of
+from ..measures.opportunities import columns_of
 from ..views.maps import Sheet, figure_of, picture_of
+from ..views.nearest import Nearest
 from ..views.pictures import Wish
-from .results import Whole
+from .counted import COUNTED
+from .results import STOPS, Whole
 from .stages import Folder, Record, Stage
 
 MAPS = "maps"
@@ -23,6 +27,7 @@ class Drawn:
     scenario: str
     origin: str | None = None
     name: str | None = None  # of the origin, as a file may be called
+    nearest: str | None = None  # of what the nearest are looked for
 
     @property
     def is_difference(self) -> bool:
@@ -39,6 +44,20 @@ def maps_of(whole: Whole) -> list[Drawn]:
         made.append(Drawn(f"{MAPS}/times_{stop}.png", "times", base, origin))
         for it, name in whole.others.items():
             made.append(Drawn(f"{MAPS}/times_{stop}_{name}.png", "difference", it, origin))
+    return made + maps_of_nearest(whole)
+
+
+def maps_of_nearest(whole: Whole) -> list[Drawn]:
+    """Maps of the time to the first count of the nearest, of each thing that is counted."""
+    if not whole.study.results.nearest:
+        return []
+    base, made = whole.inputs.base, list[Drawn]()
+    names = columns_of(COUNTED) if "counted" in whole.inputs.records else [STOPS]
+    ends = ["", *(f"_{name}" for name in whole.others.values())]
+    for what, column in file_names(names, ends).items():
+        made.append(Drawn(f"{MAPS}/nearest_{column}.png", "nearest", base, nearest=what))
+        for it, name in whole.others.items():
+            made.append(Drawn(f"{MAPS}/nearest_{column}_{name}.png", "difference", it, nearest=what))
     return made
 
 
@@ -58,7 +77,10 @@ def maps_stage(whole: Whole) -> Stage:
 
     study, inputs = whole.study, whole.inputs
     words = [study.about.note, whole.unit, list(study.results.map_origins), whole.scenarios]
-    return Stage("maps", {**whole.depends, "words": words, "run": inputs.sums}, [MAPS], make)
+    counted = inputs.records["counted"].outputs if "counted" in inputs.records and study.results.nearest else {}
+    facts: dict[str, Any] = {**whole.depends, "words": words, "run": inputs.sums, "counted": counted}
+    facts["nearest"] = list(study.results.nearest[:1])
+    return Stage("maps", facts, [MAPS], make)
 
 
 def draw(whole: Whole, drawn: Drawn, folder: Path) -> None:
@@ -69,7 +91,11 @@ def draw(whole: Whole, drawn: Drawn, folder: Path) -> None:
     what = "points" if "points" in inputs.records else "stops"
     scenario = drawn.scenario
     wish = Wish(scenario, inputs.base, study.share, study.within, None, whole.unit, what)
-    picture = picture_of(drawn.kind, matrix, stops, drawn.origin, wish)
+    sought = None
+    if drawn.nearest is not None:
+        numbers = whole.counts(matrix).named(drawn.nearest)
+        sought = Nearest(drawn.nearest, numbers, study.results.nearest[0])
+    picture = picture_of(drawn.kind, matrix, stops, drawn.origin, wish, sought)
     edits = [inputs.edits[name] for name in (inputs.base, scenario) if name in inputs.edits]
     planned = planned_of(inputs.feed, edits, inputs.base, scenario, drawn.is_difference)
     own = edits if drawn.is_difference else []

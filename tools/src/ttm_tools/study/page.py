@@ -1,12 +1,10 @@
 """The page of a study: one file to look at, and to send."""
 
 from ..files import output
-from ..matrices import open_matrix
 from ..measures.opportunities import columns_of
 from ..points.study import POINTS
 from ..views.page.make import Wish, page_of
 from .counted import COUNTED, PEOPLE
-from .joining import MATRIX
 from .results import Whole
 from .stages import Folder, Record, Stage
 
@@ -24,7 +22,7 @@ def page_stage(whole: Whole) -> Stage:
     study, inputs = whole.study, whole.inputs
 
     def make() -> list[str]:
-        page = page_of(open_matrix(MATRIX), wish_of(whole))
+        page = page_of(whole.whole(), wish_of(whole))
         with output(PAGE) as file:
             page.write(file)
         ground = page.content.ground

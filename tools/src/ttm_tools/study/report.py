@@ -9,7 +9,7 @@ from typing import Iterator, Sequence
 from ..measures.access_table import read_access
 from ..records import records as records_in, shown
 from .document import Document
-from .maps import maps_of
+from .maps import Drawn, maps_of
 from .page import PAGE
 from .results import ACCESS_TABLE, EQUITY_TABLE, Whole
 from .stages import Record, Stage
@@ -17,6 +17,11 @@ from .stages import Record, Stage
 MARKDOWN, HTML, TOLD = "report.md", "report.html", "inputs/told.txt"
 FEW = 10  # origins that lose, and that gain most, which the report names
 MOST_DECIMALS = 6
+OF_PEOPLE = {
+    "bands": "People with at least so many opportunities",
+    "equity_nearest": "Time to the nearest, by groups of people",
+    "bands_nearest": "People with the nearest within so many minutes",
+}
 PROVED = (
     "Each travel time of the matrix is the least that the percentile of departures achieves, over all journeys of at "
     "most the stated number of vehicles, for the files in the folder inputs and the arguments above. This is ttm's "
@@ -77,6 +82,7 @@ def write_figures(made: Document, whole: Whole, records: dict[str, Record]) -> N
     study = whole.study
     if "access" in records:
         caption = f"Mean access of the origins, for travel times that {study.share} percent of the departures achieve"
+        caption += f"; {told}" if (told := whole.whole().told_greatest) else ""
         made.table(caption, ["Counted", "Within, minutes", *whole.scenarios], list(means(whole)))
     for scenario, name in whole.others.items():
         if f"compare_{name}" in records:
@@ -87,15 +93,23 @@ def write_figures(made: Document, whole: Whole, records: dict[str, Record]) -> N
         made.heading("How it is spread over people", 3)
         header, *lines = all_rows(EQUITY_TABLE)
         made.table(f"Access by groups of people ({EQUITY_TABLE})", [as_words(it) for it in header], lines)
+    for name, caption in OF_PEOPLE.items():
+        if name in records:
+            header, *lines = all_rows(f"{name}.csv")
+            made.table(f"{caption} ({name}.csv)", [as_words(it) for it in header], lines)
     if "page" in records:
         made.link("To look at in a browser:", PAGE)
     if "maps" in records:
         made.heading("Maps", 3)
         made.paragraph("The pictures lie in the folder maps, as files of their own.")
         for it in maps_of(whole):
-            made.picture(
-                it.file, f"{it.kind}, {shown(it.scenario)}" + (f", from {shown(it.origin)}" if it.origin else "")
-            )
+            made.picture(it.file, f"{it.kind}, {shown(it.scenario)}" + told_of(it))
+
+
+def told_of(drawn: Drawn) -> str:
+    """From where, or to what, a map shows travel times."""
+    from_there = f", from {shown(drawn.origin)}" if drawn.origin else ""
+    return from_there + (f", the nearest {shown(drawn.nearest)}" if drawn.nearest else "")
 
 
 def means(whole: Whole) -> Iterator[list[str]]:

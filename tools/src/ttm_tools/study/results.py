@@ -7,16 +7,16 @@ import numpy as np
 
 from ..feed import Floats, Stops
 from ..files import output
-from ..matrices import Matrix, Share, open_matrix, pair_of
-from ..measures.access import Decay, access
+from ..matrices import Matrix, Share, capped, open_matrix, pair_of
+from ..measures.access import Decay, access, nearest
 from ..measures.access_table import read_access
 from ..measures.comparison import Comparison, compare
 from ..measures.opportunities import Counts, columns_of, read_counts
 from ..naming import file_names
 from ..points.shown import shown_of
 from ..records import shown
-from ..views import equity
-from ..views.access import ACCESS, LONG, measured, write_access
+from ..views import bands, equity
+from ..views.access import ACCESS, LONG, NEAREST, measured, write_access
 from ..views.differences import summary, write_origins, write_pairs
 from .counted import COUNTED, PEOPLE
 from .inputs import Inputs
@@ -25,6 +25,7 @@ from .stages import Folder, Record, Stage
 from .wishes import Study
 
 ACCESS_TABLE, EQUITY_TABLE, EQUITY_PAGE = "access.csv", "equity.csv", "equity.md"
+NEAREST_TABLE = "nearest.csv"
 PAIRS = "_pairs"  # behind a scenario's name, the file of its pairs
 STOPS, POINTS = "stops", "points"  # what is counted where nothing else is named
 LOSE = 10.0  # percent of the base's access, from which on somebody counts as a loser
@@ -55,11 +56,21 @@ class Whole:
     def depends(self) -> dict[str, Any]:
         """What every result depends on."""
         known = {"matrix": self.sum, "base": self.inputs.base, "stops": self.inputs.stops_sum}
-        return {**known, "share": self.study.share, "within": self.study.within}
+        return {**known, "share": self.study.share, "within": self.study.within, "most": self.study.results.max_minutes}
+
+    def whole(self) -> Matrix:
+        """The matrix, up to the greatest travel time that the study names."""
+        return capped(open_matrix(MATRIX), self.study.results.max_minutes)
+
+    def counts(self, matrix: Matrix) -> Counts:
+        """What is counted at its stops: each as one where nothing is named."""
+        if "counted" in self.inputs.records:
+            return read_counts([COUNTED], matrix.stops, "stop of the matrix")
+        return Counts([STOPS], np.ones((len(matrix.stops), 1)))
 
     def open(self) -> tuple[Matrix, Stops]:
         """The matrix, with names and places of what it shows."""
-        matrix, stops = shown_of(open_matrix(MATRIX), self.inputs.feed, None)
+        matrix, stops = shown_of(self.whole(), self.inputs.feed, None)
         assert stops is not None  # a feed was named
         return matrix, stops
 
@@ -76,7 +87,12 @@ def make_tables(whole: Whole, folder: Folder) -> dict[str, Record]:
         made["access"] = folder.do(access_stage(whole))
         people = whole.inputs.records.get("people")
         if people is not None:
-            made["equity"] = folder.do(equity_stage(whole, made["access"], people))
+            made |= of_people(whole, folder, made["access"], people, Names("", wish.bands))
+    if wish.nearest:
+        made["nearest"] = folder.do(nearest_stage(whole))
+        people = whole.inputs.records.get("people")
+        if people is not None:
+            made |= of_people(whole, folder, made["nearest"], people, Names("_nearest", wish.nearest_bands))
     if wish.compare:
         for scenario, name in whole.others.items():
             stage = compare_stage(whole, scenario, name)
@@ -90,8 +106,7 @@ def access_stage(whole: Whole) -> Stage:
 
     def make() -> list[str]:
         matrix, _ = whole.open()
-        stops = Counts([STOPS], np.ones((len(matrix.stops), 1)))
-        counts = read_counts([COUNTED], matrix.stops, "stop of the matrix") if counted else stops
+        counts = whole.counts(matrix)
         decay = Decay(wish.decay, wish.decay_value)
 
         def measure(scenario: str, share: Share) -> Floats:
@@ -102,25 +117,79 @@ def access_stage(whole: Whole) -> Stage:
             write_access(file, found, counts.names, study.cutoffs, heads=ACCESS, form=LONG, with_scenario=True)
         return [f"{ACCESS_TABLE}: {', '.join(map(shown, counts.names))}"]
 
-    words = [wish.decay, wish.decay_value, list(study.cutoffs)]
+    words = [wish.decay, wish.decay_value, list(study.cutoffs), wish.max_minutes]
     facts = {"matrix": whole.sum, "words": words, "counted": counted.outputs if counted else None}
     return Stage("access", facts, [ACCESS_TABLE], make)
 
 
-def equity_stage(whole: Whole, access: Record, people: Record) -> Stage:
-    """How access is spread over people."""
+def nearest_stage(whole: Whole) -> Stage:
+    """The table of times to the nearest: all scenarios, shares and opportunities."""
+    wish, counted = whole.study.results, whole.inputs.records.get("counted")
 
     def make() -> list[str]:
-        table = read_access(ACCESS_TABLE)
-        counts = read_counts([PEOPLE], table.origins, f"origin of {ACCESS_TABLE}")
+        matrix, _ = whole.open()
+        counts = whole.counts(matrix)
+
+        def measure(scenario: str, share: Share) -> Floats:
+            return nearest(matrix, scenario, share, counts.numbers, wish.nearest)
+
+        found = [measured(matrix, scenario, matrix.shares, measure) for scenario in matrix.scenarios]
+        with output(NEAREST_TABLE) as file:
+            write_access(file, found, counts.names, wish.nearest, heads=NEAREST, form=LONG, with_scenario=True)
+        return [f"{NEAREST_TABLE}: {', '.join(map(shown, counts.names))}"]
+
+    words = [list(wish.nearest), wish.max_minutes]
+    facts = {"matrix": whole.sum, "words": words, "counted": counted.outputs if counted else None}
+    return Stage("nearest", facts, [NEAREST_TABLE], make)
+
+
+@dataclass(frozen=True)
+class Names:
+    """What the tables for people are called behind their kind, and their bands."""
+
+    end: str
+    bands: Sequence[float]
+
+
+def of_people(whole: Whole, folder: Folder, table: Record, people: Record, names: Names) -> dict[str, Record]:
+    """Does the stages that count people by a table of access, or of the nearest."""
+    made = {f"equity{names.end}": folder.do(equity_stage(whole, table, people, names.end))}
+    if names.bands:
+        made[f"bands{names.end}"] = folder.do(bands_stage(table, people, names))
+    return made
+
+
+def equity_stage(whole: Whole, access: Record, people: Record, end: str) -> Stage:
+    """How access, or the time to the nearest, is spread over people."""
+    (read,) = access.outputs
+    csv, page = f"equity{end}.csv", f"equity{end}.md"
+
+    def make() -> list[str]:
+        table = read_access(read)
+        counts = read_counts([PEOPLE], table.origins, f"origin of {read}")
         asked = equity.Asked(whole.inputs.base, LOSE, table.kinds)
-        for path, form in ((EQUITY_TABLE, equity.CSV), (EQUITY_PAGE, equity.MARKDOWN)):
+        for path, form in ((csv, equity.CSV), (page, equity.MARKDOWN)):
             with output(path) as file:
                 equity.write_equity(file, equity.measured(table, counts, asked), form)
-        return [f"{EQUITY_TABLE}: {', '.join(map(shown, counts.names))}"]
+        return [f"{csv}: {', '.join(map(shown, counts.names))}"]
 
     depends = {"access": access.outputs, "base": whole.inputs.base, "people": people.outputs}
-    return Stage("equity", depends, [EQUITY_TABLE, EQUITY_PAGE], make)
+    return Stage(f"equity{end}", depends, [csv, page], make)
+
+
+def bands_stage(access: Record, people: Record, names: Names) -> Stage:
+    """How many people are within bands of access, or of the time to the nearest."""
+    (read,), csv = access.outputs, f"bands{names.end}.csv"
+
+    def make() -> list[str]:
+        table = read_access(read)
+        counts = read_counts([PEOPLE], table.origins, f"origin of {read}")
+        with output(csv) as file:
+            bands.write_bands(file, table, bands.bands_of(table, table.kinds, counts, names.bands), equity.CSV)
+        return [f"{csv}: {', '.join(map(shown, counts.names))}"]
+
+    depends = {"access": access.outputs, "people": people.outputs, "bands": list(names.bands)}
+    return Stage(f"bands{names.end}", depends, [csv], make)
 
 
 def compare_stage(whole: Whole, scenario: str, name: str) -> Stage:

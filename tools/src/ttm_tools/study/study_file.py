@@ -143,6 +143,13 @@ def agree_on_results(study: Study, results: Entry, opportunities: Entry) -> None
         if value is not None and value not in among:
             name = "shares" if key == "share" else "limits"
             raise results.fault(f"is none of {name} of [run]", key, str(value), ", ".join(map(str, among)))
+    if wish.max_minutes is not None and study.within > 60 * wish.max_minutes:
+        allowed = f"at least {study.within / 60:g}"
+        raise results.fault("ends before the limit of tables and maps", "max_minutes", str(wish.max_minutes), allowed)
+    if (wish.bands or wish.nearest_bands) and not (wish.access and study.opportunities.people):
+        raise results.fault("needs access, and people of [opportunities]", "bands" if wish.bands else "nearest_bands")
+    if wish.nearest_bands and not wish.nearest:
+        raise results.fault("needs nearest", "nearest_bands")
     needs_value = wish.decay in ("linear", "logistic")
     if needs_value and not wish.decay_value:
         raise results.fault("needs decay_value, minutes above 0", "decay", wish.decay)

@@ -154,6 +154,27 @@ class ResultWish:
     decay_value: float | None = told(
         number(0, 10000, "minutes"), "the parameter of linear and logistic; without it, none", "10", None
     )
+    nearest: tuple[float, ...] = told(
+        ascending(0.000001, 1e15, "opportunities", False),
+        "nearest.csv: the time within which so many are reached; equity_nearest.csv where people are named; and a map",
+        "[1, 3]",
+        (),
+    )
+    bands: tuple[float, ...] = told(
+        ascending(0, 1e15, "opportunities", False),
+        "bands.csv: how many people have at least so many; needs people",
+        "[1000, 10000]",
+        (),
+    )
+    nearest_bands: tuple[float, ...] = told(
+        ascending(0, 10000, "minutes", False),
+        "bands_nearest.csv: how many people have the nearest within so many; needs people and nearest",
+        "[10, 20, 30]",
+        (),
+    )
+    max_minutes: float | None = told(
+        number(0, 10000, "minutes"), "beyond which a pair counts as not reached; without it, each counts", "90", None
+    )
     compare: bool = told(FLAG, "winners and losers by origin, for each scenario", "false", True)
     pairs: bool = told(FLAG, "winners and losers by pair, for each scenario", "true", False)
     differs: int = told(whole(0, 604800, "seconds"), "a change of travel time counts above this", "60", 60)

@@ -1,12 +1,14 @@
 """The tables of winners and losers, by pair of stops and by origin."""
 
+from dataclasses import dataclass
 from typing import BinaryIO, Sequence
 
 import numpy as np
+import numpy.typing as npt
 
 from ..feed import Stops
-from ..matrices import Pair
-from ..measures.comparison import KINDS, Changes, Comparison, order_of, order_of_origins, sides_of
+from ..matrices import Pair, Sums
+from ..measures.comparison import KINDS, Changes, Comparison, order_of, order_of_origins, sides_of, sorted_origins
 from ..records import Numerals, Texts, field, fields_as_texts, joined, shown, texts_of, write_rows
 
 LINES_AT_ONCE = 200_000
@@ -20,14 +22,27 @@ def ends_as_texts(names: Sequence[str], stops: Stops | None) -> Texts:
     return texts_of([field(name) + b"," + field(other) + b"," for name, other in zip(names, told)])
 
 
-def write_pairs(out: BinaryIO, pair: Pair, changes: Changes, stops: Stops | None) -> None:
+BOTH, OF_TIMES, OF_ACCESS = "both", "times", "access"  # why an origin is listed
+
+
+@dataclass(frozen=True)
+class Choice:
+    """Which lines a table has, and in which order."""
+
+    sort: str | None = None  # losers first, and then winners, each by the size of the change
+    top: int | None = None  # so many lines
+    listed: str = BOTH
+    least: int = 1  # by which access differs
+
+
+def write_pairs(out: BinaryIO, pair: Pair, changes: Changes, stops: Stops | None, choice: Choice = Choice()) -> None:
     """A line for each pair that differs, losers first."""
     named = [b"origin", *([b"origin_name"] if stops else []), b"destination", *([b"destination_name"] if stops else [])]
     out.write(b",".join([*named, b"what", b"before", b"after", b"change"]) + b"\n")
     origins, destinations = ends_as_texts(pair.origins, stops), ends_as_texts(pair.matrix.stops, stops)
     kinds = fields_as_texts(KINDS, after=b",")
     seconds, change = Numerals(b"%d,".__mod__, b","), Numerals(b"%d\n".__mod__, b"\n")
-    order = order_of(changes)
+    order = order_of(changes, choice.sort)[: choice.top]
     for begin in range(0, len(order), LINES_AT_ONCE):
         chosen = order[begin : begin + LINES_AT_ONCE]
         before, after = changes.before[chosen], changes.after[chosen]
@@ -37,32 +52,56 @@ def write_pairs(out: BinaryIO, pair: Pair, changes: Changes, stops: Stops | None
         out.write(joined([*ends, *numbers], len(chosen)))
 
 
-def write_origins(out: BinaryIO, pair: Pair, place: int, comparison: Comparison, stops: Stops | None) -> None:
+def chosen_origins(first: Sums, second: Sums, counts: npt.NDArray[np.int64], choice: Choice) -> list[int]:
+    """The origins that are listed, by a pair that differs, by their access, or by either, in their order."""
+    change = second - first
+    order = order_of_origins(change, counts)
+    if choice.sort is not None:
+        order = sorted_origins(first, second, choice.sort)
+    of_times, of_access = counts.any(axis=1), np.abs(change) >= choice.least
+    wanted = {BOTH: of_times | of_access, OF_TIMES: of_times, OF_ACCESS: of_access}[choice.listed]
+    made: list[int] = order[wanted[order]][: choice.top].tolist()
+    return made
+
+
+def write_origins(
+    out: BinaryIO,
+    pair: Pair,
+    place: int,
+    comparison: Comparison,
+    stops: Stops | None,
+    choice: Choice = Choice(),
+) -> None:
     """A line for each origin with a pair that differs or with other access, losers first."""
     first, second = pair.access(place)
     change, counts = second - first, comparison.counts
     names = stops.of(pair.origins).names if stops is not None else None
     header = ["origin", *(["origin_name"] if names else []), "access_before", "access_after", "change", "percent"]
-    chosen = [row for row in order_of_origins(change, counts).tolist() if change[row] or counts[row].any()]
     lines = []
-    for row in chosen:
+    for row in chosen_origins(first, second, counts, choice):
         percent = round(100 * int(change[row]) / int(first[row]), 1) if first[row] > 0 else ""
         name = [names[row]] if names else []
         lines.append([pair.origins[row], *name, first[row], second[row], change[row], percent, *counts[row]])
     write_rows(out, [*header, *[kind.replace(" ", "_") for kind in KINDS]], lines)
 
 
-def summary(pair: Pair, comparison: Comparison, limit: float, place: int | None) -> list[str]:
-    """A line on all pairs, and one on access where the table is that of origins."""
+def summary(pair: Pair, comparison: Comparison, limit: float, place: int | None, least: int = 1) -> list[str]:
+    """A line on all pairs, and one on access where the table is that of origins; both say by how much they differ."""
     pairs = len(pair.origins) * len(pair.matrix.stops)
     totals = comparison.counts.sum(axis=0)
     counts = ", ".join(f"{count:,} {kind}" for kind, count in zip(KINDS, totals.tolist()))
-    names = f"{shown(pair.other)} beside {shown(pair.base)}"
-    told = [f"{names}: of {pairs:,} pairs {counts} (by more than {limit:g} seconds)"]
+    names, end = f"{shown(pair.other)} beside {shown(pair.base)}", pair.matrix.told_greatest
+    told = [f"{names}: of {pairs:,} pairs {counts} (by more than {limit:g} seconds{'; ' * bool(end)}{end})"]
     if place is not None:
         first, second = pair.access(place)
         change = second - first
         told.append(
-            f"access: of {len(change):,} origins {sides_of(first, second).told()}; in all {int(change.sum()):+,}"
+            f"access: of {len(change):,} origins {sides_of(first, second, least).told()}"
+            f"{by_how_much(least)}; in all {int(change.sum()):+,}"
         )
     return told
+
+
+def by_how_much(least: int) -> str:
+    """The threshold of access, where there is one."""
+    return f" (by {least:,} or more)" if least > 1 else ""

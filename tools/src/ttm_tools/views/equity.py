@@ -1,7 +1,7 @@
 """What is shown of equity: a table, as CSV or Markdown, and a picture of Lorenz curves and of changes by tenths."""
 
 from dataclasses import astuple, dataclass
-from typing import Any, BinaryIO, Iterator, Sequence
+from typing import Any, BinaryIO, Callable, Iterator, Sequence
 
 import numpy as np
 
@@ -10,6 +10,7 @@ from ..faults import BadInput, some
 from ..feed import Floats
 from ..measures.access_table import AccessTable, Kind
 from ..measures.equity import TENTHS, Equity, changes_by_tenth, equity, lorenz
+from ..measures.nearness import Nearness, nearness
 from ..measures.opportunities import Counts
 from ..records import shown, write_rows
 from .texts import text_alone
@@ -17,6 +18,7 @@ from .texts import text_alone
 CSV, MARKDOWN = "csv", "markdown"
 HEADS = ["opportunity", "percentile", "cutoff", "group", "scenario", "people", "mean", "median", "losers_percent"]
 MEASURES = ["gini", "palma", "least_tenth", "least_tenth_change"]
+OF_TIMES = ["people", "reached_percent", "mean_minutes", "median_minutes", "nine_tenths_minutes", "losers_percent"]
 COLOURS = ("#000000", "#0072b2", "#d55e00", "#009e73", "#cc79a7", "#e69f00", "#56b4e9")  # after Okabe and Ito
 INCHES, HIGH = (10.0, 4.8), 0.72
 
@@ -42,7 +44,7 @@ def chosen_kinds(
         and all(asked is None or is_number(getattr(kind, name), asked) for name, asked in numbers.items())
     ]
     if not made:
-        raise BadInput(table.path, f"nothing of the kind; it has {some([kind.told for kind in table.kinds])}")
+        raise BadInput(table.path, f"nothing of the kind; it has {some([table.told(kind) for kind in table.kinds])}")
     return made
 
 
@@ -53,9 +55,12 @@ def is_number(text: str, asked: float) -> bool:
         return False
 
 
-def measured(table: AccessTable, people: Counts, asked: Asked) -> Iterator[tuple[Kind, str, str, Equity]]:
+def measured(table: AccessTable, people: Counts, asked: Asked) -> Iterator[tuple[Kind, str, str, Equity | Nearness]]:
     """The measures of each kind, group and scenario."""
     base = table.scenario(asked.base)
+    measure: Callable[[Floats, Floats, Floats, float], Equity | Nearness] = equity
+    if table.of_times:
+        measure = nearness
     for kind in asked.kinds:
         numbers = table.numbers[:, table.kinds.index(kind)]
         for group in people.names:
@@ -63,7 +68,7 @@ def measured(table: AccessTable, people: Counts, asked: Asked) -> Iterator[tuple
             if not weights.any():
                 raise BadInput(table.path, f"nobody of the group {shown(group)} lives at its origins")
             for place, scenario in enumerate(table.scenarios):
-                yield kind, group, scenario, equity(numbers[base], numbers[place], weights, asked.percent)
+                yield kind, group, scenario, measure(numbers[base], numbers[place], weights, asked.percent)
 
 
 def told(number: float) -> str:
@@ -71,10 +76,13 @@ def told(number: float) -> str:
     return "" if np.isnan(number) else f"{number:.4f}".rstrip("0").rstrip(".")
 
 
-def write_equity(out: BinaryIO, lines: Iterator[tuple[Kind, str, str, Equity]], form: str) -> None:
+def write_equity(out: BinaryIO, lines: Iterator[tuple[Kind, str, str, Equity | Nearness]], form: str) -> None:
     """Writes a line for each kind, group and scenario."""
-    made = [[*astuple(kind), group, scenario, *map(told, astuple(of))] for kind, group, scenario, of in lines]
+    found = list(lines)
+    made = [[*astuple(kind), group, scenario, *map(told, astuple(of))] for kind, group, scenario, of in found]
     header = [*HEADS, *MEASURES]
+    if any(isinstance(of, Nearness) for *_, of in found):
+        header = [*HEADS[:2], "nearest", *HEADS[3:5], *OF_TIMES]
     if form == CSV:
         write_rows(out, header, made)
         return
@@ -87,6 +95,8 @@ def write_equity(out: BinaryIO, lines: Iterator[tuple[Kind, str, str, Equity]], 
 @text_alone
 def figure_of(table: AccessTable, people: Counts, asked: Asked) -> Any:
     """The picture of one kind and one group."""
+    if table.of_times:
+        raise BadInput(table.path, "of times to the nearest ttm-tools bands draws a picture")
     if len(asked.kinds) > 1:
         there = some([kind.told for kind in asked.kinds])
         names = "--opportunity, --percentile and --cutoff"

@@ -3,6 +3,7 @@ GeoPackage. Points that are areas keep their shapes.
 """
 
 import contextlib
+import itertools
 import json
 import math
 import sqlite3
@@ -17,6 +18,8 @@ from ..faults import BadInput, needs
 from ..feed import Stops
 from ..files import written_aside
 from ..matrices import Matrix, Share
+from ..measures.access import nearest
+from ..measures.opportunities import Counts
 from ..opening.paths import as_one_line
 from ..points.areas import geometry_of
 from ..records import shown, with_gaps
@@ -66,6 +69,26 @@ def features_of(
     kept = np.flatnonzero(found.placed)
     there = found.of([found.identifiers[place] for place in kept.tolist()])
     return Features(there, {name: numbers[kept] for name, numbers in columns.items()})
+
+
+def with_nearest(
+    features: Features,
+    matrix: Matrix,
+    kinds: tuple[Sequence[str], Sequence[Share]],
+    counts: Counts,
+    nearest_of: Sequence[float],
+) -> Features:
+    """The same with the seconds within which so many opportunities are reached, for these scenarios and shares."""
+    columns, among = dict(features.columns), features.stops.places
+    for scenario, share in itertools.product(*kinds):
+        found = nearest(matrix, scenario, share, counts.numbers, nearest_of)
+        rows = [(row, among[name]) for row, name in enumerate(matrix.origins(scenario, share)) if name in among]
+        chosen, places = np.array(rows, dtype=np.intp).reshape(-1, 2).T
+        for (kind, what), (place, count) in itertools.product(enumerate(counts.names), enumerate(nearest_of)):
+            column = np.full(len(features.stops.identifiers), np.nan)
+            column[places] = found[chosen, kind, place]
+            columns[named(scenario, share, f"{shown(what)}_nearest_{count:g}")] = column
+    return Features(features.stops, columns)
 
 
 def write_geojson(out: BinaryIO, features: Features) -> None:

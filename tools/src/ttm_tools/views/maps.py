@@ -8,6 +8,7 @@ from ..feed import Projection, Stops, has_file, lines_of
 from ..matrices import Matrix
 from . import drawing
 from .lines import Planned, lines_of_edits, lines_of_plan
+from .nearest import Nearest, picture_of_nearest, picture_of_nearest_difference
 from .pictures import (
     Picture,
     Wish,
@@ -29,11 +30,20 @@ class Sheet:
     planned: Planned | None = None  # of scenarios of a plan, whose files stand for these
 
 
-def picture_of(kind: str, matrix: Matrix, stops: Stops, origin: str | None, wish: Wish) -> Picture:
-    """What is to be drawn: times, access, or difference."""
+def picture_of(
+    kind: str, matrix: Matrix, stops: Stops, origin: str | None, wish: Wish, what: Nearest | None = None
+) -> Picture:
+    """What is to be drawn: times, access, nearest, or difference, of the nearest where it is named."""
     if origin is not None and origin not in stops.places:
         raise BadInput(stops.path, f"no stop {origin}")
-    if kind == "access":
+    if what is not None:
+        is_one = kind == "nearest"
+        made = (
+            picture_of_nearest(matrix, wish, what)
+            if is_one
+            else (picture_of_nearest_difference(matrix, stops, wish, what))
+        )
+    elif kind == "access":
         made = picture_of_access(matrix, stops, wish)
     elif origin is None:
         made = picture_of_access_difference(matrix, stops, wish)

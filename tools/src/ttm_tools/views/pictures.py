@@ -85,9 +85,12 @@ def shades(count: int, name: str = "plasma", first: float = 0.0, last: float = 0
     return [Shade(name, first + (last - first) * (place / max(1, count - 1)) ** 0.8) for place in range(count)]
 
 
-def source_told(scenario: str, share: Share) -> str:
-    told = f"Scenario {scenario}"
-    return f"{told}." if share is None else f"{told}; travel times that {share} of 100 departures keep to."
+def source_told(scenario: str, share: Share, matrix: Matrix) -> str:
+    told = [
+        f"Scenario {scenario}",
+        *([] if share is None else [f"travel times that {share} of 100 departures keep to"]),
+    ]
+    return "; ".join([*told, *(it for it in (matrix.told_greatest, matrix.heading) if it)]) + "."
 
 
 def within_told(limit: int | None) -> str:
@@ -111,7 +114,9 @@ def picture_of_times(matrix: Matrix, stops: Stops, origin: str, wish: Wish) -> P
     others = len(seconds) - (origin in matrix.places)
     told = f"{there.sum():,} of {others:,} other {wish.what} are reached{half}"
     title, key = f"Travel time from {stops.name_of(origin)}", "Travel time in minutes,\nwaiting included"
-    return Picture(title, told, key, marks, classes, source_told(shown(scenario), share), matrix.places.get(origin))
+    return Picture(
+        title, told, key, marks, classes, source_told(shown(scenario), share, matrix), matrix.places.get(origin)
+    )
 
 
 def round_step(most: float, count: int) -> int:
@@ -150,7 +155,7 @@ def picture_of_access(matrix: Matrix, stops: Stops, wish: Wish) -> Picture:
     told = f"From half of {len(access):,} {wish.what} at least {half:,} {wish.unit} are reached, at most {most:,}"
     title = f"Access from each {wish.what[:-1]}: {wish.unit}{within_told(limit)}"
     key = f"{wish.unit.capitalize()} reached{within_told(limit)}".replace(" within", "\nwithin")
-    source = source_told(shown(scenario), share)
+    source = source_told(shown(scenario), share, matrix)
     return Picture(title, told, key, marks, classes, source, drawn=drawn)
 
 
@@ -211,7 +216,7 @@ def picture_of_time_difference(matrix: Matrix, stops: Stops, origin: str, wish: 
         f"Travel time from {stops.name_of(origin)}: {beside(pair)}",
         f"Of {len(matrix.stops):,} {wish.what} {counts}",
     )
-    source = source_told(beside(pair), pair.share)
+    source = source_told(beside(pair), pair.share, matrix)
     return Picture(title, told, "Change of travel time", marks, classes, source, matrix.places.get(origin))
 
 
@@ -234,7 +239,7 @@ def picture_of_access_difference(matrix: Matrix, stops: Stops, wish: Wish) -> Pi
         most, lost = -percent[order[0]], int(first[order[0]] - second[order[0]])
         told += f"; the most: {most:.0f} % ({lost:,} {wish.unit}) at {stops.name_of(worst[0])}"
     title = f"Access from each {wish.what[:-1]}: {wish.unit}{within_told(limit)}, {beside(pair)}"
-    key, source = f"Change of access:\n{wish.unit}{within_told(limit)}", source_told(beside(pair), pair.share)
+    key, source = f"Change of access:\n{wish.unit}{within_told(limit)}", source_told(beside(pair), pair.share, matrix)
     drawn = matrix.stops_and_origins()
     classes = of_origins(drawn, pair.origins, classes, len(marks) - 1)
     return Picture(title, told, key, marks, classes, source, None, first_names(drawn, worst, stops), drawn)

@@ -12,20 +12,30 @@ from ..days import service_of
 from ..plan_file import Entry
 from ..state import State, Trip, in_range
 
-KEYS = ("do", *CHOICE, "every", "from", "to")
+KEYS = ("do", *CHOICE, "every", "times", "from", "to")
 
 
 def headway(state: State, entry: Entry) -> list[str]:
-    """In each direction of the routes, departures from the start of the period on, strictly before its end."""
+    """In each direction of the routes, departures from the start of the period on, strictly before its end; or some
+    added between those that are there.
+    """
+    from .oftener import oftener
+
     entry.only(KEYS)
-    every, start, end = entry.whole("every", 1, 86_400), entry.time("from"), entry.time("to")
+    start, end = entry.time("from"), entry.time("to")
     if end <= start:
         raise entry.fault(f"isn't after from, {clock(start)}", "to", clock(end))
     by_route: dict[str, list[Trip]] = {}
     for trip in chosen(state, entry):
         by_route.setdefault(trip.route, []).append(trip)
     groups = [group for trips in by_route.values() for group in directions_of(trips)]
-    return [line for group in groups for line in thinned(state, entry, group, range(start, end, every), end)]
+    if entry.one_of("every", "times") == "every":
+        times = range(start, end, entry.whole("every", 1, 86_400))
+        return [line for group in groups for line in thinned(state, entry, group, times, end)]
+    told = [line for group in groups for line in oftener(state, entry, group, start, end)]
+    if not state.changes:
+        raise entry.fault(f"leaves nothing between {clock(start)} and {clock(end)} to be added to", "times")
+    return told
 
 
 def thinned(state: State, entry: Entry, trips: Sequence[Trip], times: range, end: int) -> list[str]:

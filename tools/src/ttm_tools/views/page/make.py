@@ -88,7 +88,7 @@ def frame_of(matrix: Matrix, content: Content, asked: Asked, wish: Wish) -> Fram
     words = sources.Words(wish.words or "")
     name = shown(os.path.basename(os.path.abspath(wish.feed)))
     files = {
-        "Matrix": [matrix.path],
+        "Matrix": [matrix.path, *matrix.files],
         "Points": [path for path in [wish.points or points_in(wish.feed)] if path is not None],
         "Opportunities": wish.opportunities,
         "People": wish.people,
@@ -99,9 +99,9 @@ def frame_of(matrix: Matrix, content: Content, asked: Asked, wish: Wish) -> Fram
         wish.note or "",
         asked.scenarios,
         asked.shares,
-        [sources.meaning(share, words) for share in asked.shares],
+        [sources.meaning(share, words) + end_told(matrix) for share in asked.shares],
         sources.table(files, wish.feed, words),
-        told_rows(content, asked),
+        [*told_rows(content, asked), *([f"{matrix.heading}."] if matrix.heading else [])],
         first_minutes(matrix, wish.within),
         wish.tiles,
         wish.attribution or "",
@@ -109,9 +109,15 @@ def frame_of(matrix: Matrix, content: Content, asked: Asked, wish: Wish) -> Fram
     )
 
 
+def end_told(matrix: Matrix) -> str:
+    """What is told beside a percentile where travel times have an end."""
+    told = matrix.told_greatest
+    return f" {told[0].upper()}{told[1:]}." if told else ""
+
+
 def first_minutes(matrix: Matrix, within: int | None) -> int:
     """Where the slider stands first: at the limit that is named, or the first one of the matrix, where it has one."""
-    limit = within or matrix.layout.limits[0]
+    limit = within or next(iter(matrix.layout.limits), None)
     return MINUTES if limit is None else min(max(1, math.ceil(limit / 60)), MOST_MINUTES)
 
 

@@ -1,0 +1,152 @@
+"""Two matrices on the disk as one: the base of another file beside the scenarios of this one, matched by
+identifiers.
+"""
+
+from dataclasses import dataclass, replace
+from pathlib import Path
+from typing import Sequence
+
+import numpy as np
+
+from ..faults import BadInput, some
+from ..records import shown
+from .lines import Seconds
+from .matrix import Matrix, Places, Share, Sums
+from .origin import told_of
+
+
+@dataclass(frozen=True)
+class Source:
+    """A scenario of one of the two, and how its rows, columns and limits stand in the whole."""
+
+    matrix: Matrix
+    scenario: str
+    shares: dict[Share, Share]  # of the whole to its own
+    origins: list[str]  # that both have
+    columns: Places
+    limits: Places
+
+    def rows_of(self, share: Share) -> Places:
+        """The places of the origins among its own."""
+        names = self.matrix.origins(self.scenario, self.shares[share])
+        places = {name: place for place, name in enumerate(names)}
+        return np.array([places[name] for name in self.origins], dtype=np.intp)
+
+
+class Beside(Matrix):
+    """The scenarios of a matrix, and as their base one of another: the origins, stops, shares and limits that both
+    have.
+    """
+
+    def __init__(self, own: Matrix, other: Matrix, scenario: str | None = None) -> None:
+        self.path, self.greatest = own.path, own.greatest
+        self.own, self.other_matrix = own, other
+        first, second = labels_of(own.path, other.path)
+        chosen = other.scenario(scenario or other.base)
+        shares = shares_of(own, other)
+        self.shares = list(shares)
+        limits = limits_of(own, other)
+        stops = [name for name in own.stops if name in other.places]
+        self.layout = replace(own.layout, limits=tuple(own.layout.limits[place] for place, _ in limits), stops=stops)
+        at = [np.array([it[end] for it in limits], dtype=np.intp) for end in (0, 1)]
+        columns = [np.array([it.places[name] for name in stops], dtype=np.intp) for it in (own, other)]
+        origins = self.common(chosen, shares)
+        self.sources = {second: Source(other, chosen, shares, origins, columns[1], at[1])}
+        same: dict[Share, Share] = {share: share for share in shares}
+        self.renamed = {own.base: first}
+        for name in own.compared:
+            self.sources[self.renamed.get(name, name)] = Source(own, name, same, origins, columns[0], at[0])
+        self.scenarios = list(self.sources)
+        self.heading, self.files = self.heading_of(), (other.path,)
+        if not stops or not origins:
+            raise BadInput(other.path, f"has no {'stop' if not stops else 'origin'} in common with {own.path}")
+
+    def common(self, chosen: str, shares: dict[Share, Share]) -> list[str]:
+        """The origins that all scenarios and shares of both have, in the order of the first."""
+        lists = [self.own.origins(name, share) for name in self.own.compared for share in shares]
+        lists += [self.other_matrix.origins(chosen, share) for share in shares.values()]
+        among = set(lists[0]).intersection(*lists[1:])
+        return [name for name in lists[0] if name in among]
+
+    @property
+    def base(self) -> str:
+        return self.scenarios[0]
+
+    @property
+    def compared(self) -> list[str]:
+        return self.scenarios
+
+    @property
+    def left_out(self) -> str:
+        return self.own.left_out
+
+    def scenario(self, name: str) -> str:
+        return super().scenario(name if name in self.scenarios else self.renamed.get(name, name))
+
+    def other(self, base: str, asked: str | None) -> str:
+        return self.scenarios[1] if asked is None and base == self.base else super().other(base, asked)
+
+    def origins(self, scenario: str, share: Share) -> list[str]:
+        return self.sources[scenario].origins
+
+    def access(self, scenario: str, share: Share) -> Sums:
+        of = self.sources[scenario]
+        made: Sums = of.matrix.access(of.scenario, of.shares[share])[of.rows_of(share)][:, of.limits]
+        return made
+
+    def rows(self, scenario: str, share: Share, begin: int, end: int) -> Seconds:
+        of = self.sources[scenario]
+        found = of.matrix.rows_at(of.scenario, of.shares[share], of.rows_of(share)[begin:end])
+        made: Seconds = found[:, of.columns]
+        return made
+
+    def told(self) -> list[str]:
+        """What is only in one of the two, and from where each comes."""
+        lines, (own, other) = list[str](), (self.own, self.other_matrix)
+        share = self.shares[0]
+        mine, base = list(self.sources.values())[1], self.sources[self.base]
+        ends = [(it.matrix.origins(it.scenario, it.shares[share]), it.matrix.stops) for it in (mine, base)]
+        for what, place, kept in (("origins", 0, set(mine.origins)), ("stops", 1, set(self.stops))):
+            for (one, names), (another, _) in (((own, ends[0]), (other, ends[1])), ((other, ends[1]), (own, ends[0]))):
+                lost = [shown(name) for name in names[place] if name not in kept]
+                if lost:
+                    count = f"{len(lost):,} of {len(names[place]):,} {what} of {one.path}"
+                    lines.append(f"{count} aren't in {another.path}, and are left out: {some(lost)}")
+        return [*lines, self.heading]
+
+    def heading_of(self) -> str:
+        """Which two are compared: file, scenario, day and departures where a study tells them, and percentiles where
+        these differ.
+        """
+        made, others = [], self.sources[self.base].shares
+        for label, of in list(self.sources.items())[1::-1]:
+            differs = [f"percentile {of.shares[share]}" for share in self.shares if others[share] != share]
+            told = [f"scenario {shown(of.scenario)}", *told_of(of.matrix.path), *differs]
+            made.append(f"{shown(label)} is {of.matrix.path} ({', '.join(told)})")
+        return "; ".join(made)
+
+
+def labels_of(own: str, other: str) -> tuple[str, str]:
+    """What the two are called: by their files, or folders where these are called alike."""
+    paths = [Path(own).absolute(), Path(other).absolute()]
+    for names in ([it.stem for it in paths], [it.parent.name for it in paths]):
+        if names[0] != names[1]:
+            return names[0], names[1]
+    return own, other if other != own else f"{other} (base)"
+
+
+def shares_of(own: Matrix, other: Matrix) -> dict[Share, Share]:
+    """The percentiles that both have; or the only ones, one beside the other."""
+    both: dict[Share, Share] = {share: share for share in own.shares if share in other.shares}
+    if both:
+        return both
+    if len(own.shares) == 1 and len(other.shares) == 1:
+        return {own.shares[0]: other.shares[0]}
+    told = ", ".join(map(str, own.shares))
+    raise BadInput(other.path, f"no percentile in common with {own.path}, which has {told}")
+
+
+def limits_of(own: Matrix, other: Matrix) -> Sequence[tuple[int, int]]:
+    """The places of the limits of access that both have."""
+    mine, others = own.layout.limits, other.layout.limits
+    return [(place, others.index(limit)) for place, limit in enumerate(mine) if limit in others]

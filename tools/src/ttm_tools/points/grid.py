@@ -1,0 +1,239 @@
+"""A grid of square cells as points of a study: over an area, or wherever somebody can walk to a stop.
+
+A cell is called by its row from the south and its column from the west, counted from 1. Numbers of people, jobs and the
+like come from points, which count in the cell in which they lie, and from polygons, which are shared out by area.
+"""
+
+from dataclasses import dataclass
+from pathlib import Path
+from typing import Any, Sequence
+
+import numpy as np
+import numpy.typing as npt
+
+from ..faults import BadInput, needs
+from ..feed import Floats, Projection, Stops
+from ..records import shown
+from .table import AREAS, Points, plain, read_frame, read_points, text_of
+
+MOST_CELLS = 65_535  # stops and points that `ttm` takes
+MOST_TRIED = 2_000_000  # squares of a bounding box
+POLYGONS = ("Polygon", "MultiPolygon")
+PATH = "grid"  # what faults name in place of a file
+Squares = npt.NDArray[np.int64]
+
+
+@dataclass(frozen=True)
+class Grid:
+    """Square cells: `squares` has a row for each, its row from the south and its column from the west, from 0."""
+
+    projection: Projection
+    side: float  # kilometres
+    south: float  # of the first row, kilometres north of the middle of the projection
+    west: float  # of the first column
+    squares: Squares
+
+    def places(self) -> dict[tuple[int, int], int]:
+        return {(row, column): place for place, (row, column) in enumerate(self.squares.tolist())}
+
+    def middles(self) -> tuple[Floats, Floats]:
+        """How far north and east of the projection's middle the middle of each cell lies, in kilometres."""
+        north, east = ((self.squares + 0.5) * self.side).T
+        return north + self.south, east + self.west
+
+    def square(self, row: int, column: int) -> Any:
+        """The shape of a cell, in kilometres."""
+        from shapely.geometry import box
+
+        west, south = self.west + column * self.side, self.south + row * self.side
+        return box(west, south, west + self.side, south + self.side)
+
+    def names(self) -> list[str]:
+        """The identifiers, of one length, so that they sort by row and column."""
+        digits = [len(str(most + 1)) for most in self.squares.max(axis=0).tolist()]
+        return [f"r{row + 1:0{digits[0]}d}c{column + 1:0{digits[1]}d}" for row, column in self.squares.tolist()]
+
+    def points(self, columns: list[str], numbers: Floats) -> Points:
+        """The cells as points, with numbers of what is there."""
+        north, east = self.middles()
+        names, widths = self.names(), np.full(len(self.squares), self.side * 1000)
+        degrees = (self.projection.latitudes(north).round(7), self.projection.longitudes(east).round(7))
+        return Points(PATH, names, names, *degrees, widths, columns, numbers)
+
+
+def grid_near(stops: Stops, side: float, metres: float) -> Grid:
+    """The cells whose middle lies at most so many metres from a stop at which vehicles call."""
+    called = stops.placed & (stops.kinds == 0)
+    if not called.any():
+        raise BadInput(stops.path, "no stop has stop_lat and stop_lon, so there is no place for a grid")
+    projection = Projection(stops.latitudes[called], stops.longitudes[called])
+    east, north = projection.east(stops.longitudes[called]), projection.north(stops.latitudes[called])
+    side, reach = side / 1000, metres / 1000
+    south, west = float(north.min()) - reach, float(east.min()) - reach
+    refuse_tried(((2 * reach / side) + 1) ** 2)
+    found = np.zeros((0, 2), np.int64)
+    for up, right in zip((north - south).tolist(), (east - west).tolist()):
+        rows, columns = (np.arange(int((it - reach) // side), int((it + reach) // side) + 1) for it in (up, right))
+        off = ((rows + 0.5) * side - up)[:, None] ** 2 + ((columns + 0.5) * side - right)[None, :] ** 2
+        near = np.argwhere(off <= reach**2) + [rows[0], columns[0]]
+        found = np.concatenate([found, near])
+        if len(found) > 2 * MOST_CELLS:
+            found = np.unique(found, axis=0)
+            refuse_cells(len(found))
+    return whole(Grid(projection, side, south, west, np.unique(found, axis=0)))
+
+
+def grid_over(path: str, side: float) -> Grid:
+    """The cells that have a part in an area of polygons."""
+    needs("shapely", "geopandas")
+    from shapely.ops import transform, unary_union
+    from shapely.prepared import prep
+
+    shapes = [shape for shape in areas_of(path).geometry if shape.geom_type in POLYGONS]
+    if not shapes:
+        raise BadInput(path, "no polygon")
+    bounds = np.array([shape.bounds for shape in shapes])
+    projection = Projection(bounds[:, [1, 3]].ravel(), bounds[:, [0, 2]].ravel())
+    area = unary_union([transform(projection.kilometres, shape) for shape in shapes])
+    west, south, east, north = area.bounds
+    side /= 1000
+    counts = [int(np.ceil(length / side - 1e-9)) for length in (north - south, east - west)]
+    refuse_tried(float(counts[0]) * counts[1])
+    grid, inside = Grid(projection, side, south, west, np.zeros((0, 2), np.int64)), prep(area)
+    found = []
+    for row in range(counts[0]):
+        if not inside.intersects(band(grid, row, counts[1])):
+            continue
+        near = [it for it in range(counts[1]) if inside.intersects(grid.square(row, it))]
+        found += [(row, it) for it in near if area.intersection(grid.square(row, it)).area > 1e-9 * side**2]
+        refuse_cells(len(found))
+    return whole(Grid(projection, side, south, west, np.array(found, np.int64).reshape(-1, 2)))
+
+
+def band(grid: Grid, row: int, count: int) -> Any:
+    """A whole row of so many cells."""
+    from shapely.ops import unary_union
+
+    return unary_union([grid.square(row, 0), grid.square(row, count - 1)]).envelope
+
+
+def whole(grid: Grid) -> Grid:
+    """The same grid, if it has some cells and not too many."""
+    refuse_cells(len(grid.squares))
+    if not len(grid.squares):
+        raise BadInput(PATH, f"no cell of {1000 * grid.side:g} metres is within a walk of a stop: take smaller ones")
+    return grid
+
+
+def refuse_tried(count: float) -> None:
+    if count > MOST_TRIED:
+        raise BadInput(PATH, f"{count:,.0f} cells are too many to look at: take larger ones, or a smaller area")
+
+
+def refuse_cells(count: int) -> None:
+    if count > MOST_CELLS:
+        raise BadInput(PATH, f"more than {MOST_CELLS:,} cells, which ttm doesn't take: take larger ones")
+
+
+def areas_of(path: str) -> Any:
+    """The shapes of a file in degrees."""
+    if Path(path).suffix.lower() not in AREAS:
+        raise BadInput(path, f"areas are taken from {', '.join(AREAS)}")
+    frame = read_frame(path)
+    if frame.crs is None:
+        raise BadInput(path, "it names no coordinate reference system")
+    return frame[~(frame.geometry.isna() | frame.geometry.is_empty)].to_crs(4326)
+
+
+def filled(grid: Grid, paths: Sequence[str]) -> tuple[Points, list[str]]:
+    """The cells with the numbers of some files, and what is told of numbers outside of all cells."""
+    columns, found, told = list[str](), [np.zeros((len(grid.squares), 0))], list[str]()
+    for path in paths:
+        is_polygons = Path(path).suffix.lower() in AREAS and any(areas_of(path).geom_type.isin(POLYGONS))
+        names, numbers, totals = from_polygons(grid, path) if is_polygons else from_points(grid, path)
+        twice = next((name for name in names if name in columns), None)
+        if twice is not None:
+            raise BadInput(path, f"a column {shown(twice)} is in another file too")
+        columns += names
+        found.append(numbers)
+        told += told_outside(path, names, totals - numbers.sum(axis=0), totals)
+    return grid.points(columns, np.concatenate(found, axis=1)), told
+
+
+def told_outside(path: str, names: Sequence[str], lost: Floats, totals: Floats) -> list[str]:
+    """How much of each column lies in no cell."""
+    return [
+        f"{path}: {plain(round(outside, 3))} of {plain(round(total, 3))} {shown(name)} lie outside of all cells"
+        for name, outside, total in zip(names, lost.tolist(), totals.tolist())
+        if outside > 1e-6 * max(total, 1)
+    ]
+
+
+def from_points(grid: Grid, path: str) -> tuple[list[str], Floats, Floats]:
+    """The columns of a file of points, their sums by cell, and their totals."""
+    points = read_points(path)
+    refuse_none(path, points.columns)
+    up = grid.projection.north(points.latitudes) - grid.south
+    right = grid.projection.east(points.longitudes) - grid.west
+    cells = np.floor(np.stack([up, right], axis=1) / grid.side + 1e-9).astype(np.int64)
+    places, made = grid.places(), np.zeros((len(grid.squares), len(points.columns)))
+    at = np.array([places.get((row, column), -1) for row, column in cells.tolist()], dtype=np.intp)
+    np.add.at(made, at[at >= 0], points.numbers[at >= 0])
+    return points.columns, made, points.numbers.sum(axis=0)
+
+
+def from_polygons(grid: Grid, path: str) -> tuple[list[str], Floats, Floats]:
+    """The same of a file of polygons: a cell gets as much of a polygon's numbers as it has of its area."""
+    from shapely.ops import transform
+
+    frame = areas_of(path)
+    names = [it for it in frame.columns if frame[it].dtype.kind in "iuf" and it not in ("id", "width", "height")]
+    refuse_none(path, names)
+    numbers = numbers_of(path, frame, names)
+    places, made = grid.places(), np.zeros((len(grid.squares), len(names)))
+    for record, shape in enumerate(frame.geometry):
+        own = transform(grid.projection.kilometres, shape)
+        for place, part in shares_of(grid, places, own):
+            made[place] += numbers[record] * part
+    return list(map(str, names)), made, numbers.sum(axis=0)
+
+
+def shares_of(grid: Grid, places: dict[tuple[int, int], int], shape: Any) -> list[tuple[int, float]]:
+    """The cells in which a shape lies, each with the share of its area; of a point or a line by where its middle is."""
+    from shapely.prepared import prep
+
+    if not shape.area:
+        middle = shape.centroid
+        cell = int((middle.y - grid.south) // grid.side), int((middle.x - grid.west) // grid.side)
+        return [(places[cell], 1.0)] if cell in places else []
+    west, south, east, north = shape.bounds
+    rows = range(int((south - grid.south) // grid.side), int((north - grid.south) // grid.side) + 1)
+    columns = range(int((west - grid.west) // grid.side), int((east - grid.west) // grid.side) + 1)
+    if len(rows) * len(columns) <= len(places):
+        near = [(row, column) for row in rows for column in columns if (row, column) in places]
+    else:
+        near = [(row, column) for row, column in places if row in rows and column in columns]
+    inside, total = prep(shape), shape.area
+    squares = [(places[it], grid.square(*it)) for it in near]
+    return [
+        (place, (square.area if inside.contains(square) else shape.intersection(square).area) / total)
+        for place, square in squares
+        if inside.intersects(square)
+    ]
+
+
+def numbers_of(path: str, frame: Any, names: Sequence[str]) -> Floats:
+    """The columns of a frame; nothing counts as 0, and no number is negative."""
+    made: Floats = np.nan_to_num(frame[list(names)].to_numpy(dtype=np.float64), nan=0.0, posinf=-1.0)
+    bad = np.argwhere(made < 0)
+    if len(bad):
+        record, column = bad[0].tolist()
+        value = text_of(frame[names[column]].iat[record])
+        allowed = "a number from 0 on"
+        raise BadInput(path, "is none", record=record + 1, column=names[column], value=value, allowed=allowed)
+    return made
+
+
+def refuse_none(path: str, names: Sequence[str]) -> None:
+    if not names:
+        raise BadInput(path, "no column of numbers")

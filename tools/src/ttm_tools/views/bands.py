@@ -1,0 +1,114 @@
+"""What is shown of people by band: a table, as CSV or Markdown, and stacked bars."""
+
+from dataclasses import astuple, dataclass
+from typing import Any, BinaryIO, Iterator, Sequence
+
+from ..escaping import markdown
+from ..faults import BadInput, some
+from ..feed import Floats
+from ..measures.access_table import AccessTable, Kind
+from ..measures.bands import with_at_least, within_minutes
+from ..measures.opportunities import Counts
+from ..records import shown, write_rows
+from .access import told as number_told
+from .equity import CSV, told
+from .texts import text_alone
+
+INCHES = 10.0
+BAR = 0.34  # inches of a bar with its room
+AROUND = 1.7  # inches of title and key
+
+
+@dataclass(frozen=True)
+class Band:
+    """How many people of a group are within a band in a scenario."""
+
+    kind: Kind
+    group: str
+    scenario: str
+    limit: float  # opportunities at least, or minutes at most
+    people: float
+    percent: float  # of the group
+
+
+def bands_of(table: AccessTable, kinds: Sequence[Kind], people: Counts, limits: Sequence[float]) -> Iterator[Band]:
+    """Each kind, group, scenario and limit, in this order."""
+    count = within_minutes if table.of_times else with_at_least
+    for kind in kinds:
+        numbers = table.numbers[:, table.kinds.index(kind)]
+        for group in people.names:
+            weights = people.named(group)
+            if not weights.any():
+                raise BadInput(table.path, f"nobody of the group {shown(group)} lives at its origins")
+            for place, scenario in enumerate(table.scenarios):
+                found: Floats = count(numbers[place], weights, limits)
+                for limit, inside in zip(limits, found.tolist()):
+                    yield Band(kind, group, scenario, limit, inside, 100 * inside / float(weights.sum()))
+
+
+def write_bands(out: BinaryIO, table: AccessTable, bands: Iterator[Band], form: str) -> None:
+    """Writes a line for each."""
+    limit, kind = ("within_minutes", "nearest") if table.of_times else ("at_least", "cutoff")
+    header = ["opportunity", "percentile", kind, "group", "scenario", limit, "people", "percent"]
+    made = [
+        [*astuple(it.kind), it.group, it.scenario, number_told(it.limit), told(it.people), told(it.percent)]
+        for it in bands
+    ]
+    if form == CSV:
+        write_rows(out, header, made)
+        return
+    bars = ["---"] * 5 + ["---:"] * (len(header) - 5)
+    for line in ([name.replace("_", " ") for name in header], bars, *made):
+        cells = [text if line is bars else markdown(shown(str(text))) for text in line]
+        out.write(f"| {' | '.join(cells)} |\n".encode("utf-8", "backslashreplace"))
+
+
+def labels_of(table: AccessTable, limits: Sequence[float], unit: str) -> list[str]:
+    """What the parts of a bar are called, the least access, or the longest way, last."""
+    texts = [f"{limit:,.10g}" for limit in limits]
+    if table.of_times:
+        between = [f"{low} to {high} min" for low, high in zip(texts, texts[1:])]
+        return [f"up to {texts[0]} min", *between, f"more than {texts[-1]} min, or not at all"]
+    between = [f"{low} to {high}" for low, high in zip(texts, texts[1:])]
+    return [f"{texts[-1]} {unit} or more", *reversed(between), f"less than {texts[0]}"]
+
+
+def parts_of(table: AccessTable, inside: Sequence[float]) -> list[float]:
+    """The parts of a bar in percent, in the order of their labels, from how many percent are within each limit."""
+    ends = list(inside) if table.of_times else list(reversed(inside))
+    return [high - low for low, high in zip([0.0, *ends], [*ends, 100.0])]
+
+
+@text_alone
+def figure_of(table: AccessTable, kinds: Sequence[Kind], people: Counts, limits: Sequence[float]) -> Any:
+    """A bar for each group and scenario, of one kind."""
+    if len(kinds) > 1:
+        there = some([kind.told for kind in kinds])
+        raise BadInput(table.path, f"a picture shows one of {there}: name it by --opportunity, --percentile, --cutoff")
+    from matplotlib import colormaps
+    from matplotlib.backends.backend_agg import FigureCanvasAgg
+    from matplotlib.figure import Figure
+
+    found = list(bands_of(table, kinds, people, limits))
+    rows = list(dict.fromkeys((it.group, it.scenario) for it in found))
+    labels = labels_of(table, limits, shown(kinds[0].opportunity))
+    high = AROUND + BAR * (len(rows) + len(people.names))
+    figure = Figure(figsize=(INCHES, high), dpi=135, facecolor="white")
+    FigureCanvasAgg(figure)
+    title = f"People by band: {table.told(kinds[0])}"
+    figure.text(0.02, 1 - 0.15 / high, title, fontsize=13, fontweight="bold", va="top", parse_math=False)
+    axes = figure.add_axes((0.24, 0.55 / high, 0.72, 1 - (AROUND - 0.2) / high))
+    for row, (group, scenario) in enumerate(rows):
+        inside = [it.percent for it in found if (it.group, it.scenario) == (group, scenario)]
+        begin, at = 0.0, row + people.names.index(group)
+        for place, part in enumerate(parts_of(table, inside)):
+            colour = colormaps["viridis"](1 - place / max(1, len(labels) - 1))
+            label = labels[place] if row == 0 else None
+            axes.barh(at, part, 0.8, begin, color=colour, edgecolor="#333333", linewidth=0.5, label=label)
+            begin += part
+    ticks = [row + people.names.index(group) for row, (group, _) in enumerate(rows)]
+    axes.set(xlim=(0, 100), xlabel="% of the people", yticks=ticks)
+    axes.set_yticklabels([f"{shown(group)}, {shown(scenario)}" for group, scenario in rows], parse_math=False)
+    axes.invert_yaxis()
+    axes.legend(frameon=False, loc="lower left", bbox_to_anchor=(0, 1), ncols=min(4, len(labels)), fontsize=8)
+    return figure

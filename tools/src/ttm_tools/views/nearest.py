@@ -1,0 +1,95 @@
+"""Maps of the time to the nearest opportunities, from each origin, and of its change in a scenario."""
+
+import math
+from dataclasses import dataclass, replace
+
+import numpy as np
+
+from ..feed import Floats, Stops
+from ..matrices import Matrix, Share, pair_of
+from ..measures.access import nearest
+from ..records import shown
+from .pictures import (
+    MINUTES,
+    MINUTES_OF_DIFFERENCE,
+    NO_ORIGIN,
+    NOT_REACHED,
+    Classes,
+    Mark,
+    Picture,
+    Wish,
+    Words,
+    beside,
+    classes_of_difference,
+    first_names,
+    marks_of_difference,
+    of_origins,
+    shades,
+    source_told,
+    told_counts,
+)
+
+MOST_WORST = 40  # origins that lose most, from which names are taken
+
+
+@dataclass(frozen=True)
+class Nearest:
+    """What is looked for."""
+
+    name: str  # of what is counted
+    numbers: Floats  # by stop of the matrix
+    count: float
+
+    def told(self) -> str:
+        """As it stands in a title."""
+        return f"nearest {shown(self.name)}" if self.count == 1 else f"{self.count:g} nearest {shown(self.name)}"
+
+    def seconds(self, matrix: Matrix, scenario: str, share: Share) -> Floats:
+        """The time to it from each origin, NaN where so many aren't reached."""
+        made: Floats = nearest(matrix, scenario, share, self.numbers[:, None], [self.count])[:, 0, 0]
+        return made
+
+
+def classes_of_minutes(seconds: Floats, breaks: tuple[float, ...]) -> tuple[list[Mark], Classes]:
+    """The classes of travel times, and which of them each is in."""
+    between = [f"{low:g} to {high:g}" for low, high in zip(breaks, breaks[1:])]
+    labels = [f"up to {breaks[0]:g}", *between, f"more than {breaks[-1]:g}"]
+    marks = [Mark(label, colour) for label, colour in zip(labels, shades(len(labels)))] + [NOT_REACHED]
+    grades = np.searchsorted(60 * np.array(breaks), seconds, side="left")
+    return marks, np.where(np.isnan(seconds), len(labels), grades)
+
+
+def picture_of_nearest(matrix: Matrix, wish: Wish, what: Nearest) -> Picture:
+    """The time from each origin to the nearest, in classes of minutes."""
+    scenario, share = matrix.scenario(wish.scenario or wish.base), matrix.share(wish.share)
+    seconds = what.seconds(matrix, scenario, share)
+    marks, classes = classes_of_minutes(seconds, wish.breaks or MINUTES)
+    there, drawn = ~np.isnan(seconds), matrix.stops_and_origins()
+    told = f"From {there.sum():,} of {len(there):,} {wish.what} so many are reached"
+    if there.any():
+        told += f", from half of these within {math.ceil(float(np.median(seconds[there])) / 60)} minutes"
+    classes = of_origins(drawn, matrix.origins(scenario, share), classes, len(marks))
+    title, source = f"Travel time to the {what.told()}", source_told(shown(scenario), share, matrix)
+    key = "Travel time in minutes,\nwaiting included"
+    return Picture(title, told, key, [*marks, NO_ORIGIN], classes, source, drawn=drawn)
+
+
+def picture_of_nearest_difference(matrix: Matrix, stops: Stops, wish: Wish, what: Nearest) -> Picture:
+    """The same in a scenario beside the base."""
+    pair = pair_of(matrix, wish.base, wish.scenario, wish.share)
+    before, after = what.seconds(matrix, pair.base, pair.share), what.seconds(matrix, pair.other, pair.share)
+    before, after = before[pair.before], after[pair.after]
+    breaks, gone, new = wish.breaks or MINUTES_OF_DIFFERENCE, np.isnan(after), np.isnan(before)
+    words = Words("min", "slower", "faster", "cut off: not reached now", "new: not reached before")
+    marks = [*marks_of_difference(breaks, words), replace(NOT_REACHED, label="not reached in either"), NO_ORIGIN]
+    change = np.nan_to_num((before - after) / 60)
+    classes = classes_of_difference(change, breaks)
+    classes[gone & ~new], classes[new & ~gone], classes[new & gone] = 0, len(marks) - 3, len(marks) - 2
+    counts = told_counts(classes, breaks, ("are cut off", "slower", "faster", "newly reach it"))
+    order = np.argsort(np.where(gone & ~new, -np.inf, change), kind="stable")[:MOST_WORST]
+    worst = [pair.origins[row] for row in order.tolist() if gone[row] and not new[row] or change[row] <= -breaks[0]]
+    title, told = f"Travel time to the {what.told()}: {beside(pair)}", f"Of {len(before):,} {wish.what} {counts}"
+    drawn = matrix.stops_and_origins()
+    classes, named = of_origins(drawn, pair.origins, classes, len(marks) - 1), first_names(drawn, worst, stops)
+    source = source_told(beside(pair), pair.share, matrix)
+    return Picture(title, told, "Change of travel time", marks, classes, source, None, named, drawn)

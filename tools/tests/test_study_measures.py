@@ -1,0 +1,64 @@
+"""Measures of a study beside access: the nearest, people by band, a greatest travel time; by hand on nine stops.
+
+The stops lie 444.8 m apart, 435 seconds of walking, and every second one has a school. A bus goes along: it leaves S0
+at 08:00, S2 at 08:06, and takes three minutes to each next stop. Of the departures from 08:00 to 08:04 three of five get
+from S2 to S3 in 420 seconds or less (08:02 to 08:04); from all other stops the median is the walk.
+"""
+
+from pathlib import Path
+
+import pytest
+
+from helpers import read
+from test_study import STUDY, Place, bare, place  # noqa: F401
+
+MEASURES = "maps = false\nnearest = [1, 2]\nnearest_bands = [5, 8]\nbands = [1]\nmax_minutes = 30\n"
+
+
+def table(place: Place, name: str) -> list[dict[str, str]]:  # noqa: F811
+    return read(Path(place.path(f"nine/{name}")).read_text())
+
+
+def test_the_nearest_and_bands_of_people_by_hand(place: Place) -> None:  # noqa: F811
+    path = place.lay_out(STUDY.replace("csv = true\n", MEASURES))
+    assert place.ran("study", path)[2] == 0
+    kind = {"scenario": "base", "opportunity": "schools", "percentile": "50", "nearest": "1"}
+    found = [it for it in table(place, "nearest.csv") if kind.items() <= it.items()]
+    assert [it["seconds"] for it in found] == ["435", "0", "420", "0", "435", "0", "435", "0", "435"]
+    (people,) = [it for it in table(place, "equity_nearest.csv") if kind.items() <= it.items()]
+    # people are 1, 3, 5, 7, 9 at the stops without a school, and 20 of 45 at those with one: 23 need up to 7 minutes
+    assert people["mean_minutes"] == f"{(22 * 7.25 + 3 * 7) / 45:.4f}" and people["reached_percent"] == "100"
+    assert (people["median_minutes"], people["nine_tenths_minutes"]) == ("7", "7.25")
+    bands = [it for it in table(place, "bands_nearest.csv") if kind.items() <= it.items()]
+    assert [(it["within_minutes"], it["people"], it["percent"]) for it in bands] == [
+        ("5", "20", "44.4444"),
+        ("8", "45", "100"),
+    ]
+    kind = {"scenario": "base", "opportunity": "schools", "percentile": "50", "cutoff": "10"}
+    (all_of_them,) = [it for it in table(place, "bands.csv") if kind.items() <= it.items()]
+    assert (all_of_them["at_least"], all_of_them["people"]) == ("1", "45")
+    report = Path(place.path("nine/report.md")).read_text()
+    assert "pairs beyond 30 minutes count as not reached" in report and "bands\\_nearest.csv" in report
+
+
+def test_maps_show_the_nearest_of_each_thing_counted(place: Place) -> None:  # noqa: F811
+    path = place.lay_out(STUDY.replace("csv = true\n", 'nearest = [1]\n[opportunities]\ncolumns = ["schools"]\n'))
+    text = STUDY.replace("csv = true\n", "nearest = [1]\n").replace('column = "jobs"', 'columns = ["schools"]')
+    place.say(text)
+    assert place.ran("study", path)[2] == 0
+    names = {it.name for it in Path(place.path("nine/maps")).iterdir()}
+    assert {"nearest_schools.png", "nearest_schools_cut.png"} <= names
+
+
+@pytest.mark.parametrize(
+    "more, told",
+    [
+        ("max_minutes = 20", "max_minutes '20.0' ends before the limit of tables and maps; allowed: at least 30"),
+        ("nearest_bands = [5]", "nearest_bands needs nearest"),
+        ("bands = [5]\naccess = false", "bands needs access, and people of [opportunities]"),
+    ],
+)
+def test_what_does_not_go_together_is_told(bare: Place, more: str, told: str) -> None:  # noqa: F811
+    path = bare.lay_out(STUDY.replace("csv = true", more))
+    out, said, status = bare.ran("study", path)
+    assert (out, status) == ("", 1) and told in said and said.count("\n") == 1
