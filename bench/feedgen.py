@@ -25,6 +25,7 @@ import math
 import os
 import random
 import sys
+from datetime import datetime, timedelta
 from typing import Iterator, Sequence
 
 from made_lines import Line, Size, draw_lines
@@ -39,7 +40,8 @@ SIZES = {
     "metro": Size(nodes=9700, bus_lines=960, length=46, rail_lines=14, origins=1000),
 }
 REGION, REGION_ORIGINS = "region", 300
-TERMS = ("20260107,20260327", "20260413,20260717", "20260901,20261218")  # of schools
+SCHOOL_YEAR = "20260107,20261218"
+HOLIDAYS = (("20260330", "20260410"), ("20260501", "20260501"), ("20260720", "20260831"))
 FARTHEST = 500  # metres of a direct footpath
 
 
@@ -76,6 +78,15 @@ def write_places(folder: str, stops: Stops, change: int) -> None:
     write_lines(folder, "transfers.txt", "from_stop_id,to_stop_id,transfer_type,min_transfer_time", changes)
 
 
+def weekdays_between(first: str, last: str) -> Iterator[str]:
+    """The Mondays to Fridays from one date to another."""
+    day = datetime.strptime(first, "%Y%m%d")
+    while day <= datetime.strptime(last, "%Y%m%d"):
+        if day.weekday() < 5:
+            yield day.strftime("%Y%m%d")
+        day += timedelta(days=1)
+
+
 def write_routes_and_days(folder: str, lines: Sequence[Line]) -> None:
     """Writes routes.txt, and the calendar: trips of each day, of weekdays but for Christmas, and of school days."""
     types = ((route, 1 if line.is_rail else 3) for line, route in zip(lines, routes_of(lines)))
@@ -85,8 +96,8 @@ def write_routes_and_days(folder: str, lines: Sequence[Line]) -> None:
     services = ["ALL,1,1,1,1,1,1,1,20260101,20261231", "WD,1,1,1,1,1,0,0,20260101,20261231"]
     exceptions = ["WD,20261225,2"]
     if any(line.is_for_school for line in lines):
-        services += ["SCHOOL,1,1,1,1,1,0,0,%s" % term for term in TERMS]
-        exceptions.append("SCHOOL,20260501,2")
+        services.append("SCHOOL,1,1,1,1,1,0,0,%s" % SCHOOL_YEAR)
+        exceptions += ["SCHOOL,%s,2" % day for holidays in HOLIDAYS for day in weekdays_between(*holidays)]
     write_lines(folder, "calendar.txt", "service_id,%s,start_date,end_date" % days, services)
     write_lines(folder, "calendar_dates.txt", "service_id,date,exception_type", exceptions)
 

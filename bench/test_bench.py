@@ -131,8 +131,11 @@ def test_a_region_has_long_headways_and_school_days(tmp_path: Path) -> None:
     assert told.startswith("size region seed 1: stops 3006, stations 3, routes 149, trips 9010, stop_times 179005")
     services = [it.split(",")[1] for it in (tmp_path / "trips.txt").read_text().splitlines()[1:]]
     assert services.count("SCHOOL") == 3 * 20 and set(services) == {"ALL", "WD", "SCHOOL"}
-    terms = [it for it in (tmp_path / "calendar.txt").read_text().splitlines() if it.startswith("SCHOOL")]
-    assert len(terms) == 3 and all(it.startswith("SCHOOL,1,1,1,1,1,0,0,2026") for it in terms)
+    days = (tmp_path / "calendar.txt").read_text().splitlines()[1:]
+    assert [it.split(",")[0] for it in days] == ["ALL", "WD", "SCHOOL"]  # a service has one record
+    exceptions = (tmp_path / "calendar_dates.txt").read_text().splitlines()
+    assert {"SCHOOL,20260330,2", "SCHOOL,20260501,2", "SCHOOL,20260831,2"} < set(exceptions)
+    assert sum(it.startswith("SCHOOL,") for it in exceptions) == 10 + 1 + 31
 
 
 def test_figures_are_read_by_their_words() -> None:

@@ -2,7 +2,7 @@
 use Rattle.std.proofs.Common.{◌≡◌, ℕ, ◌+◌, ◌-◌, ◌*◌, ◌/◌, ◌<◌, ◌≤◌, List, length, slice_index, ap, arith}
 use Rattle.timetable.specs.declared.limits.TheConstants.{END_OF_AXIS}
 use Rattle.useful_minutes.specs.Plan.{AreMinutes}
-use Rattle.useful_minutes.proofs.Planning.{no_sooner, few_searched}
+use Rattle.useful_minutes.proofs.Planning.{not_far, few_searched}
 use Rattle.rounds.specs.declared.window.Window.{Window}
 use Rattle.rounds.specs.Window.{departure, Fits}
 use Rattle.rounds.proofs.Batching.{batch_at, turn_same, turn_begins, turn_after, turn_lives}
@@ -13,7 +13,10 @@ module _ (w : Window) (fits : Fits w) (searched : List ℕ) (are : AreMinutes w.
   on_axis j l = fits.on_axis (slice_index searched j) (are.within j l)
 
 module _ (w : Window) (fits : Fits w) (searched : List ℕ) (are : AreMinutes w.minutes searched) (lanes own i : ℕ)
-    (same : own ≡ lanes) (some : 0 < lanes) (turn : i < (length searched + (own - 1)) / own) where
+    (same : own ≡ lanes) (many : 16 ≤ lanes) (turn : i < (length searched + (own - 1)) / own) where
+  some : 0 < lanes
+  some = omega (arith, many)
+
   -- the batch of a turn begins with one of them
   pub begins : own * batch_at own (length searched) i < length searched
   begins =
@@ -28,12 +31,12 @@ module _ (w : Window) (fits : Fits w) (searched : List ℕ) (are : AreMinutes w.
   before_minutes = let few = few_searched w.minutes searched are in let l = begins in omega (arith, few, l)
 
   -- its lanes depart no sooner than the first, and none of them long after it
-  pub spans : (l : ℕ) → own * batch_at own (length searched) i + l < length searched →
+  pub spans : (l : ℕ) → l ≤ lanes → own * batch_at own (length searched) i + l < length searched →
       (slice_index searched (own * batch_at own (length searched) i)
       ≤ slice_index searched (own * batch_at own (length searched) i + l))
       × (slice_index searched (own * batch_at own (length searched) i + l)
-      ≤ slice_index searched (own * batch_at own (length searched) i) + 8 * l)
-  spans l within = no_sooner w.minutes searched are (own * batch_at own (length searched) i) l within
+      ≤ slice_index searched (own * batch_at own (length searched) i) + 8 * lanes)
+  spans l few within = not_far w.minutes searched are lanes (own * batch_at own (length searched) i) l many few within
 
   -- a batch after the first turn is full, and departs no later than the batch of the turn before begins
   module _ (more : 0 < i) where
@@ -59,7 +62,7 @@ module _ (w : Window) (fits : Fits w) (searched : List ℕ) (are : AreMinutes w.
         let f = next_within in
         let a = after in
         let e : x + l + (lanes - l) ≡ lanes * (batch_at own (length searched) i + 1) = omega (arith, h, a) in
-        let s = no_sooner w.minutes searched are (x + l) (lanes - l) (omega (arith, h, f)) in
+        let s = not_far w.minutes searched are lanes (x + l) (lanes - l) many (omega arith) (omega (arith, h, f)) in
         let same_minute = ap (λ (j : ℕ). slice_index searched j) e in
         omega (arith, s.0, same_minute)
 
@@ -68,6 +71,6 @@ module _ (w : Window) (fits : Fits w) (searched : List ℕ) (are : AreMinutes w.
         × (slice_index searched (lanes * (batch_at own (length searched) i + 1))
         ≤ slice_index searched (own * batch_at own (length searched) i) + 8 * lanes)
     next_spans =
-        let s = spans lanes next_within in
+        let s = spans lanes (omega arith) next_within in
         let same_minute = ap (λ (j : ℕ). slice_index searched j) after in
         (omega (arith, s.0, same_minute), omega (arith, s.1, same_minute))

@@ -40,7 +40,8 @@ pub(crate) fn plan_of(
 }
 
 /// Fills in the durations of all minutes of a window, where those of the searched minutes stand first: each is that of
-/// the minute that stands in for it and the wait until then, or that of a walk alone. Out of memory is the only error.
+/// the minute that stands in for it and the wait until then, or that of a walk alone. There is nothing to fill in where
+/// each minute was searched. Out of memory is the only error.
 pub(crate) fn fill_skipped(
     alloc: Global,
     query: Query<'_>,
@@ -60,6 +61,9 @@ pub(crate) fn fill_skipped(
 {
     query.network.known();
     let minutes = query.window.minutes as usize;
+    if query.searched.len() == minutes {
+        return Ok(());
+    }
     let batches = (minutes + (LANES - 1)) / LANES;
     let mut near = vec![in alloc; NEVER; LANES * batches]?;
     let room = near.as_mut_slice();

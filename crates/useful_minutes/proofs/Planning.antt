@@ -1,11 +1,12 @@
 -- Which minutes are searched, minute by minute.
-use Rattle.std.proofs.Common.{◌≡◌, ℕ, zero, suc, ◌+◌, ◌-◌, ◌*◌, ◌/◌, ◌<◌, ◌≤◌, inl, inr, List, [], ◌∷◌, ◌++◌, Bool}
+use Rattle.std.proofs.Common.{◌≡◌, ℕ, zero, suc, ◌+◌, ◌-◌, ◌*◌, ◌/◌, ◌<◌, ◌≤◌, ◌⊎◌, inl, inr, List, [], ◌∷◌, ◌++◌, Bool}
 use Rattle.std.proofs.Common.{length, slice_index}
 use Rattle.std.proofs.Common.{sym, ◌∙◌, ap, subst, arith}
 use Rattle.std.proofs.lemmas.Bool.{cases_lt}
 use Rattle.std.proofs.lemmas.List.{length_push, get_or_append_left, get_or-append-add}
 use Rattle.useful_minutes.specs.Marks.{IsMarked, IsUseful}
-use Rattle.useful_minutes.specs.Plan.{AreMinutes, HasMarked, StandsIn, AreStandIns, ArePadded, IsPlan, SkipsNothing}
+use Rattle.useful_minutes.specs.Plan.{AreMinutes, HasMarked, StandsIn, IsPlan, SkipsNothing}
+use Rattle.useful_minutes.specs.Plan.{SearchesAll}
 use Rattle.timetable.specs.Networks.{Net}
 
 -- what stood in a list stands there yet when something was added, and then that
@@ -18,20 +19,22 @@ behind xs x j e =
     ap (λ (i : ℕ). slice_index (xs ++ x ∷ []) i) zero ∙ get_or-append-add xs (x ∷ []) 0 0
 
 -- the minutes before m that are searched, and from when on one is taken even if it isn't marked
-pub record Picked (marks : List Bool) (m next : ℕ) (searched : List ℕ) : Type 0 where
+pub record Picked (marks : List Bool) (m gap next : ℕ) (searched : List ℕ) : Type 0 where
   pub within : (j : ℕ) → j < length searched → slice_index searched j < m
   pub ascends : (j : ℕ) → j + 1 < length searched → slice_index searched j < slice_index searched (j + 1)
-  pub near : (j : ℕ) → j + 1 < length searched → slice_index searched (j + 1) ≤ slice_index searched j + 8
-  pub next_is : 0 < length searched → next ≡ slice_index searched (length searched - 1) + 8
+  pub near : (j : ℕ) → j + 1 < length searched →
+      (slice_index searched (j + 1) ≤ slice_index searched j + 8) ⊎ (length marks ≤ 128)
+  pub next_is : 0 < length searched → next ≡ slice_index searched (length searched - 1) + gap
   pub soon : 0 < length searched → m ≤ next
   pub marked : (x : ℕ) → x < m → IsMarked marks x →
       (j : ℕ) × (j < length searched) × (slice_index searched j ≡ x)
   pub last : 0 < m → m ≡ length marks →
       (0 < length searched) × (slice_index searched (length searched - 1) + 1 ≡ m)
 
-pub picked_more : (marks : List Bool) (m next : ℕ) (searched : List ℕ) → Picked marks m next searched →
-    Picked marks (m + 1) (m + 8) (searched ++ m ∷ [])
-picked_more marks m next searched h =
+pub picked_more : (marks : List Bool) (m gap next : ℕ) (searched : List ℕ) → 0 < gap →
+    (gap ≤ 8) ⊎ (length marks ≤ 128) → Picked marks m gap next searched →
+    Picked marks (m + 1) gap (m + gap) (searched ++ m ∷ [])
+picked_more marks m gap next searched some_gap few h =
     let long = length_push searched m in
     let old : (j : ℕ) → j < length searched → slice_index (searched ++ m ∷ []) j ≡ slice_index searched j =
     before searched m in
@@ -51,19 +54,22 @@ picked_more marks m next searched h =
             omega (arith, a, b, c)
       ];
       near = λ j l. elim (cases_lt (j + 1) (length searched)) [
-        | inl lt ↦ let a = old j (omega (arith, lt)) in let b = old (j + 1) lt in let c = h.near j lt in
-            omega (arith, a, b, c)
+        | inl lt ↦
+            let a = old j (omega (arith, lt)) in
+            let b = old (j + 1) lt in
+            elim (h.near j lt) [ inl c ↦ inl (omega (arith, a, b, c)) | inr short ↦ inr short ]
         | inr ge ↦
             let a = old j (omega (arith, ge, l, long)) in
             let b = new (j + 1) (omega (arith, ge, l, long)) in
             let some : 0 < length searched = omega (arith, ge, l, long) in
             let e : length searched - 1 ≡ j = omega (arith, ge, l, long) in
             let c = h.soon some in
-            let d : next ≡ slice_index searched j + 8 = h.next_is some ∙ ap (λ (i : ℕ). slice_index searched i + 8) e in
-            omega (arith, a, b, c, d)
+            let d : next ≡ slice_index searched j + gap =
+            h.next_is some ∙ ap (λ (i : ℕ). slice_index searched i + gap) e in
+            elim few [ inl f ↦ inl (omega (arith, a, b, c, d, f)) | inr short ↦ inr short ]
       ];
       next_is = λ _. let a = new (length (searched ++ m ∷ []) - 1) (omega (arith, long)) in omega (arith, a);
-      soon = λ _. omega arith;
+      soon = λ _. omega (arith, some_gap);
       marked = λ x l is. elim (cases_lt x m) [
         | inl lt ↦
             let f = h.marked x lt is in
@@ -77,9 +83,9 @@ picked_more marks m next searched h =
       );
     }
 
-pub picked_same : (marks : List Bool) (m next : ℕ) (searched : List ℕ) → Picked marks m next searched →
-    (IsMarked marks m → ⊥) → (m + 1 ≡ length marks → ⊥) → m < next → Picked marks (m + 1) next searched
-picked_same marks m next searched h unmarked more soon =
+pub picked_same : (marks : List Bool) (m gap next : ℕ) (searched : List ℕ) → Picked marks m gap next searched →
+    (IsMarked marks m → ⊥) → (m + 1 ≡ length marks → ⊥) → m < next → Picked marks (m + 1) gap next searched
+picked_same marks m gap next searched h unmarked more soon =
     record {
       within = λ j l. let a = h.within j l in omega (arith, a);
       ascends = h.ascends;
@@ -161,21 +167,42 @@ stood_more searched m at positions waits wait long too each within no_earlier pa
       passed = λ i below. let a = passed i below in omega (arith, a);
     }
 
--- what lies some positions on is no sooner, and not far
+-- what lies some positions on is later by a minute for each at least, and not far, unless the window is short
 pub no_sooner : (minutes : ℕ) (searched : List ℕ) → AreMinutes minutes searched → (x l : ℕ) →
-    x + l < length searched → (slice_index searched x ≤ slice_index searched (x + l))
-    × (slice_index searched (x + l) ≤ slice_index searched x + 8 * l)
+    x + l < length searched → (slice_index searched x + l ≤ slice_index searched (x + l))
+    × ((slice_index searched (x + l) ≤ slice_index searched x + 8 * l) ⊎ (minutes ≤ 128))
 no_sooner minutes searched are x zero within =
     let e : x + zero ≡ x = omega arith in
     let same = ap (λ (i : ℕ). slice_index searched i) e in
-    (omega (arith, same), omega (arith, same))
+    (omega (arith, same), inl (omega (arith, same)))
 no_sooner minutes searched are x (suc l) within =
     let e : x + suc l ≡ x + l + 1 = omega arith in
     let same = ap (λ (i : ℕ). slice_index searched i) e in
     let h = no_sooner minutes searched are x l (omega (arith, within)) in
-    let up = are.ascends (x + l) (omega (arith, within)) in
-    let near = are.near (x + l) (omega (arith, within)) in
-    (omega (arith, same, h.0, up), omega (arith, same, h.1, near))
+    let up = are.ascends (x + l) (omega (arith, within)) in (
+      omega (arith, same, h.0, up),
+      elim h.1 [
+        | inr short ↦ inr short
+        | inl low ↦ elim (are.near (x + l) (omega (arith, within))) [
+          | inl near ↦ inl (omega (arith, same, low, near))
+          | inr short ↦ inr short
+        ]
+      ],
+    )
+
+-- so what lies within as many positions as there are lanes is not far
+pub not_far : (minutes : ℕ) (searched : List ℕ) → AreMinutes minutes searched → (lanes x l : ℕ) → 16 ≤ lanes →
+    l ≤ lanes → x + l < length searched → (slice_index searched x ≤ slice_index searched (x + l))
+    × (slice_index searched (x + l) ≤ slice_index searched x + 8 * lanes)
+not_far minutes searched are lanes x l many few within =
+    let s = no_sooner minutes searched are x l within in
+    let last = are.within (x + l) within in (
+      omega (arith, s.0),
+      elim s.1 [
+        | inl near ↦ omega (arith, near, few)
+        | inr short ↦ omega (arith, short, last, many)
+      ],
+    )
 
 -- there are no more of them than minutes
 pub few_searched : (minutes : ℕ) (searched : List ℕ) → AreMinutes minutes searched → length searched ≤ minutes
@@ -217,3 +244,40 @@ skips_nothing n origin first minutes marks searched positions waits lanes long u
           let same = ap (λ (i : ℕ). slice_index searched i) e in
           omega (arith, after.0, same, found.2, high)
     ]
+
+-- where each minute is searched, it stands in for itself
+pub searches_all : (minutes lanes : ℕ) (marks : List Bool) (searched positions waits : List ℕ) →
+    length marks ≡ minutes → ((m : ℕ) → m < minutes → IsMarked marks m) → HasMarked marks searched →
+    IsPlan minutes lanes searched positions waits → SearchesAll minutes searched positions
+searches_all minutes lanes marks searched positions waits long all has plan m l =
+    let s = plan.each m l in
+    let j = slice_index positions m in
+    let up = s.no_earlier in
+    let found = has m (omega (arith, l, long)) (all m l) in
+    elim (cases_lt found.0 j) [
+      | inl lt ↦ let before = s.first found.0 lt in absurd (omega (arith, before, found.2))
+      | inr ge ↦
+          let e : j + (found.0 - j) ≡ found.0 = omega (arith, ge) in
+          let after = no_sooner minutes searched plan.are j (found.0 - j) (omega (arith, e, found.1)) in
+          let same = ap (λ (i : ℕ). slice_index searched i) e in
+          omega (arith, after.0, same, found.2, up)
+    ]
+
+pub all_skip_nothing : (n : Net) (origin first minutes : ℕ) (searched positions : List ℕ) →
+    SearchesAll minutes searched positions → SkipsNothing n origin first minutes searched positions
+all_skip_nothing n origin first minutes searched positions all m l u =
+    let same = all m l in
+    let caught = u.caught in
+    let missed = u.missed in
+    omega (arith, same, caught, missed)
+
+-- as many searched minutes as the window has are all of them
+pub searched_whole : (minutes : ℕ) (searched : List ℕ) → AreMinutes minutes searched → minutes ≤ length searched →
+    (m : ℕ) → m < minutes → slice_index searched m ≡ m
+searched_whole minutes searched are many m l =
+    let low = no_less searched are.ascends m (omega (arith, l, many)) in
+    let e : m + (length searched - 1 - m) ≡ length searched - 1 = omega (arith, l, many) in
+    let after = no_sooner minutes searched are m (length searched - 1 - m) (omega (arith, e, are.some)) in
+    let same = ap (λ (i : ℕ). slice_index searched i) e in
+    let last = are.last in
+    omega (arith, low, after.0, same, last, many, l)

@@ -1,14 +1,15 @@
 -- Which minutes of a window are searched, and which of them stands in for each minute.
-use Rattle.std.specs.Prelude.{◌≡◌, ℕ, ◌+◌, ◌-◌, ◌*◌, ◌<◌, ◌≤◌, List, length, slice_index, Bool}
-use Rattle.useful_minutes.specs.declared.plan.TheConstants.{MOST_GAP}
+use Rattle.std.specs.Prelude.{◌≡◌, ℕ, ◌+◌, ◌-◌, ◌*◌, ◌<◌, ◌≤◌, ◌⊎◌, List, length, slice_index, Bool}
+use Rattle.useful_minutes.specs.declared.plan.TheConstants.{MOST_GAP, SHORT_WINDOW}
 use Rattle.timetable.specs.Networks.{Net}
 use Rattle.useful_minutes.specs.Boarding.{MissesNothing}
 use Rattle.useful_minutes.specs.Marks.{IsMarked}
 
--- so many minutes of a window, in ascending order and never far apart, up to the last
+-- so many minutes of a window, in ascending order up to the last, and never far apart unless the window is short
 pub record AreMinutes (minutes : ℕ) (searched : List ℕ) : Type 0 where
   pub ascends : (j : ℕ) → j + 1 < length searched → slice_index searched j < slice_index searched (j + 1)
-  pub near : (j : ℕ) → j + 1 < length searched → slice_index searched (j + 1) ≤ slice_index searched j + MOST_GAP
+  pub near : (j : ℕ) → j + 1 < length searched →
+      (slice_index searched (j + 1) ≤ slice_index searched j + MOST_GAP) ⊎ (minutes ≤ SHORT_WINDOW)
   pub within : (j : ℕ) → j < length searched → slice_index searched j < minutes
   pub some : 0 < length searched
   pub last : slice_index searched (length searched - 1) + 1 ≡ minutes
@@ -54,3 +55,8 @@ abbrev pub SkipsNothing : Net → ℕ → ℕ → ℕ → List ℕ → List ℕ 
 SkipsNothing n origin first minutes searched positions =
     (m : ℕ) → m < minutes →
     MissesNothing n origin (first + 60 * m) (first + 60 * slice_index searched (slice_index positions m))
+
+-- each minute stands in for itself
+abbrev pub SearchesAll : ℕ → List ℕ → List ℕ → Type 0
+SearchesAll minutes searched positions =
+    (m : ℕ) → m < minutes → slice_index searched (slice_index positions m) ≡ m

@@ -13,6 +13,6 @@ mod plan;
 mod waits;
 mod walks;
 
-pub use plan::{MOST_GAP, Plan, plan_for};
+pub use plan::{MOST_GAP, Plan, SHORT_WINDOW, plan_for};
 pub use waits::fill_in;
 pub use walks::walk_alone;

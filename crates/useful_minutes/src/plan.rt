@@ -1,15 +1,36 @@
 //! Which minutes of a window are searched.
-ghost use Rattle.std.specs.Prelude.{◌≡◌, ℕ, ◌<◌, ◌≤◌, length, IfOk, OnOk};
+ghost use Rattle.std.specs.Prelude.{◌≡◌, ℕ, ◌<◌, ◌≤◌, ◌⊎◌, length, IfOk, OnOk};
 ghost use Rattle.useful_minutes.specs.Plan.{AreMinutes, HasMarked, AreStandIns, ArePadded, IsPlan, SkipsNothing};
+ghost use Rattle.useful_minutes.specs.Plan.{SearchesAll};
 ghost use Rattle.timetable.specs.declared.limits.TheConstants.{END_OF_AXIS};
 
 use crate::marks::mark_useful;
 use std::alloc::{AllocError, Global};
 use timetable::{Network, StopNo};
 
-/// How many minutes lie between one searched minute and the next at most: so a batch of them spans some hours only,
-/// and narrow labels keep most of their reach.
+/// How many minutes lie between one searched minute and the next at most, in a long window: so a batch of them spans
+/// some hours only, and narrow labels keep most of their reach.
 pub const MOST_GAP: u32 = 8;
+
+/// How many minutes a window has at most that is short: it spans no more than sixteen such gaps.
+pub const SHORT_WINDOW: u32 = 128;
+
+/// How many minutes are searched side by side. A window is searched whole unless this saves a batch of so many: then
+/// nothing is filled in afterwards.
+const SIDE_BY_SIDE: usize = 32;
+
+/// How many minutes may lie between one searched minute and the next.
+fn gap_of(minutes: usize) -> u32
+    ensures some { 0 < result }
+    ensures few { result ≤ SHORT_WINDOW }
+    ensures near { (result ≤ MOST_GAP) ⊎ (minutes ≤ SHORT_WINDOW) }
+{
+    if minutes <= SHORT_WINDOW as usize {
+        SHORT_WINDOW
+    } else {
+        MOST_GAP
+    }
+}
 
 /// The minutes to search: those that are marked, the last, and one wherever the next would be too far away.
 fn minutes_of(alloc: Global, marks: &[bool]) -> Result<Vec<u32>, AllocError>
@@ -19,11 +40,12 @@ fn minutes_of(alloc: Global, marks: &[bool]) -> Result<Vec<u32>, AllocError>
     ensures marked { IfOk result (λ searched. HasMarked marks.now searched.items) }
 {
     let mut searched = Vec::new(alloc);
-    let mut next = MOST_GAP;
+    let gap = gap_of(marks.len());
+    let mut next = gap;
     for m in 0..marks.len() {
         if marks[m] || m + 1 == marks.len() || next <= m as u32 {
             searched.push(m as u32)?;
-            next = m as u32 + MOST_GAP;
+            next = m as u32 + gap;
         }
     }
     Ok(searched)
@@ -105,9 +127,22 @@ fn plan_of(alloc: Global, marks: &[bool], lanes: u32) -> Result<Plan, AllocError
     })
 }
 
-/// Which minutes of a window are searched from an origin, where the window begins at a second. There are positions for
-/// so many lanes. Out of memory is the only error.
-pub fn plan_for(
+/// The plan that searches each minute of a window.
+fn plan_of_all(alloc: Global, minutes: u32, lanes: u32) -> Result<Plan, AllocError>
+    requires some { 0 < minutes }
+    requires few { minutes ≤ 1440 }
+    requires lanes { minutes ≤ lanes }
+    ensures plan { IfOk result (λ plan. IsPlan minutes lanes plan.minutes.items plan.positions.items
+        plan.waits.items) }
+    ensures all { IfOk result (λ plan. SearchesAll minutes plan.minutes.items plan.positions.items) }
+{
+    let marks = vec![in alloc; true; minutes as usize]?;
+    let plan = plan_of(alloc, marks.as_slice(), lanes)?;
+    Ok(plan)
+}
+
+/// The plan that searches the useful minutes of a window.
+fn plan_of_useful(
     alloc: Global,
     network: &Network,
     origin: StopNo,
@@ -129,5 +164,40 @@ pub fn plan_for(
     let useful = marks.as_mut_slice();
     mark_useful(network, origin, first, useful);
     let plan = plan_of(alloc, useful, lanes)?;
+    Ok(plan)
+}
+
+/// Whether fewer batches are searched where these minutes are searched alone.
+fn saves_a_batch(searched: usize, minutes: usize) -> bool {
+    searched.div_ceil(SIDE_BY_SIDE) < minutes.div_ceil(SIDE_BY_SIDE)
+}
+
+/// Which minutes of a window are searched from an origin, where the window begins at a second: all of them, unless the
+/// useful ones take fewer batches. There are positions for so many lanes. Out of memory is the only error.
+pub fn plan_for(
+    alloc: Global,
+    network: &Network,
+    origin: StopNo,
+    first: u32,
+    minutes: u32,
+    lanes: u32,
+) -> Result<Plan, AllocError>
+    requires origin { origin.0 < network.now.stops }
+    requires first { first < END_OF_AXIS }
+    requires some { 0 < minutes }
+    requires few { minutes ≤ 1440 }
+    requires lanes { minutes ≤ lanes }
+    ensures plan { IfOk result (λ plan. IsPlan minutes lanes plan.minutes.items plan.positions.items
+        plan.waits.items) }
+    ensures skips { IfOk result (λ plan. SkipsNothing network.now origin.0 first minutes plan.minutes.items
+        plan.positions.items) }
+{
+    if saves_a_batch(1, minutes as usize) {
+        let plan = plan_of_useful(alloc, network, origin, first, minutes, lanes)?;
+        if saves_a_batch(plan.minutes.len(), minutes as usize) {
+            return Ok(plan);
+        }
+    }
+    let plan = plan_of_all(alloc, minutes, lanes)?;
     Ok(plan)
 }

@@ -1,7 +1,7 @@
 use Rattle.std.proofs.Common.{◌≡◌, ◌≢◌, ℕ, ◌+◌, ◌*◌, ◌<◌, inl, inr, slice_index, sym, ◌∙◌, subst}
 use Rattle.std.proofs.Common.{arith}
 use Rattle.std.proofs.lemmas.Bool.{cases_lt}
-use Rattle.useful_minutes.proofs.Planning.{no_sooner}
+use Rattle.useful_minutes.proofs.Planning.{not_far}
 use Rattle.rounds.specs.Batches.{IsSearchedAt}
 use Rattle.rounds.proofs.batches.departs_of.Goals as goal
 use Rattle.rounds.proofs.batches.departs_of.Goals.{then-from-l, else-from-l}
@@ -9,15 +9,17 @@ use Rattle.rounds.proofs.batches.departs_of.Goals.{then-from-l, else-from-l}
 pub overflow_sub-time : goal.overflow_sub-time
 overflow_sub-time g c =
     let q = c.args.query in
-    let s = no_sooner q.window.minutes q.searched.now c.requires.asked.searched c.args.from c.loop-l.l c.if-from-l.true
-    in
+    let s =
+    not_far q.window.minutes q.searched.now c.requires.asked.searched g.R.Row.LANES c.args.from c.loop-l.l
+    g.met.R.Row.some (omega (arith, c.loop-l-test.true, c.LANES-lanes.ensures)) c.if-from-l.true in
     omega (arith, s.0, c.requires.base)
 
 pub alight-departs-requires-clause-arrive : goal.alight-departs-requires-clause-arrive
 alight-departs-requires-clause-arrive g c =
     let q = c.args.query in
-    let s = no_sooner q.window.minutes q.searched.now c.requires.asked.searched c.args.from c.loop-l.l c.if-from-l.true
-    in
+    let s =
+    not_far q.window.minutes q.searched.now c.requires.asked.searched g.R.Row.LANES c.args.from c.loop-l.l
+    g.met.R.Row.some (omega (arith, c.loop-l-test.true, c.LANES-lanes.ensures)) c.if-from-l.true in
     omega (arith, s.0, s.1, c.requires.base, c.requires.near, c.loop-l-test.true, c.LANES-lanes.ensures)
 
 pub loop-l-preserved : goal.loop-l-preserved
@@ -33,7 +35,11 @@ loop-l-preserved g c =
     omega (arith, e)) in
     elim c.if-from-l.branch [
       | then-from-l w ↦
-          let s = no_sooner q.window.minutes q.searched.now c.requires.asked.searched c.args.from l w.if-from-l.true in
+          let s =
+          not_far q.window.minutes q.searched.now c.requires.asked.searched lanes c.args.from l g.met.R.Row.some (omega (
+            arith,
+            here,
+          )) w.if-from-l.true in
           let told = w.alight-departs.ensures in
           let same : (k : ℕ) → k < lanes → k ≢ l →
           slice_index (labels w.alight-departs.result) k ≡ slice_index (labels c.loop-l.departs) k =

@@ -55,7 +55,7 @@ overflow_add-first g c =
     let some : 0 < lanes = omega (arith, g.met.R.Row.some) in
     let i = c.loop-i.i in
     let batch : ℕ = batch_at own (length searched) i in
-    let a = axis w fits searched are lanes own i own_same some c.loop-i-test.true in
+    let a = axis w fits searched are lanes own i own_same g.met.R.Row.some c.loop-i-test.true in
     omega (arith, a)
 
 pub base_of-base-requires-clause-first : goal.base_of-base-requires-clause-first
@@ -71,7 +71,7 @@ base_of-base-requires-clause-first g c =
     let some : 0 < lanes = omega (arith, g.met.R.Row.some) in
     let i = c.loop-i.i in
     let batch : ℕ = batch_at own (length searched) i in
-    axis w fits searched are lanes own i own_same some c.loop-i-test.true
+    axis w fits searched are lanes own i own_same g.met.R.Row.some c.loop-i-test.true
 
 pub run_bounded-requires-clause-batch : goal.run_bounded-requires-clause-batch
 run_bounded-requires-clause-batch g c =
@@ -95,7 +95,7 @@ run_bounded-requires-clause-batch g c =
           elim (cases_lt (own * batch + l) (length searched)) [
             | inl lt ↦
                 let t = d.live lt in
-                let s = spans w fits searched are lanes own i own_same some turn l lt in
+                let s = spans w fits searched are lanes own i own_same g.met.R.Row.some turn l (omega (arith, h)) lt in
                 omega (arith, t, s.1, base.near, h)
             | inr ge ↦ let t = d.dead ge in omega (arith, t)
           ];
@@ -107,17 +107,17 @@ run_bounded-requires-clause-batch g c =
                 elim (cases_lt (own * batch + l) (length searched)) [
                   | inl lt ↦
                       let t = d.live lt in
-                      let s = spans w fits searched are lanes own i own_same some turn l lt in
+                      let s = spans w fits searched are lanes own i own_same g.met.R.Row.some turn l (omega (arith, h)) lt in
                       omega (arith, t, e, s.1, base.near, base.fits, h)
                   | inr ge ↦ let t = d.dead ge in omega (arith, t, e, base.fits)
                 ]
             | inr more ↦
                 let pos : 0 < i = omega (arith, more) in
                 let e = c.loop-i.invariant.next (batch + 1) (omega (arith, turn, more)) pos in
-                let lt = full w fits searched are lanes own i own_same some turn pos l h in
+                let lt = full w fits searched are lanes own i own_same g.met.R.Row.some turn pos l h in
                 let t = d.live lt in
-                let s = spans w fits searched are lanes own i own_same some turn l lt in
-                let next = before_next w fits searched are lanes own i own_same some turn pos l h in
+                let s = spans w fits searched are lanes own i own_same g.met.R.Row.some turn l (omega (arith, h)) lt in
+                let next = before_next w fits searched are lanes own i own_same g.met.R.Row.some turn pos l h in
                 omega (arith, e, t, s.1, next, base.near, base.within, h)
           ];
     }
@@ -137,7 +137,7 @@ run_bounded-requires-clause-bounds g c =
     let batch : ℕ = batch_at own (length searched) i in
     let turn = c.loop-i-test.true in
     let base = c.base_of-base.ensures in
-    let a = axis w fits searched are lanes own i own_same some turn in
+    let a = axis w fits searched are lanes own i own_same g.met.R.Row.some turn in
     let first : ℕ = departure w (slice_index searched (own * batch)) in
     let later : (c.loop-i.later ≡ NEVER) ⊎ ((first ≤ c.loop-i.later) × (c.loop-i.later ≤ first + 480 * lanes)) =
     elim (cases_eq i 0) [
@@ -145,7 +145,7 @@ run_bounded-requires-clause-bounds g c =
       | inr more ↦
           let pos : 0 < i = omega (arith, more) in
           let e = c.loop-i.invariant.next (batch + 1) (omega (arith, turn, more)) pos in
-          let s = next_spans w fits searched are lanes own i own_same some turn pos in
+          let s = next_spans w fits searched are lanes own i own_same g.met.R.Row.some turn pos in
           inr (omega (arith, e, s.0), omega (arith, e, s.1))
     ] in
     c.loop-i.invariant.bounds c.base_of-base.result (record {
@@ -176,7 +176,7 @@ write_batch-requires-clause-batch g c =
     let some : 0 < lanes = omega (arith, g.met.R.Row.some) in
     let i = c.loop-i.i in
     let batch : ℕ = batch_at own (length searched) i in
-    let l = before_minutes w fits searched are lanes own i own_same some c.loop-i-test.true in
+    let l = before_minutes w fits searched are lanes own i own_same g.met.R.Row.some c.loop-i-test.true in
     let same = turn_same lanes own (length searched) i own_same some c.loop-i-test.true in
     omega (arith, l, same)
 
@@ -203,7 +203,7 @@ write_batch-requires-clause-since g c l p h within reached =
     elim (cases_lt (own * batch + l) (length searched)) [
       | inl lt ↦
           let t = d.live lt in
-          let s = spans w fits searched are lanes own i own_same some turn l lt in
+          let s = spans w fits searched are lanes own i own_same g.met.R.Row.some turn l (omega (arith, h)) lt in
           lane_since n c.known.ensures c.base_of-base.result g.R.Row.NEVER c.args.query.origin.0 time
           (time + c.base_of-base.result) refl (elim base.before [
             | inl none ↦ inr none
@@ -234,15 +234,16 @@ loop-i-preserved g c =
     let turn = c.loop-i-test.true in
     let old = c.loop-i.invariant in
     let same : own * batch ≡ lanes * batch = turn_same lanes own (length searched) i own_same some turn in
-    let here = begins w fits searched are lanes own i own_same some turn in
+    let here = begins w fits searched are lanes own i own_same g.met.R.Row.some turn in
     let after : lanes * (batch + 1) ≡ lanes * batch + lanes =
     turn_after lanes own (length searched) i own_same some turn in
     let base = c.base_of-base.ensures in
     let at : ℕ → ℕ = λ j. slice_index searched j in
     let first : ℕ = departure w (at (own * batch)) in
-    let first_early = axis w fits searched are lanes own i own_same some turn in
+    let first_early = axis w fits searched are lanes own i own_same g.met.R.Row.some turn in
     let head = (c.departs_of-departs.ensures 0 some).live (omega (arith, here)) in
-    let head_spans = spans w fits searched are lanes own i own_same some turn 0 (omega (arith, here)) in
+    let no_lane : own * batch + 0 ≡ own * batch = omega arith in
+    let head_same = ap at no_lane in
     let of_batch : (b : ℕ) → b + (i + 1) ≡ (length searched + (own - 1)) / own → lanes * b ≡ own * batch =
     λ b e. ap (λ (x : ℕ). lanes * x) (omega (arith, e)) ∙ sym same in
     let ride : ℕ → List ℕ = λ l. lane l (labels_in g.R.Row.labels c.run_bounded.new.tables.ride.items) in
@@ -265,8 +266,7 @@ loop-i-preserved g c =
           c.args.query.rides c.run_bounded.new.kept first_early base.within base.before base.short (omega (
             arith,
             head,
-            head_spans.0,
-            head_spans.1,
+            head_same,
           )) c.run_bounded.ensures.kept;
       each = λ b p j e there l le.
           let f = of_batch b e in
@@ -277,7 +277,7 @@ loop-i-preserved g c =
                 let place : own * batch + k ≡ j = omega (arith, f, le) in
                 let place' : lanes * batch + k ≡ j = omega (arith, f, le, same) in
                 let t = (c.departs_of-departs.ensures k h).live (omega (arith, l, place)) in
-                let s = spans w fits searched are lanes own i own_same some turn k (omega (arith, l, place)) in
+                let s = spans w fits searched are lanes own i own_same g.met.R.Row.some turn k (omega (arith, h)) (omega (arith, l, place)) in
                 let minute = ap at place in
                 let departs : time k ≢ never = λ late. omega (arith, late, t, s.1, h, base.near) in
                 let told : arrival (ride k) (ready k) p ≡ never →

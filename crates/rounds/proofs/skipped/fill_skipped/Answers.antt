@@ -1,9 +1,11 @@
 use Rattle.std.proofs.Common.{◌≡◌, ℕ, ◌-◌, ◌*◌, inl, inr, length, slice_index, sym}
-use Rattle.std.proofs.Common.{◌∙◌, ap}
+use Rattle.std.proofs.Common.{◌∙◌, ap, subst}
 use Rattle.std.proofs.Common.{arith}
 use Rattle.std.proofs.lemmas.Bool.{cases_lt}
 use Rattle.std.proofs.lemmas.List.{get_or_default}
-use Rattle.useful_minutes.proofs.Planning.{few_searched}
+use Rattle.timetable.specs.Least.{IsLeastOrNever}
+use Rattle.timetable.specs.Journeys.{IsDuration}
+use Rattle.useful_minutes.proofs.Planning.{few_searched, searched_whole}
 use Rattle.rounds.specs.Table.{batches_of, label_of}
 use Rattle.rounds.specs.Window.{departure}
 use Rattle.rounds.proofs.Skipping.{filled_in}
@@ -85,4 +87,20 @@ returns c =
           let none = packed.dead p m there (omega (arith, few, past)) l in
           let same = ap (λ (x : ℕ). label_of w.minutes c.args.labels.now p x) itself in
           omega (arith, kept, label, same, none);
+    }
+
+-- nothing is to fill in where each minute was searched
+pub returns-then-query-minutes : goal.returns-then-query-minutes
+returns-then-query-minutes c =
+    let q = c.args.query in
+    let w = q.window in
+    let packed = c.requires.packed in
+    let many = c.if-query-minutes.true in
+    record {
+      size = packed.size;
+      each = λ p m there l.
+          let same = searched_whole w.minutes q.searched.now c.requires.plan.are (omega (arith, many)) m l in
+          subst (λ (x : ℕ). IsLeastOrNever (IsDuration q.network.now q.origin.0 (departure w x) q.rides p)
+          (label_of w.minutes c.args.labels.now p m)) same (packed.each p m there (omega (arith, many, l)));
+      dead = λ p m there past l. packed.dead p m there (omega (arith, many, past)) l;
     }

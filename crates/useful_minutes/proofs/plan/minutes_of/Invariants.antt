@@ -2,4 +2,4 @@ use Rattle.useful_minutes.proofs.Planning.{Picked}
 use Rattle.useful_minutes.proofs.plan.minutes_of.Given as goal
 
 abbrev pub invariant-loop-m : goal.invariant-loop-m
-invariant-loop-m l = Picked l.marks l.m l.next l.searched.items
+invariant-loop-m l = Picked l.marks l.m l.gap l.next l.searched.items
