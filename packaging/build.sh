@@ -50,7 +50,7 @@ mkdir "$usr/lib/python3/dist-packages/ttm_tools-$tools.dist-info"
 printf 'Metadata-Version: 2.1\nName: ttm-tools\nVersion: %s\n' "$tools" \
     > "$usr/lib/python3/dist-packages/ttm_tools-$tools.dist-info/METADATA"
 author=$(git -C "$here" log -1 --format='%an <%ae>' 2> /dev/null || true)
-maintainer=${MAINTAINER:-${author:-unknown <root@localhost.localdomain>}}
+maintainer=${MAINTAINER:-${author:-Vimsrak maintainers <maintainers@users.noreply.vimsrak.example>}}
 install -m 644 "$here/packaging/copyright" "$docs/copyright"
 printf 'ttm (%s) unstable; urgency=medium\n\n  * Commit %.48s.\n    CHANGELOG.md says what changed.\n\n -- %s  %s\n' \
     "$version+git$stamp" "$commit" "$maintainer" "$(date -u -R -d "@$SOURCE_DATE_EPOCH")" | gzip -9n > "$docs/changelog.gz"
