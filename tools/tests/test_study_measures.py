@@ -1,8 +1,8 @@
 """Measures of a study beside access: the nearest, people by band, a greatest travel time; by hand on nine stops.
 
 The stops lie 444.8 m apart, 435 seconds of walking, and every second one has a school. A bus goes along: it leaves S0
-at 08:00, S2 at 08:06, and takes three minutes to each next stop. Of the departures from 08:00 to 08:04 three of five get
-from S2 to S3 in 420 seconds or less (08:02 to 08:04); from all other stops the median is the walk.
+at 08:00, S2 at 08:06, and takes three minutes to each next stop. Of the departures from 08:00 to 08:04 three of five
+get from S2 to S3 in 420 seconds or less (08:02 to 08:04); from all other stops the median is the walk.
 """
 
 from pathlib import Path

@@ -25,9 +25,7 @@ def oftener(state: State, entry: Entry, trips: Sequence[Trip], start: int, end: 
     added = 0
     for time, label, stop in inside:
         trip = by_label[label]
-        later = [
-            it for at, it, other in known if at == stop and it > time and other.service in beside[trip.service]
-        ]
+        later = [it for at, it, other in known if at == stop and it > time and other.service in beside[trip.service]]
         gap = min(later, default=time) - time
         for part in range(1, times):
             extra = time + gap * part // times
