@@ -138,6 +138,18 @@ def test_the_scenarios_of_a_plan_are_taken_with_today_first(line: Room) -> None:
     assert [(row["scenario"], row["departures"]) for row in rows] == [("today", "4"), ("more", "5")]
 
 
+def test_what_a_scenario_adds_to_a_route_is_of_that_route(line: Room) -> None:
+    line.write("routes.txt", "route_id,route_short_name", [["R", "7"], ["Q", ""], ["R@more", "7"], ["X@more", "9"]])
+    trips = [["R", "M", f"T{number}", 0] for number in range(3)]
+    more = [["R@more", "M", "S", 0], ["X@more", "M", "N", ""]]
+    line.write("trips.txt", "route_id,service_id,trip_id,direction_id", [*trips, *more])
+    (line.folder / "scenarios").mkdir()
+    line.write("scenarios/today.csv", "action,id,seconds", [["remove_trip", "S", ""], ["remove_trip", "N", ""]])
+    line.write("scenarios/more.csv", "action,id,seconds", [])
+    made = [(row["scenario"], row["route"], row["departures"]) for row in service(line, "--by", "route")]
+    assert made == [("today", "R", "3"), ("more", "R", "4"), ("today", "X@more", "0"), ("more", "X@more", "1")]
+
+
 def test_wrong_words_are_told(line: Room) -> None:
     for words in (["--periods", "08:00"], ["--periods", "9:00,08:00"], ["--periods", "08:00,x"], ["--by", "x"]):
         assert line.ran("service", str(line.folder), "--date", "20260504", *words)[2] == 2

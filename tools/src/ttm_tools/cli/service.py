@@ -13,15 +13,15 @@ TOLD = "what runs: departures, headways, speeds, vehicles, hours and kilometres"
 HELP = """\
 Tells what runs on a service day, by route, direction and period, for the feed as it is and for each scenario file, one
 below the other: departures, the median headway and the greatest gap (minutes, at the stop at which most vehicles of the
-direction call), first departure, last arrival, kilometres an hour, the most vehicles under way at once, vehicle hours
-and vehicle kilometres (straight from stop to stop). A departure counts in the period in which it leaves its first stop,
-with all its time and way; trips after midnight are of the day on which their service runs. --by says what a line is: a
-direction of a route, a route, all, or a stop, with its departures an hour. Of a feed that ttm-tools scenarios wrote its
-own scenario files are taken where none is named. A line on standard error for each scenario tells what it takes in
-all beside the first.
+direction call; none of both directions together), first departure, last arrival, kilometres an hour, the most vehicles
+under way at once, vehicle hours and vehicle kilometres (straight from stop to stop). A departure counts in the period
+in which it leaves its first stop, with all its time and way; trips after midnight are of the day on which their service
+runs. --by says what a line is: a direction of a route, a route, all, or a stop, with its departures an hour. Of a feed
+that ttm-tools scenarios wrote its own scenario files are taken where none is named. A line on standard error for each
+scenario tells what it takes in all beside the first.
 
 --page writes an HTML page like a timetable at a stop: minutes of departure by hour, scenarios side by side. --picture
-draws a map, the wider a line the more vehicles an hour; needs matplotlib. docs/MEASURES.md says how each is counted.
+draws a map, the wider a line the more vehicles an hour; needs matplotlib. docs/reference/measures.md says how each is counted.
 Needs pandas. Memory: some 150 MB, and 300 bytes for each stop time of the day and scenario."""
 CLOCK = re.compile(r"([0-9]{1,3}):([0-5][0-9])")
 
@@ -62,7 +62,7 @@ def run(words: argparse.Namespace) -> int:
     from ..views.service_page import write_page
 
     found = day_of(words)
-    groups = groups_of(found.timetable, "direction" if words.by == "stop" else words.by)
+    groups = groups_of(found.timetable, "direction" if words.by == "stop" else words.by, list(found.running))
     last = list(found.running)[-1]
     figure = figure_of(found, last, found.periods[0]) if words.picture else None
     with output(words.out) as file:
@@ -72,7 +72,8 @@ def run(words: argparse.Namespace) -> int:
             write_lines(file, lines_of(found, groups), groups)
     if words.page:
         with output(words.page) as file:
-            write_page(file, found, groups, list(lines_of(found, groups)), f"What runs on {words.date}")
+            own = groups_of(found.timetable, "direction", list(found.running))
+            write_page(file, found, own, list(lines_of(found, own)), f"What runs on {words.date}")
     if figure is not None:
         with output(words.picture) as file:
             figure.savefig(file, format="png", dpi="figure")

@@ -156,8 +156,9 @@ def straight_lengths(timetable: Timetable, east: Floats, north: Floats) -> Float
     placed = ~np.isnan(east[events.stop])
     trip = np.repeat(np.arange(len(timetable.trips)), np.diff(events.begins))[placed]
     x, y = east[events.stop[placed]], north[events.stop[placed]]
-    steps = np.where(np.diff(trip) == 0, np.hypot(np.diff(x), np.diff(y)), 0.0)
-    made: Floats = np.bincount(trip[1:], steps, len(timetable.trips)) if len(trip) else np.zeros(len(timetable.trips))
+    steps: Floats = np.where(np.diff(trip) == 0, np.hypot(np.diff(x), np.diff(y)), 0.0)
+    made: Floats = np.zeros(len(timetable.trips))
+    np.add.at(made, trip[1:], steps)
     return made
 
 

@@ -33,6 +33,7 @@ class Groups:
 
     keys: list[tuple[str, str]]  # route and direction, "" for all
     of_trip: Whole  # for each trip the place of its key
+    by: str
     names: dict[str, str]  # of routes
 
 
@@ -55,28 +56,32 @@ class Line:
     service: Service
 
 
-def groups_of(timetable: Timetable, by: str) -> Groups:
-    """Directions of routes, routes, or all trips as one, in the order of their routes in trips.txt."""
+def groups_of(timetable: Timetable, by: str, scenarios: Sequence[str]) -> Groups:
+    """Directions of routes, routes, or all trips as one, in the order of their routes in trips.txt. What a scenario of
+    a plan adds to a route, under the route's name with an @ and its own behind it, is of that route.
+    """
     folder, names = timetable.folder, dict[str, str]()
     for _, (route, short, long) in rows(
         in_folder(folder, "routes.txt"), ["route_id"], ["route_short_name", "route_long_name"]
     ):
         names[route] = shown(short.strip() or long.strip() or route)
     directions = [it[1] for _, it in rows(in_folder(folder, "trips.txt"), ["trip_id"], ["direction_id"])]
+    ends = [f"@{name}" for name in scenarios]
+    own = {
+        route: next((it for it in (route.removesuffix(end) for end in ends) if it != route), route) for route in names
+    }
+    own = {route: it if it in names else route for route, it in own.items()}
     keys = [
-        ("", "") if by == ALL else (route, "" if by == ROUTE else direction.strip())
+        ("", "") if by == ALL else (own.get(route, route), "" if by == ROUTE else direction.strip())
         for route, direction in zip(timetable.routes, directions)
     ]
     known = {key: place for place, key in enumerate(dict.fromkeys(keys))}
-    return Groups(list(known), np.array([known[key] for key in keys], dtype=np.int64), names)
+    return Groups(list(known), np.array([known[key] for key in keys], dtype=np.int64), by, names)
 
 
 def lines_of(day: Day, groups: Groups) -> Iterator[Line]:
     """A line for each group, period and scenario, scenarios below each other; none where nothing runs in any."""
-    stops = {
-        name: headway_stops(it, groups.of_trip[it.trip], len(groups.keys), len(day.timetable.stops))
-        for name, it in day.running.items()
-    }
+    stops = stops_of(day, groups)
     for place, key in enumerate(groups.keys):
         chosen = {name: groups.of_trip[it.trip] == place for name, it in day.running.items()}
         for period in day.periods:
@@ -86,6 +91,18 @@ def lines_of(day: Day, groups: Groups) -> Iterator[Line]:
             ]
             if any(it.service.departures for it in made):
                 yield from made
+
+
+def stops_of(day: Day, groups: Groups) -> dict[str, Whole]:
+    """For each scenario the stops at which the headways of the groups are told; of both directions together there are
+    none.
+    """
+    if groups.by != DIRECTION:
+        return {name: np.full(len(groups.keys), -1, dtype=np.int64) for name in day.running}
+    count = len(day.timetable.stops)
+    return {
+        name: headway_stops(it, groups.of_trip[it.trip], len(groups.keys), count) for name, it in day.running.items()
+    }
 
 
 def period_told(period: Period) -> str:

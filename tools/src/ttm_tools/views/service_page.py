@@ -7,9 +7,9 @@ from typing import BinaryIO, Iterator
 
 import numpy as np
 
-from ..measures.service import Running, headway_stops
+from ..measures.service import Running
 from ..records import shown
-from .service import Day, Groups, Line, period_told, texts_of
+from .service import Day, Groups, Line, period_told, stops_of, texts_of
 
 STYLE = """body{font-family:sans-serif;margin:1em;max-width:70em}table{border-collapse:collapse;margin:.5em 0}
 th,td{border:1px solid #999;padding:.2em .5em;text-align:left;vertical-align:top}td.n{text-align:right}
@@ -21,10 +21,7 @@ def write_page(out: BinaryIO, day: Day, groups: Groups, lines: list[Line], title
     """Writes the page, as HTML that needs nothing beside it."""
     head = f'<!DOCTYPE html>\n<html lang="en"><meta charset="utf-8"><title>{escape(title)}</title>'
     out.write(f"{head}<style>{STYLE}</style>\n<h1>{escape(title)}</h1>\n".encode("utf-8", "backslashreplace"))
-    stops = {
-        name: headway_stops(it, groups.of_trip[it.trip], len(groups.keys), len(day.timetable.stops))
-        for name, it in day.running.items()
-    }
+    stops = stops_of(day, groups)
     for place, key in enumerate(groups.keys):
         own = [line for line in lines if line.key == key]
         if not own:

@@ -96,12 +96,12 @@ def frame_of(matrix: Matrix, content: Content, asked: Asked, wish: Wish) -> Fram
     }
     return Frame(
         wish.title or f"Travel times and access: {name}",
-        wish.note or "",
+        " ".join(it for it in (wish.note, f"{matrix.heading}." if matrix.heading else "") if it),
         asked.scenarios,
         asked.shares,
         [sources.meaning(share, words) + end_told(matrix) for share in asked.shares],
         sources.table(files, wish.feed, words),
-        [*told_rows(content, asked), *([f"{matrix.heading}."] if matrix.heading else [])],
+        told_rows(content, asked),
         first_minutes(matrix, wish.within),
         wish.tiles,
         wish.attribution or "",
