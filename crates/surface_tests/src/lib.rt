@@ -1,5 +1,5 @@
 //! Tests of the surface that other programs are promised: each public name is called once, with its parameters, through
-//! the crate that has it (docs/DECISIONS.md has a table of the calls of `ttm`). A name that is gone, or that wants other
+//! the crate that has it (docs/explanation/decisions.md has a table of the calls of `ttm`). A name that is gone, or that wants other
 //! parameters, doesn't compile here.
 //!
 //! - `networks`: `timetable`, `trip_lanes`, `rounds`, `shares`.

@@ -156,19 +156,19 @@ class ResultWish:
     )
     nearest: tuple[float, ...] = told(
         ascending(0.000001, 1e15, "opportunities", False),
-        "nearest.csv: the time within which so many are reached; equity_nearest.csv where people are named; and a map",
+        "nearest.csv: the time within which this number is reached; equity_nearest.csv if people are named; and a map",
         "[1, 3]",
         (),
     )
     bands: tuple[float, ...] = told(
         ascending(0, 1e15, "opportunities", False),
-        "bands.csv: how many people have at least so many; needs people",
+        "bands.csv: how many people have at least this number; needs people",
         "[1000, 10000]",
         (),
     )
     nearest_bands: tuple[float, ...] = told(
         ascending(0, 10000, "minutes", False),
-        "bands_nearest.csv: how many people have the nearest within so many; needs people and nearest",
+        "bands_nearest.csv: how many people have the nearest within these minutes; needs people and nearest",
         "[10, 20, 30]",
         (),
     )
