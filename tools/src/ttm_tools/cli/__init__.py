@@ -36,6 +36,7 @@ COMMANDS = (
     "gis",
     "isochrones",
     "study",
+    "explore",
 )
 NO_MEMORY, OF_ITS_OWN = 3, 70
 NEGATIVE = re.compile(r"-[0-9.][-+0-9.,e]*")
