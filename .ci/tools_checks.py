@@ -41,6 +41,7 @@ PACKAGES = {
     "osmium": "python3-pyosmium",
     "networkx": "python3-networkx",
     "jinja2": "python3-jinja2",
+    "flask": "python3-flask",
 }
 BROWSER = {"selenium": "python3-selenium", "chromium": "chromium", "chromedriver": "chromium-driver"}  # large: the last
 LEAFLET = Path("/usr/share/javascript/leaflet/leaflet.min.js"), "libjs-leaflet"

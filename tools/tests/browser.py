@@ -57,6 +57,12 @@ class Browser:
         self.driver.get(path.resolve().as_uri() + (f"#{words}" if words else ""))
         self.settle()
 
+    def visit(self, address: str, words: str = "") -> None:
+        """Opens an address, and waits until it is shown."""
+        self.driver.get("about:blank")
+        self.driver.get(address + (f"#{words}" if words else ""))
+        self.settle()
+
     def settle(self) -> None:
         """Waits until all that was asked for is shown."""
         self.awaited("await begun; await show();")

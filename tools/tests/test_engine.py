@@ -29,12 +29,12 @@ def standing_in(folder: Path) -> Iterator[None]:
         os.chdir(before)
 
 
-def test_each_block_of_the_page_runs(room: Room, program: str, monkeypatch: pytest.MonkeyPatch) -> None:
+def test_each_block_of_the_page_runs(room: Room, asked_program: str, monkeypatch: pytest.MonkeyPatch) -> None:
     if not PAGE.is_file():
         pytest.skip("docs/howto/python.md is missing")
-    monkeypatch.setenv("TTM_PROGRAM", program)
+    monkeypatch.setenv("TTM_PROGRAM", asked_program)
     blocks = re.findall(r"^```python\n(.*?)^```$", PAGE.read_text(), re.MULTILINE | re.DOTALL)
-    assert len(blocks) == 9
+    assert len(blocks) == 10
     names: dict[str, object] = {}
     with standing_in(room.folder):
         for block in blocks:

@@ -1,5 +1,5 @@
 """What analysts do before and after a run of `ttm`: `ttm-tools --help` names the commands, and `matrix(..)` runs
-`ttm`.
+`ttm`, and `Network(..)` keeps one for many questions.
 """
 
 from typing import TYPE_CHECKING
@@ -7,9 +7,11 @@ from typing import TYPE_CHECKING
 if TYPE_CHECKING:
     from .engine import EngineFault, Result, Run, matrix
     from .faults import BadInput, WrongWords
+    from .network import Network
 
 __version__ = "0.1.0"
-__all__ = ["BadInput", "EngineFault", "Result", "Run", "WrongWords", "matrix"]
+HOMES = {"BadInput": ".faults", "WrongWords": ".faults", "Network": ".network"}  # else .engine
+__all__ = ["BadInput", "EngineFault", "Network", "Result", "Run", "WrongWords", "matrix"]
 
 
 def __getattr__(name: str) -> object:
@@ -17,7 +19,7 @@ def __getattr__(name: str) -> object:
     from importlib import import_module
 
     if name in __all__:
-        return getattr(import_module(".faults" if name in ("BadInput", "WrongWords") else ".engine", __name__), name)
+        return getattr(import_module(HOMES.get(name, ".engine"), __name__), name)
     raise AttributeError(name)
 
 

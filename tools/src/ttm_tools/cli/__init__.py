@@ -38,6 +38,7 @@ COMMANDS = (
     "gis",
     "isochrones",
     "study",
+    "explore",
     "docs",
 )
 NO_MEMORY, OF_ITS_OWN = 3, 70

@@ -22,7 +22,17 @@ from .parts import Part, blocks_of, part, rows_in_block
 
 ASSETS = Path(__file__).resolve().parent / "assets"
 LEAFLET = "/usr/share/javascript/leaflet"
-SCRIPTS = ("data.js", "classes.js", "areas.js", "layer.js", "figures.js", "panel.js", "search.js", "main.js")
+SCRIPTS = (
+    "data.js",
+    "cells.js",
+    "classes.js",
+    "areas.js",
+    "layer.js",
+    "figures.js",
+    "panel.js",
+    "search.js",
+    "main.js",
+)
 STYLES = ("page.css",)
 
 
@@ -111,27 +121,45 @@ def as_json(head: dict[str, Any]) -> str:
     return made
 
 
-def policy_of(scripts: Sequence[str], styles: Sequence[str], tiles: str | None) -> str:
-    """What a browser may run and fetch: these scripts and styles, by their sums, and tiles where they are asked for."""
+@dataclass(frozen=True)
+class Kind:
+    """Of which files a page is made: those of the page to send, or of one with a live source."""
+
+    template: str = "page.html"
+    folders: tuple[Path, ...] = (ASSETS,)
+    scripts: tuple[str, ...] = SCRIPTS
+    styles: tuple[str, ...] = STYLES
+    connects: bool = False  # whether it asks the server that it comes from
+    known: dict[str, Any] = field(default_factory=dict)  # what else its template shows
+
+    def texts(self, names: Sequence[str]) -> list[str]:
+        """Files of these folders, each from the first that has it."""
+        paths = [next(path for path in (it / name for it in self.folders) if path.is_file()) for name in names]
+        return [path.read_text(encoding="utf-8") for path in paths]
+
+
+def policy_of(scripts: Sequence[str], styles: Sequence[str], tiles: str | None, connects: bool = False) -> str:
+    """What a browser may run and fetch: these scripts and styles, by their sums, tiles where they are asked for, and
+    what the page's own server answers where it has one.
+    """
 
     def sums(texts: Sequence[str]) -> str:
         found = [base64.b64encode(hashlib.sha256(text.encode()).digest()).decode("ascii") for text in texts]
         return " ".join(f"'sha256-{it}'" for it in found)
 
     images = "data:" if tiles is None else f"data: {urlsplit(tiles).scheme}:"
-    rest = "base-uri 'none'; form-action 'none'"
+    rest = ("connect-src 'self'; " if connects else "") + "base-uri 'none'; form-action 'none'"
     return f"default-src 'none'; script-src {sums(scripts)}; style-src {sums(styles)}; img-src {images}; {rest}"
 
 
-def write_page(out: BinaryIO, content: Content, lines: Lines, frame: Frame) -> None:
+def write_page(out: BinaryIO, content: Content, lines: Lines, frame: Frame, kind: Kind = Kind()) -> None:
     """Writes the page, some of it at a time."""
     from jinja2 import Environment, FileSystemLoader, StrictUndefined
 
     script, style = leaflet_files(frame.leaflet)
-    scripts = [script, *[(ASSETS / name).read_text(encoding="utf-8") for name in SCRIPTS]]
-    styles = [style, *[(ASSETS / name).read_text(encoding="utf-8") for name in STYLES]]
+    scripts, styles = [script, *kind.texts(kind.scripts)], [style, *kind.texts(kind.styles)]
     rooms = Environment(
-        loader=FileSystemLoader(ASSETS),
+        loader=FileSystemLoader(kind.folders),
         autoescape=True,
         undefined=StrictUndefined,
         trim_blocks=True,
@@ -139,13 +167,14 @@ def write_page(out: BinaryIO, content: Content, lines: Lines, frame: Frame) -> N
     )
     known = {
         "frame": frame,
-        "policy": policy_of(scripts, styles, frame.tiles),
+        "policy": policy_of(scripts, styles, frame.tiles, kind.connects),
         "scripts": scripts,
         "styles": styles,
         "licence": (ASSETS / "leaflet_licence.txt").read_text(encoding="utf-8"),
         "head": as_json(head_of(content, lines, frame)),
         "parts": parts_of(content, lines),
         "people": content.people,
+        **kind.known,
     }
-    for piece in rooms.get_template("page.html").generate(known):
+    for piece in rooms.get_template(kind.template).generate(known):
         out.write(piece.encode("utf-8", "replace"))

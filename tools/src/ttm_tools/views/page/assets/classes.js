@@ -3,6 +3,7 @@
 // kinds of colour vision tell apart; 'not reached', 'cut off' and 'new' have marks of their own.
 
 const MINUTES = [10, 20, 30, 45, 60, 90]; // where classes of travel times end
+let classEnds = MINUTES; // the same, where an addition chooses them
 const CHANGES = [2, 5, 15]; // minutes, where classes of differences begin: a minute may come of rounding up
 const PERCENT = [1, 5, 10, 25]; // where classes of changed access begin
 const PLASMA = ["#0d0887", "#4b03a1", "#7b02a8", "#a72197", "#c9447a", "#e3685f", "#f79044", "#febd2a", "#f3f027"];
@@ -34,14 +35,14 @@ function ordinary(label, colour) {
 
 /** The marks of travel times, and which of them a cell is in. */
 function timeClasses() {
-  const labels = [`up to ${MINUTES[0]} min`];
-  for (let place = 1; place < MINUTES.length; place++) {
-    labels.push(`${MINUTES[place - 1] + 1} to ${MINUTES[place]} min`);
+  const labels = [`up to ${classEnds[0]} min`];
+  for (let place = 1; place < classEnds.length; place++) {
+    labels.push(`${classEnds[place - 1] + 1} to ${classEnds[place]} min`);
   }
-  labels.push(`more than ${MINUTES[MINUTES.length - 1]} min`);
+  labels.push(`more than ${classEnds[classEnds.length - 1]} min`);
   const shades = colours(labels.length);
   const marks = [...labels.map((label, place) => ordinary(label, shades[place])), NOT_REACHED];
-  const classOf = (minutes) => (minutes === NEVER ? labels.length : grade(MINUTES, minutes - 1));
+  const classOf = (minutes) => (minutes === NEVER ? labels.length : grade(classEnds, minutes - 1));
   return { marks, classOf };
 }
 

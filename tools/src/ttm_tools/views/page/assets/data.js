@@ -5,9 +5,9 @@ const LATER = 254; // a cell of more than 253 minutes
 const NEVER = 255; // a cell that isn't reached
 const NOWHERE = 2147483647; // a latitude of a place without one
 const CHANGED_LINES = ["taken", "changed", "added"]; // kinds of lines that differ in a scenario from the base
-const BLOCKS_KEPT = 400; // blocks of cells that are kept inflated
 
 const head = JSON.parse(document.getElementById("head").textContent);
+const additions = []; // what a page with a live source adds: see live.js of `explore`
 
 /** The bytes of a part of the page. */
 async function inflated(name) {
@@ -33,7 +33,7 @@ async function readNumbers() {
     for (const name of CHANGED_LINES) {
       kinds[`${name}-${scenario}`] = Int32Array;
     }
-    for (let share = 0; share < head.shares.length; share++) {
+    for (let share = 0; head.measures.length > 0 && share < head.shares.length; share++) {
       kinds[`access-${scenario}-${share}`] = Float64Array;
     }
   }
@@ -45,43 +45,6 @@ async function readNumbers() {
     numbers[name].forEach((place, number) => { places[place] = number; });
     numbers[`${name}At`] = places; // the number of each place among them, -1 where it isn't
   }
-}
-
-const blocks = new Map(); // inflated blocks of cells by their names, the one that was asked for last at the end
-
-/** The cells of a block, as minutes. */
-async function readBlock(scenario, share, number) {
-  const name = `cells-${scenario}-${share}-${number}`;
-  let cells = blocks.get(name);
-  blocks.delete(name);
-  if (cells === undefined) {
-    cells = new Uint8Array(await inflated(name));
-    for (let place = head.columns; place < cells.length; place++) {
-      cells[place] += cells[place - head.columns];
-    }
-    if (scenario > 0) {
-      const below = await readBlock(0, share, number);
-      for (let place = 0; place < cells.length; place++) {
-        cells[place] += below[place];
-      }
-    }
-  }
-  blocks.set(name, cells);
-  if (blocks.size > BLOCKS_KEPT) {
-    blocks.delete(blocks.keys().next().value);
-  }
-  return cells;
-}
-
-/** Travel times from a place in minutes, for each column; null where the page hasn't them. */
-async function minutesFrom(place, scenario, share) {
-  const row = numbers.rowsAt[place];
-  if (row < 0) {
-    return null;
-  }
-  const block = Math.floor(row / head.rowsInBlock);
-  const begin = (row - block * head.rowsInBlock) * head.columns;
-  return (await readBlock(scenario, share, block)).subarray(begin, begin + head.columns);
 }
 
 /** Access from each origin, by a measure's number. */

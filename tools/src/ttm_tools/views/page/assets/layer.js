@@ -73,6 +73,8 @@ class PageMap {
     this.points = onWorld(numbers.places);
     this.areas = new Areas();
     this.lines = {};
+    this.under = []; // what additions paint below the places, and
+    this.over = []; // above them
     this.shown = { classes: null, marks: [UNKNOWN], faint: null, place: -1, scenario: 0 };
     this.map = L.map("map", { zoomControl: true, zoomSnap: 0.25, wheelPxPerZoomLevel: 90, zoomAnimation: false,
       fadeAnimation: false, attributionControl: head.tiles !== null, maxZoom: 19, minZoom: 2, finest: 1 });
@@ -87,7 +89,7 @@ class PageMap {
     this.map.on("click", (event) => {
       const place = this.placeAt(event.containerPoint);
       if (place >= 0) {
-        chosen(place);
+        chosen(place, event);
       }
     });
     this.addTip(tipOf);
@@ -211,6 +213,7 @@ class PageMap {
     if (this.map.options.finest > 1) {
       this.paintLines(pen, view, "running"); // on paper browsers may leave out a canvas that lies below another one
     }
+    this.under.forEach((paint) => paint(pen, view));
     const squares = this.areas.any || numbers.widths.some((width) => width > 0);
     if (!squares) {
       this.paintChanges(pen, view);
@@ -219,6 +222,7 @@ class PageMap {
     if (squares) {
       this.paintChanges(pen, view);
     }
+    this.over.forEach((paint) => paint(pen, view));
     if (this.shown.place >= 0 && isPlaced(this.shown.place)) {
       paintStar(pen, ...this.at(this.shown.place, view));
     }

@@ -36,8 +36,9 @@ function set(change) {
 async function show() {
   const own = ++turn, { place, scenario, share } = state;
   showControls();
+  additions.forEach((addition) => addition.controls());
   const before = state.difference && place >= 0 ? await minutesFrom(place, 0, share) : null;
-  const now = place >= 0 ? await minutesFrom(place, scenario, share) : null;
+  const now = place >= 0 && own === turn ? await minutesFrom(place, scenario, share) : null;
   if (own !== turn) {
     return;
   }
@@ -49,6 +50,7 @@ async function show() {
   } else {
     showTimes(now, before);
   }
+  additions.forEach((addition) => addition.show(current));
   element("meaning").textContent = head.meanings[share]
     + (state.difference ? " A difference is one of such whole minutes: it may be up to a minute off." : "");
   writeAddress();
@@ -170,9 +172,10 @@ function spanOf(measure) {
   return [least, most];
 }
 
-function choose(place) {
+/** Takes a place as the one from which travel times are shown, where no addition takes it for something else. */
+function choose(place, event) {
   page.bring(place);
-  return set({ place });
+  return additions.some((addition) => addition.takes(place, event)) ? show() : set({ place });
 }
 
 /** What is told of a place under the pointer. */
@@ -211,6 +214,9 @@ function writeAddress() {
     of: state.of,
     within: state.within,
   };
+  for (const addition of additions) {
+    Object.assign(words, addition.words());
+  }
   try {
     history.replaceState(null, "", `#${new URLSearchParams(words)}`);
   } catch {
@@ -226,17 +232,20 @@ function readAddress() {
     return found < 0 ? otherwise : found;
   };
   const minutes = Math.round(Number(words.get("minutes"))), names = head.measures.map((measure) => measure.of);
-  const views = ["times", "access"];
-  state.view = views[place(views, "view", 1)]; // before a place is chosen, access alone has something to show
+  const views = head.measures.length ? ["times", "access"] : ["times"];
+  state.view = views[place(views, "view", views.length - 1)]; // before a place is chosen, access alone is something
   state.scenario = place(head.scenarios, "scenario", Number(several));
   state.difference = state.scenario > 0 && words.get("difference") !== "0";
   state.share = place(head.shares.map(String), "share", Math.floor((head.shares.length - 1) / 2));
   state.place = place(head.identifiers, "from", -1);
   state.minutes = minutes >= 1 && minutes <= MOST_MINUTES ? minutes : head.minutes;
-  state.of = names[place(names, "of", 0)];
+  state.of = names[place(names, "of", 0)] ?? "";
   const limits = head.measures.filter((it) => it.of === state.of).map((it) => it.seconds);
   const first = Math.max(0, limits.indexOf(60 * head.minutes));
   state.within = words.has("within") ? Math.max(0, Math.round(Number(words.get("within"))) || 0) : first;
+  for (const addition of additions) {
+    addition.read(words);
+  }
 }
 
 /** Options of a list, with their numbers as values. */
@@ -256,6 +265,7 @@ function fillControls() {
   element("scenario-field").hidden = head.scenarios.length < 2;
   element("share-field").hidden = head.shares.length < 2;
   element("weight-field").hidden = people.length === 0;
+  element("view-field").hidden = head.measures.length === 0;
 }
 
 /** Says what each of the controls does. */
@@ -311,6 +321,9 @@ async function begin() {
   page = new PageMap(choose, tipOf);
   addControls();
   addPrinting();
+  for (const addition of additions) {
+    addition.begin(page);
+  }
   new Search(choose);
   window.addEventListener("hashchange", () => { readAddress(); show(); });
   await show();

@@ -1,0 +1,131 @@
+"""A process of `ttm --ask`: it keeps a network, reads questions from its standard input, and answers each of them.
+
+A question is a block of words, one on each line, ended by an empty line. An answer is a line `answer STATUS LENGTH`
+and so many bytes: the matrix where the status is 0, else the line that a run would print.
+"""
+
+import os
+import re
+import signal
+import subprocess
+import threading
+from collections import deque
+from dataclasses import dataclass
+from typing import IO, Sequence
+
+from .engine import EngineFault, refusal_of
+from .faults import WrongWords
+
+HEAD = re.compile(rb"answer ([0-9]{1,3}) ([0-9]{1,18})\n")
+LONGEST_HEAD = 64  # bytes
+LAST_LINES = 100  # of the standard error that are kept
+SECONDS_TO_END = 1.0  # for a process whose input has ended, before it is killed
+
+
+@dataclass(frozen=True)
+class Answer:
+    """What the process answers to a question."""
+
+    status: int  # the exit status of a run with these words
+    body: bytes  # the matrix at status 0, else the error line
+
+
+def block_of(words: Sequence[str]) -> bytes:
+    """The bytes of a question. A word with a line end, or an empty one, has no place in it."""
+    for word in words:
+        if not word or "\n" in word:
+            raise WrongWords(f"a question has no word {word!r}")
+    return b"".join(os.fsencode(word) + b"\n" for word in words) + b"\n"
+
+
+class Conversation:
+    """One process, which one thread asks at a time. A process that can't go on is ended, and says why by `EngineFault`:
+    then it is of no more use.
+    """
+
+    def __init__(self, words: Sequence[str]) -> None:
+        self.owner = os.getpid()
+        pipe = subprocess.PIPE
+        self.process = subprocess.Popen(words, stdin=pipe, stdout=pipe, stderr=pipe)
+        self.lines: deque[bytes] = deque(maxlen=LAST_LINES)
+        self.listener = threading.Thread(target=listen, args=(self.process.stderr, self.lines), daemon=True)
+        self.listener.start()
+
+    @property
+    def is_usable(self) -> bool:
+        """Whether this process of Python may ask it: a fork of the one that began it may not."""
+        return self.owner == os.getpid() and self.process.returncode is None
+
+    def ask(self, words: Sequence[str]) -> Answer:
+        """Asks a question and waits for its answer."""
+        block = block_of(words)
+        try:
+            return self.answer(block)
+        except BaseException:
+            self.end(0)  # else the next question would get the rest of this answer
+            raise
+
+    def answer(self, block: bytes) -> Answer:
+        asked, answered = self.process.stdin, self.process.stdout
+        assert asked is not None and answered is not None
+        try:
+            asked.write(block)
+            asked.flush()
+            head = answered.readline(LONGEST_HEAD)
+        except (OSError, ValueError):  # the pipe is broken, or closed by another thread
+            raise self.fault() from None
+        found = HEAD.fullmatch(head)
+        if found is None and head.endswith(b"\n"):
+            raise EngineFault(f"ttm: no answer, but {head!r}", 4)
+        length = int(found[2]) if found else 1
+        body = answered.read(length) if found else b""
+        if found is None or len(body) < length:
+            raise self.fault()
+        return Answer(int(found[1]), body)
+
+    def fault(self) -> EngineFault:
+        """Why the process ended, by its last lines."""
+        status = self.end(SECONDS_TO_END)
+        told = b"\n".join(self.lines)
+        if status >= 0:
+            return EngineFault("\n".join(refusal_of(told, status)), status)
+        name = signal.Signals(-status).name
+        last = refusal_of(told, status)[0] if told else "it said nothing"
+        return EngineFault(f"ttm: ended by {name}, its last line: {last.removeprefix('ttm: ')}", 128 - status)
+
+    def end(self, seconds: float) -> int:
+        """Ends the process, after some seconds by force, and gives its exit status."""
+        close(self.process.stdin)
+        try:
+            status = self.process.wait(seconds) if seconds else self.process.poll()
+        except subprocess.TimeoutExpired:
+            status = None
+        if status is None:
+            self.process.kill()
+            status = self.process.wait()
+        self.listener.join(SECONDS_TO_END)
+        return status
+
+    def close(self) -> None:
+        """Ends the process and gives back its pipes; of a fork only the pipes."""
+        if self.owner == os.getpid():
+            self.end(SECONDS_TO_END)
+        else:
+            close(self.process.stdin)
+        close(self.process.stdout)
+
+
+def close(pipe: IO[bytes] | None) -> None:
+    """Closes a pipe, also one whose other end is closed already."""
+    if pipe is not None:
+        try:
+            pipe.close()
+        except OSError:
+            pass
+
+
+def listen(errors: IO[bytes], lines: "deque[bytes]") -> None:
+    """Keeps the last lines of a standard error, so that the process never waits for a reader."""
+    with errors:
+        for line in errors:
+            lines.append(line.rstrip(b"\n"))

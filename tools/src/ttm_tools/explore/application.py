@@ -1,0 +1,105 @@
+"""The answers of the server: the page, travel times, journeys, changes of the network, and a study that is saved."""
+
+import functools
+import io
+from typing import Any, Callable
+
+from flask import Flask, Response, request
+
+from ..faults import BadInput, Lacking, WrongWords, one_line, say
+from .changes import actions_of, walk_of
+from .document import write_document
+from .exploration import Exploration
+from .guard import HEADERS, Guard
+from .question import question_of, whole, window_of
+from .turnstile import Overtaken
+
+MOST_BYTES = 1 << 20  # of what the page sends
+NUMBERS, REFUSED, OF_ITS_OWN = "application/octet-stream", 422, 500
+LONGEST = 300  # letters of an error of its own
+Answer = Response | tuple[dict[str, Any], int]
+
+
+def application(exploration: Exploration, guard: Guard) -> Flask:
+    """The application that answers the page of an exploration."""
+    made = Flask(__name__, static_folder=None, template_folder=None)
+    made.before_request(lambda: refusal(guard))
+    made.after_request(with_headers)
+    answers: dict[str, tuple[str, Callable[[Exploration], Answer]]] = {
+        "": ("GET", page),
+        "times": ("GET", times),
+        "journey": ("GET", journey),
+        "routes": ("GET", routes),
+        "changes": ("POST", changes),
+        "study": ("POST", study),
+    }
+    for name, (method, answer) in answers.items():
+        view = functools.partial(answered, answer, exploration)
+        made.add_url_rule(f"/<token>/{name}", name or "page", view, methods=[method], provide_automatic_options=False)
+    return made
+
+
+def refusal(guard: Guard) -> Response | None:
+    """Refuses a request that isn't of the page, before anything else is looked at."""
+    status = guard.refusal(request.path, request.method, request.headers)
+    if status is None and request.method == "POST":
+        length = request.content_length  # not known of a body in pieces, which is no page's
+        status = 411 if length is None else 413 if length > MOST_BYTES else None
+    return None if status is None else Response("", status, mimetype="text/plain")
+
+
+def with_headers(response: Response) -> Response:
+    response.headers.update(HEADERS)
+    return response
+
+
+def answered(answer: Callable[[Exploration], Answer], exploration: Exploration, token: str) -> Answer:
+    """An answer, or in one line why there is none; the guard has looked at the token."""
+    try:
+        return answer(exploration)
+    except Overtaken:
+        return Response(status=204)
+    except (BadInput, Lacking, WrongWords) as fault:
+        return {"fault": one_line(fault)}, REFUSED
+    except MemoryError:
+        return {"fault": "out of memory"}, REFUSED
+    except Exception as fault:  # an error of its own ends no other answer
+        told = one_line(f"an error of its own, {type(fault).__name__}: {fault}")[:LONGEST]
+        say(f"ttm-tools explore: {told}")
+        return {"fault": told}, OF_ITS_OWN
+
+
+def page(exploration: Exploration) -> Answer:
+    out = io.BytesIO()
+    write_document(out, exploration)
+    return Response(out.getvalue(), mimetype="text/html")
+
+
+def times(exploration: Exploration) -> Answer:
+    """Seconds as int32, for each scenario, share and column; -1 where it isn't reached."""
+    found = exploration.times(question_of(request.args, exploration.count))
+    response = Response(found.seconds.tobytes(), mimetype=NUMBERS)
+    response.headers["X-Version"] = str(found.version)
+    return response
+
+
+def journey(exploration: Exploration) -> Answer:
+    words, most = request.args, exploration.count - 1
+    origin, end = whole(words, "origin", 0, most), whole(words, "end", 0, most)
+    scenario = whole(words, "scenario", 0, len(exploration.standing.scenarios) - 1)
+    window, trips, share = window_of(words), whole(words, "trips", 1, 8), whole(words, "share", 1, 100)
+    return exploration.journey((origin, end), scenario, window, trips, share), 200
+
+
+def routes(exploration: Exploration) -> Answer:
+    return exploration.routes(), 200
+
+
+def changes(exploration: Exploration) -> Answer:
+    """Begins a network with other changes, or another longest walk; the one before answers until it is there."""
+    asked = request.get_json(silent=True)
+    return exploration.change(actions_of(asked), walk_of(asked)), 200
+
+
+def study(exploration: Exploration) -> Answer:
+    return exploration.save(request.get_json(silent=True)), 200

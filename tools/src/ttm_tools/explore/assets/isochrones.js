@@ -1,0 +1,197 @@
+"use strict";
+// Sliders of a question, bands and areas, the curve by minutes, and what changes within the picture.
+
+const PACE = 1.33 / 1.3; // metres a second as the crow flies, as ttm-tools isochrones walks
+const AREA = 0.5; // opacity
+const CURVE = 120; // minutes
+const BANDS = 6;
+
+function clockOf(minutes) {
+  return `${String(Math.floor(minutes / 60)).padStart(2, "0")}:${String(minutes % 60).padStart(2, "0")}`;
+}
+
+function minutesOfClock(clock) {
+  return 60 * Number(clock.slice(0, 2)) + Number(clock.slice(3, 5));
+}
+
+const sliders = {
+  step: 10, // minutes of a band
+  areas: false,
+  page: null,
+  scratch: document.createElement("canvas"),
+
+  begin(map) {
+    this.page = map;
+    map.under.push((pen, view) => this.paintAreas(pen, view));
+    map.map.on("moveend", () => this.tellPicture());
+    element("percentile").max = head.shares.length - 1;
+    const on = (name, change) => element(name).addEventListener("input", () => change(element(name)));
+    on("percentile", (it) => set({ share: Number(it.value) }));
+    on("trips", (it) => this.ask({ trips: Number(it.value) }));
+    on("first", (it) => this.ask({ first: clockOf(Number(it.value)) }));
+    on("last", (it) => this.ask({ last: clockOf(Number(it.value)) }));
+    on("step", (it) => this.paintWith({ step: Number(it.value) }));
+    on("areas", (it) => this.paintWith({ areas: it.checked }));
+    on("walk", () => this.tellValues(Number(element("walk").value)));
+    element("curve-of").addEventListener("change", () => this.showCurve(current));
+    fill("curve-of", ...optionsOf(["places", ...head.reached.map((it) => head.counts[it])]));
+    element("curve-of").value = head.reached.length ? 1 : 0;
+  },
+
+  /** Asks another question; a window stays one. */
+  ask(change) {
+    Object.assign(live, change);
+    if (live.last < live.first) {
+      Object.assign(live, "first" in change ? { last: live.first } : { first: live.last });
+    }
+    return show();
+  },
+
+  paintWith(change) {
+    Object.assign(this, change);
+    return show();
+  },
+
+  takes() {
+    return false;
+  },
+
+  read(words) {
+    const clock = (name) => (/^([01]\d|2[0-3]):[0-5]\d$/.test(words.get(name) ?? "") ? words.get(name) : live[name]);
+    const whole = (name, least, most, otherwise) => {
+      const number = Number(words.get(name) ?? NaN);
+      return Number.isInteger(number) && number >= least && number <= most ? number : otherwise;
+    };
+    [live.first, live.last] = [clock("first"), clock("last")].sort();
+    live.trips = whole("trips", 1, 8, live.trips);
+    this.step = whole("step", 5, 30, this.step);
+    this.areas = words.get("areas") === "1";
+    this.setBands();
+  },
+
+  words() {
+    return { first: live.first, last: live.last, trips: live.trips, step: this.step, areas: Number(this.areas) };
+  },
+
+  setBands() {
+    classEnds = Array.from({ length: BANDS }, (_, place) => (place + 1) * this.step);
+  },
+
+  /** Shows what the sliders say, before an answer is there. */
+  controls() {
+    this.setBands();
+    this.tellValues(live.walk);
+    const values = { percentile: state.share, trips: live.trips, step: this.step,
+      first: minutesOfClock(live.first), last: minutesOfClock(live.last), walk: live.walk };
+    for (const [name, value] of Object.entries(values)) {
+      element(name).value = value;
+    }
+    element("areas").checked = this.areas;
+  },
+
+  tellValues(walk) {
+    const texts = { percentile: head.shares[state.share], trips: live.trips, step: this.step, first: live.first,
+      last: live.last, walk: told(walk / 60) };
+    for (const [name, text] of Object.entries(texts)) {
+      element(`${name}-told`).textContent = text;
+    }
+  },
+
+  show(shown) {
+    this.showCurve(shown);
+    this.tellPicture();
+  },
+
+  /** How many of what is reached within each minute. */
+  reachedBy(cells) {
+    const chosen = Number(element("curve-of").value) - 1, sums = new Float64Array(CURVE + 1);
+    const counts = chosen < 0 ? null : countsOf(head.reached[chosen]);
+    for (let column = 0; column < cells.length; column++) {
+      if (cells[column] <= CURVE) {
+        sums[cells[column]] += counts === null ? 1 : counts[numbers.columns[column]];
+      }
+    }
+    for (let minute = 1; minute <= CURVE; minute++) {
+      sums[minute] += sums[minute - 1];
+    }
+    return sums;
+  },
+
+  showCurve({ now, before }) {
+    element("curve-part").hidden = now === null;
+    if (now !== null) {
+      const what = element("curve-of").selectedOptions[0].textContent;
+      const lines = [...(before === null ? [] : [{ name: head.scenarios[0], sums: this.reachedBy(before) }]),
+        { name: head.scenarios[state.scenario], sums: this.reachedBy(now) }];
+      fill("curve", curveOf(lines, what, state.minutes));
+    }
+  },
+
+  /** Who gains and who loses within the picture. */
+  tellPicture() {
+    const { now, before } = current, shown = element("within-picture");
+    shown.hidden = now === null || before === null;
+    if (shown.hidden) {
+      return;
+    }
+    const bounds = this.page.map.getBounds(), inside = Array.from(numbers.columns, (place) => isPlaced(place)
+      && bounds.contains([numbers.places[2 * place] / 1e6, numbers.places[2 * place + 1] / 1e6]));
+    const some = (cells) => cells.filter((_, column) => inside[column]);
+    shown.textContent = `Within the picture: ${changesTold(some(now), some(before))}`;
+  },
+
+  /** The areas that are reached within each band, the widest first, from the stops on by walking. */
+  paintAreas(pen, view) {
+    if (!this.areas || current.now === null) {
+      return;
+    }
+    const fine = pen.canvas.width / view.width, shades = colours(classEnds.length + 1);
+    Object.assign(this.scratch, { width: pen.canvas.width, height: pen.canvas.height });
+    const area = this.scratch.getContext("2d");
+    area.scale(fine, fine);
+    const ends = classEnds.map((end, number) => ({ end, number })).filter(({ end }) => end <= state.minutes).reverse();
+    for (const { end, number } of ends) {
+      area.fillStyle = shades[number];
+      area.beginPath();
+      this.addCircles(area, view, end);
+      area.fill();
+    }
+    pen.globalAlpha = AREA;
+    pen.drawImage(this.scratch, 0, 0, view.width, view.height);
+    pen.globalAlpha = 1;
+  },
+
+  addCircles(area, view, end) {
+    current.now.forEach((minutes, column) => {
+      const place = numbers.columns[column], left = Math.min(60 * (end - minutes), live.walk);
+      if (minutes <= end && left > 0 && isPlaced(place)) {
+        const [x, y] = this.page.at(place, view), latitude = (numbers.places[2 * place] / 1e6) * (Math.PI / 180);
+        const wide = (left * PACE * 256 * view.scale) / (2 * Math.PI * L.CRS.EPSG3857.R * Math.cos(latitude));
+        if (x > -wide && y > -wide && x < view.width + wide && y < view.height + wide) {
+          area.moveTo(x + wide, y);
+          area.arc(x, y, wide, 0, 2 * Math.PI);
+        }
+      }
+    });
+  },
+};
+
+/** Lines by minutes, and where the slider stands. */
+function curveOf(lines, what, at) {
+  const [wide, high, left, low] = [380, 150, 60, 30], most = Math.max(1e-9, ...lines.map(({ sums }) => sums[CURVE]));
+  const text = lines.map(({ name, sums }) => `${name}: ${told(sums[at])} within ${at} minutes`).join("; ");
+  const made = shape("svg", { viewBox: `0 0 ${wide} ${high}`, role: "img", "aria-label": `${what}, ${text}` });
+  const across = (minute) => left + (minute / CURVE) * (wide - left - 12);
+  const up = (sum) => 8 + (1 - sum / most) * (high - 8 - low);
+  made.append(shape("line", { x1: across(at), x2: across(at), y1: 8, y2: up(0), stroke: "#767676" }));
+  lines.forEach(({ sums }, place) => {
+    const points = Array.from(sums, (sum, minute) => `${across(minute).toFixed(1)},${up(sum).toFixed(1)}`).join(" ");
+    const last = place === lines.length - 1;
+    made.append(shape("polyline", { points, fill: "none", stroke: last ? "#0b57a4" : "#555555", "stroke-width": 2,
+      "stroke-dasharray": last ? "none" : "5 3" }));
+  });
+  addAxes(made, { ends: [0, CURVE], most, across, up, wide, high, left });
+  return made;
+}
+
+additions.push(sliders);

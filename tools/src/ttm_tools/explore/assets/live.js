@@ -1,0 +1,126 @@
+"use strict";
+// Travel times from the server: one question at a time, and of those that wait the latest alone. An answer has all
+// scenarios and percentiles, so that other sliders need no further question.
+
+const asked = JSON.parse(document.getElementById("asked").textContent);
+const ANSWERS_KEPT = 30; // by question
+const live = {
+  version: asked.version, // of the network that answers
+  first: asked.first, last: asked.last, // departures, HH:MM
+  trips: asked.trips, walk: asked.walk, // vehicles at most, seconds at most
+  actions: asked.actions, // changes of the network
+  tab: Array.from(crypto.getRandomValues(new Uint8Array(12)), (it) => it.toString(16).padStart(2, "0")).join(""),
+  turn: 0, // of questions
+};
+
+/** What the server answers, as its response; a fault in one line where it refuses. */
+async function answerOf(name, words, body) {
+  const query = new URLSearchParams(words).toString();
+  const how = body === undefined ? {} : { method: "POST", body: JSON.stringify(body),
+    headers: { "Content-Type": "application/json" } };
+  let response;
+  try {
+    response = await fetch(`${name}${query ? `?${query}` : ""}`, how);
+  } catch {
+    throw new Error("The server has ended: start ttm-tools explore again.");
+  }
+  if (!response.ok) {
+    const told = await response.json().catch(() => ({ fault: `the server answers ${response.status}` }));
+    throw new Error(told.fault);
+  }
+  return response;
+}
+
+/** Shows a fault, or takes it away. */
+function tellFault(fault) {
+  const shown = document.getElementById("fault");
+  shown.hidden = fault === null;
+  shown.textContent = fault === null ? "" : fault.message;
+}
+
+class Asker {
+  constructor() {
+    this.answers = new Map(); // by question, the one that was asked for last at the end
+    this.running = null; // the question that is on its way, and its answer
+    this.waiting = null; // the one that comes next
+  }
+
+  /** The answer to a question; null where a later one took its place. */
+  ask(words) {
+    const key = JSON.stringify(words), known = this.answers.get(key);
+    if (known !== undefined) {
+      this.answers.delete(key);
+      this.answers.set(key, known);
+      return Promise.resolve(known);
+    }
+    if (this.running?.key === key) {
+      this.waiting?.resolve(null);
+      this.waiting = null;
+      return this.running.answer;
+    }
+    return new Promise((resolve, reject) => {
+      this.waiting?.resolve(null);
+      this.waiting = { key, words, resolve, reject };
+      this.next();
+    });
+  }
+
+  next() {
+    if (this.running !== null || this.waiting === null) {
+      return;
+    }
+    const { key, words, resolve, reject } = this.waiting, answer = this.fetched(key, words);
+    this.waiting = null;
+    this.running = { key, answer };
+    answer.then(resolve, reject).finally(() => {
+      this.running = null;
+      this.next();
+    });
+  }
+
+  async fetched(key, { version, ...words }) {
+    live.turn++;
+    const response = await answerOf("times", { ...words, tab: live.tab, turn: live.turn });
+    if (response.status === 204) {
+      return null;
+    }
+    const seconds = new Int32Array(await response.arrayBuffer());
+    if (Number(response.headers.get("X-Version")) !== version) {
+      return seconds; // of another network, which answers meanwhile
+    }
+    this.answers.set(key, seconds);
+    if (this.answers.size > ANSWERS_KEPT) {
+      this.answers.delete(this.answers.keys().next().value);
+    }
+    return seconds;
+  }
+}
+
+const asker = new Asker();
+
+/** Travel times from a place in seconds, for each column, -1 where one isn't reached; null where it was overtaken. */
+async function secondsFrom(place, scenario, share) {
+  const { version, first, last, trips } = live;
+  const all = await asker.ask({ version, origin: place, first, last, trips });
+  if (all === null) {
+    return null;
+  }
+  const begin = (scenario * head.shares.length + share) * head.columns;
+  return all.subarray(begin, begin + head.columns);
+}
+
+/** The same in whole minutes, rounded up, as the page has them. */
+async function minutesFrom(place, scenario, share) {
+  try {
+    const seconds = await secondsFrom(place, scenario, share);
+    tellFault(null);
+    return seconds === null ? null : Uint8Array.from(seconds, minutesOf);
+  } catch (fault) {
+    tellFault(fault);
+    return null;
+  }
+}
+
+function minutesOf(seconds) {
+  return seconds < 0 ? NEVER : Math.min(LATER, Math.ceil(seconds / 60));
+}

@@ -1,0 +1,64 @@
+"""The page of an exploration: that of `ttm-tools page`, whose travel times come from the network that answers."""
+
+import os
+from pathlib import Path
+from typing import Any, BinaryIO
+
+from ..records import shown
+from ..views.page import document as page
+from ..views.page import sources
+from ..views.page.content import Content
+from .exploration import Exploration
+
+ASSETS = Path(__file__).resolve().parent / "assets"
+LIVE = ("live.js", "isochrones.js", "journey.js", "routes.js", "keep.js")  # in place of the page's cells
+MINUTES = 30  # at which the slider stands first
+
+
+def kind_of(exploration: Exploration) -> page.Kind:
+    """The files of the page, with those that ask the server."""
+    scripts = [name for name in page.SCRIPTS if name != "cells.js"]
+    scripts[1:1] = [LIVE[0]]
+    scripts[-1:-1] = LIVE[1:]
+    known = {"asked": page.as_json(asked_of(exploration))}
+    folders, styles = (ASSETS, page.ASSETS), (*page.STYLES, "explore.css")
+    return page.Kind("explore.html", folders, tuple(scripts), styles, True, known)
+
+
+def asked_of(exploration: Exploration) -> dict[str, Any]:
+    """With what the page begins."""
+    wish, standing = exploration.wish, exploration.standing
+    return {
+        "version": standing.version,
+        "first": wish.window[0],
+        "last": wish.window[1],
+        "trips": wish.trips,
+        "walk": standing.plan.walk,
+        "actions": standing.plan.actions,
+        "told": standing.plan.told,
+        "date": wish.date.isoformat(),
+    }
+
+
+def frame_of(exploration: Exploration) -> page.Frame:
+    """What stands around the numbers."""
+    wish, standing = exploration.wish, exploration.standing
+    words = sources.Words(f"--date {wish.date:%Y%m%d}")
+    name = shown(os.path.basename(os.path.abspath(wish.feed)))
+    return page.Frame(
+        wish.title or f"Explore: {name}",
+        "",
+        standing.scenarios,
+        list(wish.shares),
+        [sources.meaning(share, words) for share in wish.shares],
+        [("Feed", name), ("Date", wish.date.isoformat()), ("Made by", "ttm-tools explore")],
+        [],
+        MINUTES,
+        leaflet=wish.leaflet,
+    )
+
+
+def write_document(out: BinaryIO, exploration: Exploration) -> None:
+    """Writes the page of the network that answers now."""
+    content = Content(exploration.ground, exploration.counts, 0, [], [], [], [])
+    page.write_page(out, content, exploration.lines(), frame_of(exploration), kind_of(exploration))

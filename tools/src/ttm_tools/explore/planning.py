@@ -1,0 +1,48 @@
+"""A plan of what somebody changes, carried out on a feed that was read once."""
+
+import os
+from pathlib import Path
+from typing import Any, Sequence
+
+from ..faults import BadInput
+from ..plans.base import Base
+from ..plans.carrying_out import carried_out
+from ..plans.limits import refuse_limits
+from ..plans.plan_file import read_plan
+from ..plans.report import sentences
+from ..plans.scenario_files import write_scenarios
+from ..plans.writing import write_all, written_of
+from .changes import Values, name_among, scenario_text
+from .standing import Plan
+
+PLAN, FEED, SCENARIOS = "plan.toml", "feed", "scenarios"
+
+
+def text_of(plan: str, actions: Sequence[Values]) -> str:
+    """The plan of the command, and behind it a scenario of what somebody changed."""
+    if not actions:
+        return plan
+    import tomllib
+
+    names = [it["name"] for it in tomllib.loads(plan).get("scenario", [])]
+    return (f"{plan.rstrip()}\n\n" if plan else "") + scenario_text(name_among(names), actions)
+
+
+def written(base: Base, text: str, room: Path, walk: int, actions: list[dict[str, Any]]) -> Plan:
+    """Writes the feed of all scenarios of a plan, with their files, into a new folder."""
+    room.mkdir()
+    path = room / PLAN
+    try:
+        path.write_text(text, encoding="utf-8")
+    except UnicodeEncodeError:
+        raise BadInput("the plan", "a name in it is no text of UTF-8") from None
+    plan = read_plan(str(path))
+    finished = [carried_out(base, it) for it in plan.scenarios]
+    refuse_limits(str(path), base, [it.state for it in finished])
+    made = written_of(base, finished, alone=False)
+    feed = room / FEED
+    feed.mkdir()
+    write_all(made, feed)
+    names = write_scenarios(made, feed / SCENARIOS)
+    files = [os.fspath(feed / SCENARIOS / name) for name in names]
+    return Plan(os.fspath(feed), files, walk, actions, text, list(sentences(finished)), room)

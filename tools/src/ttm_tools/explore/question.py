@@ -1,0 +1,55 @@
+"""What the page asks, each value looked at before it goes on."""
+
+import re
+from dataclasses import dataclass
+from typing import Mapping
+
+from ..faults import WrongWords
+
+CLOCK = re.compile(r"([01][0-9]|2[0-3]):[0-5][0-9]")
+WHOLE = re.compile(r"[0-9]{1,18}")
+TAB = re.compile(r"[0-9a-z]{1,32}")
+
+
+@dataclass(frozen=True)
+class Question:
+    """Travel times from a stop."""
+
+    origin: int  # the number of a place of the page
+    window: tuple[str, str]
+    trips: int
+    tab: str  # of the browser, which asks one question after another
+    turn: int  # the number of the question in this tab
+
+
+def whole(words: Mapping[str, str], name: str, least: int, most: int) -> int:
+    """A whole number of a range."""
+    text = words.get(name, "")
+    if not WHOLE.fullmatch(text) or not least <= int(text) <= most:
+        raise WrongWords(f"{name} is {text[:60]!r}; allowed: {least} to {most}")
+    return int(text)
+
+
+def clock(words: Mapping[str, str], name: str) -> str:
+    """A time of the day."""
+    text = words.get(name, "")
+    if not CLOCK.fullmatch(text):
+        raise WrongWords(f"{name} is {text[:60]!r}; allowed: 00:00 to 23:59")
+    return text
+
+
+def window_of(words: Mapping[str, str]) -> tuple[str, str]:
+    """The first and the last departure."""
+    first, last = clock(words, "first"), clock(words, "last")
+    if last < first:
+        raise WrongWords(f"the last departure, {last}, is before the first, {first}")
+    return first, last
+
+
+def question_of(words: Mapping[str, str], places: int) -> Question:
+    """A question about one of so many places."""
+    tab = words.get("tab", "")
+    if not TAB.fullmatch(tab):
+        raise WrongWords("tab is no name of a tab")
+    origin, trips = whole(words, "origin", 0, places - 1), whole(words, "trips", 1, 8)
+    return Question(origin, window_of(words), trips, tab, whole(words, "turn", 0, 1 << 53))

@@ -1,0 +1,109 @@
+"""The routes of a feed, for a person who chooses one: where each runs, which ways, and how often on the day."""
+
+import datetime
+from dataclasses import dataclass
+from typing import Any, Mapping
+
+import numpy as np
+import numpy.typing as npt
+
+from ..plans.base import Base
+from ..prepare.days import texts
+from ..records import shown
+from ..timetable import services_on
+
+MOST_WAYS = 4  # of a route that are shown, those with the most trips
+HOURS = 24
+Whole = npt.NDArray[np.int64]
+
+
+@dataclass(frozen=True)
+class Way:
+    """Trips of a route that call at the same stops."""
+
+    stops: list[int]  # numbers of places
+    count: int  # trips on the day, each departure of a headway
+    hours: list[int]  # how many of them leave in each hour
+    trip: str  # one of them
+    direction: int | None  # that all trips of the route state, or None
+
+
+@dataclass(frozen=True)
+class Routes:
+    """All routes that have trips, in the feed's order."""
+
+    identifiers: list[str]
+    names: list[str]  # for people
+    ways: list[list[Way]]
+    pairs: list[list[int]]  # two numbers of places for each piece of its lines
+
+    def as_json(self) -> list[dict[str, Any]]:
+        ways = [[{"stops": way.stops, "count": way.count, "hours": way.hours} for way in some] for some in self.ways]
+        rows = zip(self.identifiers, self.names, ways, self.pairs)
+        return [{"id": shown(own), "name": name, "ways": some, "pairs": pairs} for own, name, some, pairs in rows]
+
+
+def routes_of(base: Base, date: datetime.date, numbers: Mapping[str, int]) -> Routes:
+    """The routes of a feed, with places of the page by the stops' identifiers."""
+    running = services_on(str(base.folder), date)
+    place = np.array([numbers[name] for name in base.places.identifiers], dtype=np.int64)[base.stop]
+    found = {own: trips for own, trips in base.by_route.items() if base.lengths[trips].sum() > 0}
+    names = names_of(base)
+    ways = [ways_of(base, trips[base.lengths[trips] > 1], place, running) for trips in found.values()]
+    return Routes(list(found), [names[own] for own in found], ways, pairs_of(base, list(found), place))
+
+
+def names_of(base: Base) -> dict[str, str]:
+    """What people call each route: its short name, or its long one, and its identifier where it is another."""
+    table = base.feed.tables["routes.txt"]
+    columns = (texts(table, name) for name in ("route_id", "route_short_name", "route_long_name"))
+    made = {}
+    for own, short, long in zip(*columns):
+        name, told = shown(short.strip() or long.strip() or own), shown(own)
+        made[own] = name if name == told else f"{name} ({told})"
+    return made
+
+
+def ways_of(base: Base, trips: Whole, place: Whole, running: set[str]) -> list[Way]:
+    """The ways of a route with the most departures on the day, and one that has none where it runs on no such day."""
+    states = all(base.directions[trip].strip() in ("0", "1") for trip in trips.tolist())
+    groups: dict[bytes, list[int]] = {}
+    for trip in trips.tolist():
+        groups.setdefault(place[base.begins[trip] : base.begins[trip + 1]].tobytes(), []).append(trip)
+    made = [way_of(base, some, place, running, states) for some in groups.values()]
+    return sorted(made, key=lambda way: -way.count)[:MOST_WAYS]
+
+
+def way_of(base: Base, trips: list[int], place: Whole, running: set[str], states: bool) -> Way:
+    hours, first = [0] * HOURS, trips[0]
+    for trip in trips:
+        if base.services[trip] in running:
+            for time in departures_of(base, trip):
+                hours[time // 3600 % HOURS] += 1
+    stops = place[base.begins[first] : base.begins[first + 1]].tolist()
+    direction = int(base.directions[first]) if states else None
+    return Way(stops, sum(hours), hours, base.trips[first], direction)
+
+
+def departures_of(base: Base, trip: int) -> list[int]:
+    """When a trip leaves, each departure of its headways."""
+    if trip in base.headways:
+        return [time for row in base.headways[trip] for time in row.departures]
+    return [int(base.depart[base.begins[trip]])]
+
+
+def pairs_of(base: Base, routes: list[str], place: Whole) -> list[list[int]]:
+    """The pieces between stops that follow one another, by route, each once whichever way it is run."""
+    codes = {own: code for code, own in enumerate(routes)}
+    route = np.repeat([codes.get(own, -1) for own in base.routes], base.lengths)
+    follows = np.ones(len(place), dtype=np.bool_)
+    follows[base.begins[1:][base.lengths > 0] - 1] = False
+    at = np.flatnonzero(follows & (route >= 0))
+    ends = np.sort(np.stack([place[at], place[at + 1]], axis=1), axis=1)
+    count = int(place.max(initial=0)) + 1
+    keys = np.unique((route[at] * count + ends[:, 0]) * count + ends[:, 1])
+    made: list[list[int]] = [[] for _ in routes]
+    for key in keys.tolist():
+        rest, last = divmod(key, count)
+        made[rest // count] += [rest % count, last]
+    return made

@@ -1,0 +1,51 @@
+"""The server: on this machine alone, until a signal ends it."""
+
+import errno
+import socket
+import webbrowser
+from typing import Any
+
+from flask import Flask
+from werkzeug.serving import WSGIRequestHandler, make_server
+
+from ..faults import BadInput
+from .guard import HOST
+
+
+class Quiet(WSGIRequestHandler):
+    """Keeps a connection for further requests, and says nothing of them: their addresses have the token."""
+
+    protocol_version = "HTTP/1.1"
+
+    def log(self, kind: str, message: str, *values: Any) -> None:
+        """Says nothing."""
+
+    def version_string(self) -> str:
+        return "ttm-tools"
+
+
+def bound(port: int) -> socket.socket:
+    """A socket of this machine at a port, or at a free one where the port is 0."""
+    made = socket.socket(socket.AF_INET, socket.SOCK_STREAM)
+    try:
+        made.setsockopt(socket.SOL_SOCKET, socket.SO_REUSEADDR, 1)
+        made.bind((HOST, port))
+        made.listen(128)
+    except OSError as fault:
+        made.close()
+        told = "is in use" if fault.errno == errno.EADDRINUSE else fault.strerror or str(fault)
+        raise BadInput(f"port {port}", f"{told}: name another by --port, or 0 for a free one") from None
+    return made
+
+
+def serve(app: Flask, own: socket.socket, address: str | None) -> None:
+    """Answers requests until a signal comes; opens the address in a browser where one is given."""
+    port = int(own.getsockname()[1])
+    with own:
+        server = make_server(HOST, port, app, threaded=True, request_handler=Quiet, fd=own.fileno())
+        try:
+            if address is not None:
+                webbrowser.open(address)
+            server.serve_forever(poll_interval=0.1)
+        finally:
+            server.server_close()

@@ -1,0 +1,190 @@
+"""A network that is kept, and asked many questions: `with Network(feed, date) as network: network.matrix(..)`."""
+
+import contextlib
+import datetime
+import os
+import queue
+import tempfile
+import threading
+import weakref
+from pathlib import Path
+from types import TracebackType
+from typing import Iterable, Iterator, Mapping, Sequence
+
+from .conversation import Answer, Conversation
+from .engine import (
+    EngineFault,
+    Pathlike,
+    Result,
+    Run,
+    footpaths_file,
+    opportunities_file,
+    origins_file,
+    program_at,
+    refusal_of,
+    result_of,
+    stops_file,
+)
+from .faults import WrongWords
+from .files import remove
+from .matrices import open_matrix
+from .records import Rounded
+
+MIDNIGHT = ("00:00", "00:00")  # the window of the words that are kept; each question names its own
+
+
+class Processes:
+    """Some processes with the same network, each asked by one thread at a time; they begin when they are needed."""
+
+    def __init__(self, words: Sequence[str], count: int) -> None:
+        self.words, self.lock, self.closed = list(words), threading.Lock(), False
+        self.running: set[Conversation] = set()
+        self.free: queue.LifoQueue[Conversation | None] = queue.LifoQueue()
+        for _ in range(count - 1):
+            self.free.put(None)
+        self.free.put(self.begun())
+
+    def begun(self) -> Conversation:
+        """A new process."""
+        with self.lock:
+            if self.closed:
+                raise WrongWords("the network is closed")
+            made = Conversation(self.words)
+            self.running.add(made)
+            return made
+
+    def ask(self, words: Sequence[str]) -> Answer:
+        """Asks a process that is free, or waits for one; the next question replaces one that has ended."""
+        held = self.free.get()
+        try:
+            if held is None or not held.is_usable:
+                self.drop(held)
+                held = None  # so that a process that can't begin leaves a free place
+                held = self.begun()
+            return held.ask(words)
+        except EngineFault:
+            if self.closed:
+                raise WrongWords("the network was closed while it was asked") from None
+            raise
+        finally:
+            self.free.put(held)
+
+    def drop(self, held: Conversation | None) -> None:
+        if held is not None:
+            held.close()
+            with self.lock:
+                self.running.discard(held)
+
+    def close(self) -> None:
+        """Ends all processes."""
+        with self.lock:
+            self.closed, running = True, list(self.running)
+            self.running.clear()
+        for conversation in running:
+            conversation.close()
+
+
+class Network:
+    """The network of a feed on a date, read once by `ttm --ask` and kept: `matrix(..)` asks it a question.
+
+    Feed, date, walk, scenarios, footpaths, back and ahead are as for `ttm_tools.matrix`; the first question raises what
+    is wrong with them. `workers` is how many processes keep the network, and so how many threads are answered at once.
+    You may ask it from several threads. It ends with its block, by `close()`, or with the interpreter.
+    """
+
+    def __init__(
+        self,
+        feed: Pathlike,
+        date: str | datetime.date,
+        *,
+        walk: int = 600,
+        scenarios: Sequence[Pathlike] = (),
+        footpaths: Pathlike | Iterable[tuple[str, str, float]] | None = None,
+        back: int = 1,
+        ahead: int = 1,
+        workers: int = 1,
+        program: Pathlike | None = None,
+    ) -> None:
+        if workers < 1:
+            raise WrongWords(f"workers={workers}: at least one process keeps the network")
+        named, self.rounded = program_at(program), Rounded()
+        self.folder = Path(tempfile.mkdtemp(prefix=f"ttm-tools-network.{os.getpid()}."))
+        try:
+            files = {}
+            if footpaths is not None:
+                files["footpaths"] = absolute(footpaths_file(self.folder, footpaths, self.rounded))
+            paths = [absolute(path) for path in scenarios]
+            kept = Run(absolute(feed), date, MIDNIGHT, 4, walk, scenarios=paths, back=back, ahead=ahead, files=files)
+            self.processes = Processes([named, *kept.words(), "--report", "--ask"], workers)
+        except BaseException:
+            remove(self.folder)
+            raise
+        self.closing = weakref.finalize(self, end, self.processes, self.folder, os.getpid())
+
+    def matrix(
+        self,
+        window: tuple[str, str],
+        *,
+        trips: int = 4,
+        shares: Sequence[int] = (50,),
+        limits: Sequence[int] = (1800,),
+        origins: Pathlike | Sequence[str] | None = None,
+        opportunities: Pathlike | Mapping[str, float] | None = None,
+        destinations: Pathlike | Sequence[str] | None = None,
+        workers: int = 1,
+        tries: int = 1,
+    ) -> Result:
+        """The matrix that `ttm_tools.matrix` gives for these arguments, from the network that is kept; `workers` is how
+        many threads compute it.
+        """
+        rounded, numbers = Rounded(), {"trips": trips, "workers": workers, "tries": tries}
+        named: dict[str, object] = {"from": window[0], "to": window[1], **numbers}
+        named |= {"share": ",".join(map(str, shares)), "within": ",".join(map(str, limits))}
+        with self.room() as folder:
+            if origins is not None:
+                named["origins"] = absolute(origins_file(folder, origins))
+            if opportunities is not None:
+                named["opportunities"] = absolute(opportunities_file(folder, opportunities, rounded))
+            if destinations is not None:
+                named["destinations"] = absolute(stops_file(folder, "destinations.csv", destinations))
+            answer = self.processes.ask([word for name, value in named.items() for word in (f"--{name}", str(value))])
+            if answer.status != 0:
+                raise EngineFault("\n".join(refusal_of(answer.body, answer.status)), answer.status)
+            path = folder / "matrix.csv"
+            path.write_bytes(answer.body)
+            return result_of(open_matrix(str(path)), self.rounded.count + rounded.count)
+
+    @contextlib.contextmanager
+    def room(self) -> Iterator[Path]:
+        """A folder for the files of one question."""
+        if not self.closing.alive:
+            raise WrongWords("the network is closed")
+        made = Path(tempfile.mkdtemp(dir=self.folder))
+        try:
+            yield made
+        finally:
+            remove(made)
+
+    def close(self) -> None:
+        """Ends the processes; what is asked afterwards is refused."""
+        self.closing()
+
+    def __enter__(self) -> "Network":
+        return self
+
+    def __exit__(
+        self, kind: type[BaseException] | None, fault: BaseException | None, trace: TracebackType | None
+    ) -> None:
+        self.close()
+
+
+def end(processes: Processes, folder: Path, owner: int) -> None:
+    """Ends what a network holds; a fork of its process leaves all of it alone."""
+    if os.getpid() == owner:
+        processes.close()
+        remove(folder)
+
+
+def absolute(path: Pathlike) -> str:
+    """A path that means the same from every folder, since the process stays where it began."""
+    return os.path.abspath(path)

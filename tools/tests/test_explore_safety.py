@@ -1,0 +1,260 @@
+"""Who may ask the server of `ttm-tools explore`, what it refuses, how it ends, and how names are shown."""
+
+import json
+import os
+import re
+import signal
+import socket
+import time
+from pathlib import Path
+from typing import Iterator
+
+import pytest
+
+from browser import Browser
+from exploring import Explored, canned, explored, village
+from helpers import launched
+
+pytest.importorskip("flask")
+pytest.importorskip("jinja2")
+pytest.importorskip("pandas")
+
+from ttm_tools.explore.guard import Guard  # noqa: E402
+
+TIMES = "times?origin=0&first=08:00&last=08:00&trips=4&tab=a&turn=1"
+HOSTILE = [
+    '<script>document.title = "run"</script>',
+    '"><img src=x onerror="document.title=1">',
+    "</script><b>x",
+    "&amp;",
+]
+
+
+@pytest.fixture(scope="module")
+def served(tmp_path_factory: pytest.TempPathFactory) -> Iterator[Explored]:
+    folder = tmp_path_factory.mktemp("served")
+    with explored(village(folder), canned(folder), "--out", str(folder / "saved")) as made:
+        yield made
+
+
+@pytest.fixture(scope="module")
+def browser() -> Iterator[Browser]:
+    made = Browser()
+    yield made
+    made.close()
+
+
+def test_the_page_and_its_questions_are_answered(served: Explored) -> None:
+    assert [served.status(), served.status(TIMES), served.status("routes")] == [200, 200, 200]
+
+
+def test_another_host_is_refused(served: Explored) -> None:
+    port = served.origin.rsplit(":", 1)[1]
+    for host in (f"localhost:{port}", "127.0.0.1", f"evil.example:{port}", f"127.0.0.1:{port}.evil.example", ""):
+        assert served.status(Host=host) == 421
+        assert served.status(TIMES, Host=host) == 421
+
+
+def test_without_the_token_nothing_is_there(served: Explored) -> None:
+    token = served.address.split("/")[3]
+    for path in ("", "/", "/times", f"/{token[:-1]}/", f"/{token}x/", f"/{token.swapcase()}/", "/%00/", "/\u00e9/"):
+        assert served.status(served.origin + path.encode("ascii", "replace").decode()) == 404
+    assert len(token) >= 43 and Guard(1).token != Guard(1).token  # 32 random bytes
+
+
+def test_another_page_is_refused(served: Explored) -> None:
+    for origin in ("http://evil.example", "null", served.origin.replace("http", "https"), served.origin + "0"):
+        assert served.status(Origin=origin) == served.status(TIMES, Origin=origin) == 403
+    for site in ("cross-site", "same-site", "x"):
+        assert served.status(TIMES, Sec_Fetch_Site=site) == 403
+    body = json.dumps({"actions": [], "walk": 600}).encode()
+    kind = {"Content_Type": "application/json"}
+    assert served.status("changes", body, **kind) == 403  # no browser sends this without its origin
+    assert served.status("changes", body, Origin="http://evil.example", **kind) == 403
+    assert served.status("changes", body, Origin=served.origin, **kind) == 200
+    assert served.status("study", b"{}") == 403
+
+
+@pytest.mark.parametrize(
+    "path",
+    [
+        "style.css",
+        "static/x",
+        "assets/live.js",
+        "../../etc/passwd",
+        "..%2f..%2fetc%2fpasswd",
+        "%2e%2e/%2e%2e/etc/passwd",
+        "stops.txt",
+        "changes",
+        "study",
+    ],
+)
+def test_no_file_and_nothing_else_is_served(served: Explored, path: str) -> None:
+    assert served.status(path) in (404, 405)
+
+
+@pytest.mark.parametrize(
+    "change",
+    [
+        "origin=4",
+        "origin=-1",
+        "origin=A",
+        "origin=1e3",
+        "first=8:00",
+        "first=24:00",
+        "first=09:00",
+        "last=../etc",
+        "trips=9",
+        "trips=0",
+        "tab=",
+        "tab=%2Fetc",
+        "turn=x",
+    ],
+)
+def test_bad_questions_are_told(served: Explored, change: str) -> None:
+    name = change.split("=")[0]
+    assert served.status(re.sub(rf"{name}=[^&]*", change, TIMES)) == 422
+
+
+@pytest.mark.parametrize(
+    "asked",
+    [
+        None,
+        [],
+        {"actions": {}, "walk": 600},
+        {"actions": [{"do": "rm"}], "walk": 600},
+        {"actions": [{"do": ["headway"]}], "walk": 600},
+        {"actions": [{"do": "remove_route", "route": "R"}], "walk": 600},
+        {"actions": [{"do": "remove_route", "route": 2}], "walk": 600},
+        {"actions": [{"do": "remove_route", "route": 0, "stop": 1}], "walk": 600},
+        {"actions": [{"do": "headway", "route": 0, "every": 60, "from": [], "to": "09:00"}], "walk": 600},
+        {"actions": [{"do": "speed", "route": 0, "factor": "1e999"}], "walk": 600},
+        {"actions": [{"do": "speed", "route": 0, "factor": "nan"}], "walk": 600},
+        {"actions": [{"do": "cut", "route": 0, "way": 9, "after": 0}], "walk": 600},
+        {"actions": [], "walk": 7201},
+        {"actions": [], "walk": True},
+        {"actions": [{"do": "remove_route", "route": 0}] * 201, "walk": 600},
+    ],
+)
+def test_bad_changes_are_told_and_change_nothing(served: Explored, asked: object) -> None:
+    before = served.children()
+    assert (
+        served.status("changes", json.dumps(asked).encode(), Origin=served.origin, Content_Type="application/json")
+        == 422
+    )
+    assert served.children() == before
+
+
+def test_a_long_body_is_refused(served: Explored) -> None:
+    body = b'{"actions": [], "walk": 600, "x": "' + b"x" * (1 << 20) + b'"}'
+    assert served.status("changes", body, Origin=served.origin, Content_Type="application/json") == 413
+
+
+def test_it_listens_on_this_machine_alone(served: Explored) -> None:
+    port = int(served.origin.rsplit(":", 1)[1])
+    rows = [line.split() for line in Path("/proc/net/tcp").read_text().splitlines()[1:]]
+    listening = [row[1] for row in rows if row[3] == "0A" and int(row[1].split(":")[1], 16) == port]
+    assert listening == [f"0100007F:{port:04X}"]
+
+
+def test_it_ends_with_ctrl_c_and_its_program_ends_too(tmp_path: Path) -> None:
+    with explored(village(tmp_path), canned(tmp_path)) as served:
+        assert served.status(TIMES) == 200
+        begun = served.children()
+        assert len(begun) == 1
+        served.process.send_signal(signal.SIGINT)
+        assert served.process.wait(20) == 130
+    for _ in range(100):
+        if not any(Path(f"/proc/{it}").exists() for it in begun):
+            break
+        time.sleep(0.05)
+    assert not any(Path(f"/proc/{it}").exists() for it in begun)
+
+
+def test_a_port_in_use_is_told_in_one_line(tmp_path: Path) -> None:
+    feed, program = str(village(tmp_path)), canned(tmp_path)
+    with socket.socket() as other:
+        other.bind(("127.0.0.1", 0))
+        other.listen()
+        port = other.getsockname()[1]
+        ran = launched("explore", feed, "--date", "20260504", "--program", program, "--no-browser", "--port", str(port))
+    told = f"ttm-tools explore: port {port}: is in use: name another by --port, or 0 for a free one\n"
+    assert (ran.returncode, ran.stdout, ran.stderr.decode()) == (1, b"", told)
+
+
+def test_files_are_written_into_the_folder_that_is_named_alone(tmp_path: Path) -> None:
+    with explored(village(tmp_path), canned(tmp_path), "--out", str(tmp_path / "saved")) as served:
+        before = {path for path in tmp_path.rglob("*")}
+        how = {"Origin": served.origin, "Content_Type": "application/json"}
+        for origin in ("0", "../x", 0):
+            asked = {
+                "first": "08:00",
+                "last": "08:10",
+                "trips": 4,
+                "origin": origin,
+                "out": "/tmp/other",
+                "path": "../y",
+            }
+            assert served.status("study", json.dumps(asked).encode(), **how) == (200 if origin == 0 else 422)
+        made = {path.relative_to(tmp_path) for path in tmp_path.rglob("*")} - {
+            it.relative_to(tmp_path) for it in before
+        }
+    assert {str(it) for it in made} == {"saved", "saved/1", "saved/1/study.toml", "saved/1/origins.csv"}
+
+
+def test_names_are_text_and_nothing_else_is_fetched(tmp_path: Path, browser: Browser) -> None:
+    feed = village(tmp_path, HOSTILE)
+    (feed / "routes.txt").write_text(f"route_id,route_short_name,route_type\nR,{HOSTILE[2]},3\nQ,<i>q</i>,3\n")
+    (tmp_path / "jobs.csv").write_text("stop_id,<u>jobs</u>\nB,5\n")
+    words = ["--title", HOSTILE[0], "--opportunities", str(tmp_path / "jobs.csv")]
+    with explored(feed, canned(tmp_path), *words) as served:
+        browser.visit(served.address)
+        browser.click("A")
+        assert browser.driver.title == HOSTILE[0]
+        assert browser.text("heading") == f"Travel times from {HOSTILE[0]} (A)"
+        browser.awaited("await routes.read_")
+        options = browser.run("return [...document.querySelectorAll('#route option')].map((it) => it.textContent)")
+        assert options[1:] == [f"{HOSTILE[2]} (R)", "<i>q</i> (Q)"]
+        assert browser.run("return document.querySelectorAll('img, b, i, u').length") == 0
+        fetched = browser.run("return performance.getEntriesByType('resource').map((it) => it.name)")
+        assert fetched and all(it.startswith(served.address) for it in fetched)
+        assert browser.complaints() == []
+
+
+def test_a_hundred_clicks_do_not_queue_up_and_the_latest_wins(tmp_path: Path, browser: Browser) -> None:
+    """Each answer takes a tenth of a second, so in the second that the clicks take about ten are given, not a hundred;
+    and the last one is shown when the answer before it and its own are there.
+    """
+    feed = village(tmp_path)
+    with explored(feed, canned(tmp_path)) as served:
+        browser.visit(served.address)
+        (feed / "questions").touch()
+        seconds = browser.awaited(
+            "const begin = performance.now();"
+            "for (let n = 0; n < 100; n++) {"
+            "  live.trips = 1 + (n % 8); live.last = clockOf(480 + n); set({ place: n % 3 });"
+            "  await new Promise((it) => setTimeout(it, 5));"
+            "}"
+            "const last = performance.now(); await set({ place: 3 });"
+            "return [last - begin, performance.now() - last].map((it) => it / 1000)"
+        )
+        last = browser.run("return head.identifiers[3]")
+        assert browser.run("return [head.identifiers[state.place], current.now !== null]") == [last, True]
+    questions = (feed / "questions").read_text().split()
+    assert questions[-1] == last and 2 <= len(questions) <= 10 * seconds[0] + 3 < 50
+    assert seconds[1] < 1
+
+
+def test_of_questions_that_wait_in_a_tab_the_server_answers_the_latest(tmp_path: Path) -> None:
+    """What a page that doesn't wait sends: twenty questions at once."""
+    from concurrent.futures import ThreadPoolExecutor
+
+    feed = village(tmp_path)
+    with explored(feed, canned(tmp_path)) as served:
+        (feed / "questions").touch()
+        with ThreadPoolExecutor(20) as pool:
+            asked = [TIMES.replace("turn=1", f"turn={turn}") for turn in range(20)]
+            statuses = list(pool.map(served.status, asked))
+    assert statuses[-1] == 200 and set(statuses) == {200, 204}
+    assert len((feed / "questions").read_text().split()) == statuses.count(200) < 10
+    assert os.path.exists(feed / "questions")

@@ -1,0 +1,261 @@
+"""A network that is kept and asked from Python: what each answer is, and what becomes of a process that dies."""
+
+import gc
+import os
+import signal
+import subprocess
+import sys
+import threading
+import time
+from concurrent.futures import ThreadPoolExecutor
+from pathlib import Path
+from typing import Any
+
+import numpy as np
+import pytest
+
+import ttm_tools
+from asking import canned
+from helpers import CALENDAR, STOP_TIMES, Room
+from ttm_tools.faults import WrongWords
+
+EIGHT, NINE = ("08:00", "08:00"), ("09:00", "09:00")
+
+
+def canned_network(room: Room, **more: Any) -> ttm_tools.Network:
+    return ttm_tools.Network(room.folder, "20260504", program=canned(room.folder), **more)
+
+
+def cell(network: ttm_tools.Network, window: tuple[str, str], *origins: str) -> float:
+    """The one cell of a canned answer, in minutes."""
+    return float(network.matrix(window, origins=origins or ["A"]).array()[0, 0]) / 60
+
+
+def is_there(process: int) -> bool:
+    try:
+        os.kill(process, 0)
+    except ProcessLookupError:
+        return False
+    return True
+
+
+def wait_until_gone(process: int) -> bool:
+    for _ in range(100):
+        if not is_there(process):
+            return True
+        time.sleep(0.05)
+    return False
+
+
+def test_one_process_answers_question_after_question(room: Room) -> None:
+    with canned_network(room) as network:
+        assert [cell(network, window) for window in (EIGHT, NINE, EIGHT)] == [480, 540, 480]
+        assert cell(network, EIGHT, "process") == cell(network, EIGHT, "process")
+
+
+def test_a_fault_of_a_question_is_raised_and_the_next_is_answered_by_the_same_process(room: Room) -> None:
+    with canned_network(room) as network:
+        process = cell(network, EIGHT, "process")
+        with pytest.raises(ttm_tools.EngineFault) as told:
+            network.matrix(EIGHT, origins=["fault"])
+        assert (told.value.file, told.value.record, told.value.ended) == ("origins", 2, 2)
+        assert cell(network, EIGHT, "process") == process
+
+
+@pytest.mark.parametrize(
+    "origin, line, ended",
+    [
+        ("kill", "ttm: ended by SIGKILL, its last line: question 3", 137),
+        ("end", "ttm: out of memory", 3),
+        ("short", "ttm: stops: 2", 5),
+        ("bad", "ttm: no answer, but b'hello\\n'", 4),
+    ],
+)
+def test_a_process_that_dies_says_its_last_line_and_the_next_question_begins_another(
+    room: Room, origin: str, line: str, ended: int
+) -> None:
+    with canned_network(room) as network:
+        process = cell(network, EIGHT, "process")
+        with pytest.raises(ttm_tools.EngineFault) as told:
+            network.matrix(EIGHT, origins=[origin])
+        assert (told.value.line, told.value.ended) == (line, ended)
+        assert wait_until_gone(int(process))
+        assert cell(network, EIGHT, "process") != process
+        assert cell(network, NINE) == 540
+
+
+def test_a_process_that_is_killed_between_questions_is_told_and_replaced(room: Room) -> None:
+    with canned_network(room) as network:
+        process = int(cell(network, EIGHT, "process"))
+        os.kill(process, signal.SIGTERM)
+        with pytest.raises(ttm_tools.EngineFault, match="ended by SIGTERM"):
+            network.matrix(EIGHT)
+        assert cell(network, NINE) == 540
+
+
+def test_what_is_wrong_with_the_network_is_raised_by_each_question(room: Room) -> None:
+    with canned_network(room, walk=7) as network:
+        for _ in range(2):
+            with pytest.raises(ttm_tools.EngineFault) as told:
+                network.matrix(EIGHT)
+            assert (told.value.line, told.value.ended, told.value.option) == ("ttm: bad walk", 2, "--walk")
+
+
+def test_threads_get_their_own_answers(room: Room) -> None:
+    minutes = list(range(60))
+    with canned_network(room, workers=3) as network, ThreadPoolExecutor(8) as pool:
+        windows = [(f"07:{minute:02}", "07:59") for minute in minutes]
+        found = list(pool.map(lambda window: cell(network, window), windows))
+        processes = set(pool.map(lambda _: cell(network, EIGHT, "process"), minutes))
+    assert found == [420 + minute for minute in minutes]
+    assert 1 <= len(processes) <= 3
+
+
+def test_several_processes_answer_at_the_same_time(room: Room) -> None:
+    with canned_network(room, workers=4) as network, ThreadPoolExecutor(4) as pool:
+        list(pool.map(lambda _: cell(network, EIGHT, "slow"), range(4)))  # all have begun
+        begun = time.monotonic()
+        list(pool.map(lambda _: cell(network, EIGHT, "slow"), range(4)))
+        assert time.monotonic() - begun < 0.6  # one after the other they take 0.8
+
+
+def test_a_closed_network_is_refused_and_leaves_nothing(room: Room) -> None:
+    network = canned_network(room)
+    process, folder = int(cell(network, EIGHT, "process")), network.folder
+    assert folder.is_dir() and list(folder.iterdir()) == []
+    network.close()
+    network.close()
+    assert wait_until_gone(process) and not folder.exists()
+    with pytest.raises(WrongWords, match="the network is closed"):
+        network.matrix(EIGHT)
+
+
+def test_closing_ends_a_question_that_is_being_answered(room: Room) -> None:
+    network, told = canned_network(room), list[BaseException]()
+
+    def ask() -> None:
+        try:
+            for _ in range(100):
+                cell(network, EIGHT, "slow")
+        except WrongWords as fault:
+            told.append(fault)
+
+    thread = threading.Thread(target=ask)
+    thread.start()
+    time.sleep(0.3)
+    network.close()
+    thread.join(10)
+    assert len(told) == 1 and not thread.is_alive()
+
+
+def test_a_network_that_nobody_holds_ends(room: Room) -> None:
+    network = canned_network(room)
+    process = int(cell(network, EIGHT, "process"))
+    del network
+    gc.collect()
+    assert wait_until_gone(process)
+
+
+def test_a_network_ends_with_the_interpreter(room: Room) -> None:
+    text = (
+        "import ttm_tools; it = ttm_tools.Network('.', '20260504', program='./canned');"
+        "print(int(it.matrix(('08:00', '08:00'), origins=['process']).array()[0, 0]) // 60, it.folder)"
+    )
+    canned(room.folder)
+    path = os.pathsep.join(sys.path)
+    words = [sys.executable, "-c", text]
+    ran = subprocess.run(
+        words, cwd=room.folder, env={**os.environ, "PYTHONPATH": path}, capture_output=True, timeout=30
+    )
+    process, folder = ran.stdout.decode().split()
+    assert (ran.returncode, ran.stderr) == (0, b"")
+    assert wait_until_gone(int(process)) and not Path(folder).exists()
+
+
+def test_a_fork_asks_a_process_of_its_own_and_leaves_its_parents_alone(room: Room) -> None:
+    with canned_network(room) as network:
+        process = cell(network, EIGHT, "process")
+        fork = os.fork()
+        if fork == 0:
+            own = 1
+            try:
+                own = int(cell(network, EIGHT, "process") == process)
+                network.close()
+            finally:
+                os._exit(own)
+        assert os.waitstatus_to_exitcode(os.waitpid(fork, 0)[1]) == 0
+        assert cell(network, EIGHT, "process") == process
+
+
+@pytest.mark.parametrize("path", ["two\nlines", ""])
+def test_a_word_that_no_question_has_is_refused(room: Room, path: str) -> None:
+    with canned_network(room) as network:
+        with pytest.raises(WrongWords):
+            network.matrix((path, "08:00"))
+        assert cell(network, EIGHT) == 480
+
+
+def test_no_process_at_all_is_refused(room: Room) -> None:
+    with pytest.raises(WrongWords, match="at least one"):
+        canned_network(room, workers=0)
+
+
+def write_town(room: Room) -> None:
+    """T1 leaves A at 08:00 for B, T2 leaves B at 08:15 for C."""
+    room.stops(["A", 0, 0], ["B", 0, 2000], ["C", 2000, 2000])
+    room.write("routes.txt", "route_id", [["R1"], ["R2"]])
+    room.write("calendar.txt", *CALENDAR)
+    room.write("trips.txt", "route_id,service_id,trip_id", [["R1", "M", "T1"], ["R2", "M", "T2"]])
+    first = [["T1", "08:00:00", "08:00:00", "A", 1], ["T1", "08:10:00", "08:10:00", "B", 2]]
+    second = [["T2", "08:15:00", "08:15:00", "B", 1], ["T2", "08:30:00", "08:30:00", "C", 2]]
+    room.write("stop_times.txt", STOP_TIMES, first + second)
+    room.write("cut.csv", "action,id,seconds", [["remove_route", "R2", ""]])
+
+
+QUESTIONS: list[dict[str, Any]] = [
+    {"window": EIGHT},
+    {"window": ("07:50", "08:01"), "shares": (25, 50, 75), "limits": (600, 1800)},
+    {"window": EIGHT, "origins": ["A"], "destinations": ["C", "A"], "opportunities": {"C": 7.4, "A": 1}},
+    {"window": EIGHT, "origins": ["B"], "trips": 1, "workers": 2, "tries": 2},
+    {"window": EIGHT},
+]
+
+FAULTS: list[dict[str, Any]] = [{"origins": ["X"]}, {"origins": "nothing.csv"}, {"trips": 9}, {"shares": (50, 25)}]
+
+
+def test_each_answer_is_that_of_a_run(room: Room, asked_program: str) -> None:
+    write_town(room)
+    common: dict[str, Any] = {"walk": 300, "footpaths": [("C", "B", 119.5)], "scenarios": [room.path("cut.csv")]}
+    with ttm_tools.Network(room.folder, "2026-05-04", program=asked_program, **common) as network:
+        for number, question in enumerate(QUESTIONS):
+            mine = network.matrix(**question)
+            whole = ttm_tools.matrix(room.folder, "20260504", program=asked_program, **common, **question)
+            assert (mine.origins, mine.stops, mine.scenarios) == (whole.origins, whole.stops, ["base", "cut"])
+            assert (mine.shares, mine.limits, mine.rounded) == (whole.shares, whole.limits, whole.rounded)
+            for key, seconds in whole.seconds.items():
+                np.testing.assert_array_equal(mine.seconds[key], seconds, f"question {number}")
+                assert mine.sums[key].tolist() == whole.sums[key].tolist()
+        assert network.matrix(EIGHT).times("base").loc["A"].tolist() == [0, 600, 1800]
+
+
+def test_faults_of_questions_are_those_of_runs(room: Room, asked_program: str) -> None:
+    write_town(room)
+    with ttm_tools.Network(room.folder, "20260504", program=asked_program) as network:
+        for faulty in FAULTS:
+            faulty = {name: room.path(value) if value == "nothing.csv" else value for name, value in faulty.items()}
+            with pytest.raises(ttm_tools.EngineFault) as run:
+                ttm_tools.matrix(room.folder, "20260504", EIGHT, program=asked_program, **faulty)
+            with pytest.raises(ttm_tools.EngineFault) as asked:
+                network.matrix(EIGHT, **faulty)
+            assert (asked.value.line, asked.value.ended) == (run.value.line, run.value.ended)
+            assert network.matrix(EIGHT, origins=["A"]).array().tolist() == [[0, 600, 1800]]
+
+
+def test_a_feed_that_is_refused_is_told_as_by_a_run(room: Room, asked_program: str) -> None:
+    write_town(room)
+    room.write("trips.txt", "route_id,service_id,trip_id", [["R9", "M", "T1"]])
+    with ttm_tools.Network(room.folder, "20260504", program=asked_program) as network:
+        with pytest.raises(ttm_tools.EngineFault) as told:
+            network.matrix(EIGHT)
+    assert (told.value.file, told.value.record, told.value.ended) == ("trips.txt", 2, 2)
+    assert told.value.column == "route_id"
