@@ -4,6 +4,7 @@ import os
 import stat
 import subprocess
 import sys
+import tempfile
 import textwrap
 from pathlib import Path
 from typing import Sequence
@@ -88,7 +89,11 @@ def merged(words: Sequence[str], question: Sequence[str]) -> list[str]:
 
 def main() -> int:
     program, *words = [word for word in sys.argv[1:] if word not in ("--ask", "--report")]
-    begun = subprocess.run([program, *words, "--report"], stdout=subprocess.DEVNULL, stderr=subprocess.PIPE)
+    with tempfile.NamedTemporaryFile("w", suffix=".csv") as none:
+        none.write("stop_id\n")
+        none.flush()
+        first = merged(words, ["--origins", none.name] if "--origins" not in words else [])
+        begun = subprocess.run([program, *first, "--report"], stdout=subprocess.DEVNULL, stderr=subprocess.PIPE)
     sys.stderr.buffer.write(begun.stderr)
     sys.stderr.flush()
     if begun.returncode:
