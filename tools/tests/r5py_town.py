@@ -1,7 +1,7 @@
 """A little town for tests of r5py's names: two streets, two buses, and places whose travel times are found by hand.
 
-One walks a metre a second, as r5py does. T1 leaves A at 08:00 for B (08:10), T2 leaves B at 08:15 for C (08:30). Home
-is 360 metres from A, the clinic 100 metres from C, and the island is on no street.
+One walks a metre a second, as r5py does, and seconds are rounded up. T1 leaves A at 08:00 for B (08:10), T2 leaves B at
+08:15 for C (08:30). Home is 360 seconds from A, and the clinic 100 seconds from C.
 """
 
 import datetime
@@ -16,7 +16,7 @@ from streets import write_osm
 
 NODES = {1: (0.0, -500.0), 2: (0.0, 0.0), 3: (0.0, 2000.0), 4: (2000.0, 2000.0), 5: (2000.0, 2500.0)}
 STREET = {"highway": "residential"}
-HOME, CLINIC, FAR = (60.0, -300.0), (2000.0, 2100.0), (2000.0, 2500.0)  # metres north and east
+HOME, CLINIC, FAR = (59.4, -300.0), (2000.0, 2099.3), (2000.0, 2500.0)  # metres north and east
 SEVEN_45 = datetime.datetime(2026, 5, 4, 7, 45)  # ten minutes from there on, 07:54 is the last to catch T1
 MINUTE = datetime.timedelta(minutes=1)
 

@@ -15,12 +15,13 @@ for package in ("geopandas", "osmium", "scipy", "pyproj"):
 
 import geopandas  # noqa: E402
 
-from r5py_town import CLINIC, FAR, HOME, MINUTE, SEVEN_45, degrees, frame, square, write_feed, write_streets  # noqa: E402
+from r5py_town import CLINIC, FAR, HOME, MINUTE, SEVEN_45, degrees, frame, square  # noqa: E402
+from r5py_town import write_feed, write_streets  # noqa: E402
 from ttm_tools import r5py  # noqa: E402
 from ttm_tools.faults import BadInput  # noqa: E402
 
 WALK = [r5py.TransportMode.WALK]
-QUARTER = {"max_time_walking": 15 * MINUTE}
+QUARTER: Any = {"max_time_walking": 15 * MINUTE}
 
 
 @pytest.fixture
@@ -45,9 +46,10 @@ def minutes(made: Any, column: str = "travel_time") -> list[float | None]:
     return [None if math.isnan(it) else it for it in made[column].tolist()]
 
 
-def from_home(network: r5py.TransportNetwork, **more: Any) -> Any:
+def from_home(network: Any, **more: Any) -> Any:
     ends = frame([HOME], ["home"]), frame([CLINIC], [7])
-    return r5py.TravelTimeMatrix(network, *ends, **{"departure": SEVEN_45, **QUARTER, **more})
+    asked: Any = {"departure": SEVEN_45, **QUARTER, **more}
+    return r5py.TravelTimeMatrix(network, *ends, **asked)
 
 
 def test_the_median_has_one_column_of_minutes_rounded_down(network: r5py.TransportNetwork) -> None:
@@ -82,7 +84,9 @@ def test_a_place_that_takes_as_long_as_the_most_is_not_reached(network: r5py.Tra
 def test_walks_end_at_their_limit_and_go_at_their_speed(network: r5py.TransportNetwork) -> None:
     assert minutes(from_home(network, max_time_walking=datetime.timedelta(seconds=360))) == [41]
     assert minutes(from_home(network, max_time_walking=datetime.timedelta(seconds=359))) == [None]
-    slow = from_home(network, speed_walking=1.8, departure_time_window=MINUTE)  # 12 minutes to A, 200 seconds to the end
+    slow = from_home(
+        network, speed_walking=1.8, departure_time_window=MINUTE
+    )  # 12 minutes to A, 200 seconds to the end
     assert minutes(slow) == [48]
 
 
@@ -126,7 +130,7 @@ def test_polygons_and_any_projection_are_taken_and_places_without_a_geometry_are
 def test_walking_alone_takes_the_streets(walking: r5py.TransportNetwork) -> None:
     places = frame([HOME, (0.0, 0.0), (-30.0, 2000.0), CLINIC], ["home", "A", "B", "clinic"])
     made = r5py.TravelTimeMatrix(walking, places, transport_modes=WALK, departure=SEVEN_45)
-    # home to B 60 + 2300 + 30 metres; to the clinic 60 + 2300 + 2000 + 100
+    # home to B 59.4 + 2300 + 30 metres; to the clinic 59.4 + 2300 + 2000 + 99.3
     assert minutes(made)[:4] == [0, 6, 39, 74]
     short = r5py.TravelTimeMatrix(walking, places, transport_modes=WALK, max_time=39 * MINUTE, departure=SEVEN_45)
     assert minutes(short)[:4] == [0, 6, None, None]
@@ -152,7 +156,7 @@ def test_places_are_snapped_to_streets_where_that_is_asked_for(walking: r5py.Tra
 
 def test_a_network_may_be_a_tuple_of_what_it_is_made_from(room: Room, cache: None, asked_program: str) -> None:
     given = write_streets(room), [write_feed(room)], {"program": asked_program}
-    assert minutes(from_home(given)) == [41]  # type: ignore[arg-type]
+    assert minutes(from_home(given)) == [41]
 
 
 def test_the_older_names_give_the_same_and_warn(network: r5py.TransportNetwork) -> None:
@@ -219,7 +223,7 @@ def test_slopes_and_other_networks_are_refused(room: Room, walking: r5py.Transpo
     with pytest.raises(r5py.NotAvailable, match="elevation_model: "):
         r5py.TransportNetwork(room.path("streets.osm"), [], elevation_model="slopes.tif")
     with pytest.raises(r5py.NotAvailable, match="transport_network: "):
-        r5py.TravelTimeMatrix("streets.osm", frame([HOME], [1]))  # type: ignore[arg-type]
+        r5py.TravelTimeMatrix("streets.osm", frame([HOME], [1]))
     with pytest.raises(r5py.NotAvailable, match="street_mode: "):
         walking.snap_to_network(frame([HOME], [1]).geometry, street_mode=r5py.TransportMode.CAR)
 
@@ -246,7 +250,9 @@ def test_streets_feeds_and_walks_are_kept(
     room: Room, network: r5py.TransportNetwork, asked_program: str, monkeypatch: pytest.MonkeyPatch
 ) -> None:
     assert minutes(from_home(network)) == [41]
-    entries = sorted(path.name for kind in ("streets", "feeds", "doors") for path in (room.folder / "cache" / kind).iterdir())
+    entries = sorted(
+        path.name for kind in ("streets", "feeds", "doors") for path in (room.folder / "cache" / kind).iterdir()
+    )
     assert len(entries) == 3 and not any(name.startswith(".") for name in entries)
     for name in ("read_streets", "make"):
         monkeypatch.setattr(f"ttm_tools.r5py.network.{name}", None)
