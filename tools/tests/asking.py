@@ -1,5 +1,6 @@
 """Two programs that speak as `ttm --ask` does: one that answers by runs of the built `ttm`, and a canned one."""
 
+import contextlib
 import os
 import stat
 import subprocess
@@ -7,9 +8,20 @@ import sys
 import tempfile
 import textwrap
 from pathlib import Path
-from typing import Sequence
+from typing import Iterator, Sequence
 
 HERE = Path(__file__).resolve().parent
+
+
+@contextlib.contextmanager
+def standing_in(folder: Path) -> Iterator[None]:
+    """Runs what is in the block in a folder."""
+    before = os.getcwd()
+    os.chdir(folder)
+    try:
+        yield
+    finally:
+        os.chdir(before)
 
 
 def keeps_networks(program: str) -> bool:
