@@ -1,14 +1,27 @@
 """Two programs that speak as `ttm --ask` does: one that answers by runs of the built `ttm`, and a canned one."""
 
+import contextlib
 import os
 import stat
 import subprocess
 import sys
+import tempfile
 import textwrap
 from pathlib import Path
-from typing import Sequence
+from typing import Iterator, Sequence
 
 HERE = Path(__file__).resolve().parent
+
+
+@contextlib.contextmanager
+def standing_in(folder: Path) -> Iterator[None]:
+    """Runs what is in the block in a folder."""
+    before = os.getcwd()
+    os.chdir(folder)
+    try:
+        yield
+    finally:
+        os.chdir(before)
 
 
 def keeps_networks(program: str) -> bool:
@@ -88,7 +101,11 @@ def merged(words: Sequence[str], question: Sequence[str]) -> list[str]:
 
 def main() -> int:
     program, *words = [word for word in sys.argv[1:] if word not in ("--ask", "--report")]
-    begun = subprocess.run([program, *words, "--report"], stdout=subprocess.DEVNULL, stderr=subprocess.PIPE)
+    with tempfile.NamedTemporaryFile("w", suffix=".csv") as none:
+        none.write("stop_id\n")
+        none.flush()
+        first = merged(words, ["--origins", none.name] if "--origins" not in words else [])
+        begun = subprocess.run([program, *first, "--report"], stdout=subprocess.DEVNULL, stderr=subprocess.PIPE)
     sys.stderr.buffer.write(begun.stderr)
     sys.stderr.flush()
     if begun.returncode:

@@ -1,32 +1,20 @@
 """Runs of `ttm` from Python, and the page that shows them."""
 
-import contextlib
 import datetime
-import os
 import re
 import stat
 from pathlib import Path
-from typing import Iterator
 
 import numpy as np
 import pytest
 
 import ttm_tools
+from asking import standing_in
 from helpers import Room
 from ttm_tools.engine import EngineFault, Result, Run, program_at, run
 from ttm_tools.faults import Lacking, WrongWords
 
 PAGE = Path(__file__).resolve().parents[2] / "docs" / "howto" / "python.md"
-
-
-@contextlib.contextmanager
-def standing_in(folder: Path) -> Iterator[None]:
-    before = os.getcwd()
-    os.chdir(folder)
-    try:
-        yield
-    finally:
-        os.chdir(before)
 
 
 def test_each_block_of_the_page_runs(room: Room, asked_program: str, monkeypatch: pytest.MonkeyPatch) -> None:

@@ -14,13 +14,21 @@ import numpy as np
 from .. import progress
 from ..feed import Floats, Stops
 from .counting import Found, Places, Ways
-from .osm import Streets
+from .osm import Flags, Streets
 from .straight import Doors, Pace, Walks, distances, doors_of, entrances_of, inside_ways, points_of, ranges
 
 PIECE = 100.0  # metres of the pieces in which streets are looked for
 LEAST_SIDE = 300.0  # metres of a cube
 CELLS_AT_ONCE = 20_000_000  # of a search
 SIDE = 1 << 20  # cubes along an axis, more than the globe is wide
+
+
+@dataclass(frozen=True)
+class Ends:
+    """Of each stop of a feed whether walks may begin there, and whether they may end there."""
+
+    begins: Flags
+    ends: Flags
 
 
 @dataclass(frozen=True)
@@ -175,22 +183,24 @@ def close(points: Floats, nodes: Places, begins: Places, most: float) -> Places:
     return made
 
 
-def searched(graph: Graph, first: int, extra: Floats, most: float) -> Iterator[tuple[Places, Places, Floats]]:
+def searched(
+    graph: Graph, first: int, extra: Floats, most: float, only: Ends
+) -> Iterator[tuple[Places, Places, Floats]]:
     """The shortest ways between the places that were put behind the streets' own nodes, from `first` on: from which to
-    which, and metres with those beside the streets, where these are at most so many.
+    which, and metres with those beside the streets, where these are at most so many. `only` is of these places.
     """
     from scipy.sparse.csgraph import dijkstra
 
     cubes = cubes_of(graph.points, max(most, LEAST_SIDE))
     local = np.full(len(graph.points), -1, dtype=np.int64)
-    sources = first + np.flatnonzero(extra <= most)
+    sources = first + np.flatnonzero((extra <= most) & only.begins)
     sources = sources[np.argsort(cubes.key[sources], kind="stable")]
     keys, counts = np.unique(cubes.key[sources], return_counts=True)
     groups = np.split(sources, np.cumsum(counts)[:-1]) if len(keys) else []
     for key, begins in progress.told(zip(keys.tolist(), groups), len(keys), "streets", "cubes"):
         nodes = close(graph.points, cubes.around(key), begins, most)
         ends = nodes[nodes >= first]
-        ends = ends[extra[ends - first] <= most]
+        ends = ends[(extra[ends - first] <= most) & only.ends[ends - first]]
         connections = inner(graph, nodes, local)
         for some in np.array_split(begins, -(-len(begins) * len(nodes) // CELLS_AT_ONCE)):
             local[nodes] = np.arange(len(nodes))
@@ -201,9 +211,11 @@ def searched(graph: Graph, first: int, extra: Floats, most: float) -> Iterator[t
             yield some[one] - first, ends[other] - first, metres[one, other]
 
 
-def street_walks(stops: Stops, pace: Pace, streets: Streets, near: float, first: int | None = None) -> Walks:
+def street_walks(
+    stops: Stops, pace: Pace, streets: Streets, near: float, first: int | None = None, only: Ends | None = None
+) -> Walks:
     """The footpaths along streets between all stops of a feed at which vehicles call, or between the first so many
-    and all.
+    and all; where it is said which of them may be ends, between these.
     """
     called = stops.kinds == 0
     chosen = np.flatnonzero(called & stops.placed)
@@ -213,11 +225,15 @@ def street_walks(stops: Stops, pace: Pace, streets: Streets, near: float, first:
     put = snapped(streets, doors.point)
     beside = np.where(put.metres <= near, put.metres, put.metres * pace.detour)
     found = Found(stops.path, first and int(np.searchsorted(chosen, first)), least, directions=1)
-    for some in between_doors(graph_of(streets, put), doors, beside + doors.inside * pace.detour, most):
+    some_ends = only or Ends(called, called)
+    chosen_ends = Ends(some_ends.begins[chosen], some_ends.ends[chosen])
+    extra = beside + doors.inside * pace.detour
+    for some in between_doors(graph_of(streets, put), doors, extra, most, chosen_ends):
         found.take(*some)
     for a, b, metres in inside_ways(points, stations, entrances, most / pace.detour):
-        found.take(a, b, metres * pace.detour)
-        found.take(b, a, metres * pace.detour)
+        for one, other in ((a, b), (b, a)):
+            may = chosen_ends.begins[one] & chosen_ends.ends[other]
+            found.take(one[may], other[may], metres[may] * pace.detour)
     origins, destinations, metres = found.all()
     seconds = Pace(pace.limit, pace.speed, 1.0).seconds(metres)
     kept = seconds <= pace.limit
@@ -227,10 +243,12 @@ def street_walks(stops: Stops, pace: Pace, streets: Streets, near: float, first:
     return Walks(stops.identifiers, *ends, seconds[kept], lost, len(np.unique(far)), apart)
 
 
-def between_doors(graph: Graph, doors: Doors, extra: Floats, most: float) -> Iterator[tuple[Places, Places, Floats]]:
-    """The shortest ways between stops by way of their doors."""
-    first = len(graph.points) - len(doors.stop)
-    for one, other, metres in searched(graph, first, extra, most):
+def between_doors(
+    graph: Graph, doors: Doors, extra: Floats, most: float, only: Ends
+) -> Iterator[tuple[Places, Places, Floats]]:
+    """The shortest ways between stops by way of their doors; `only` is of the stops."""
+    first, may = len(graph.points) - len(doors.stop), Ends(only.begins[doors.stop], only.ends[doors.stop])
+    for one, other, metres in searched(graph, first, extra, most, may):
         a, b = doors.stop[one], doors.stop[other]
         apart = a != b
         yield a[apart], b[apart], metres[apart]

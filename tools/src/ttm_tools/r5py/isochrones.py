@@ -1,0 +1,113 @@
+"""Areas that are reached within so many minutes, from the travel times to a grid of points along the streets."""
+
+import datetime
+from typing import Any, Iterable
+
+import geopandas
+import numpy as np
+import numpy.typing as npt
+import pandas
+from shapely.geometry import Point
+
+from ..feed import Floats
+from ..walks.osm import Streets
+from .doors import seconds_between
+from .matrix import ends_of
+from .network import network_from
+from .places import DEGREES, Places, moved
+from .refusals import NotAvailable
+from .task import RegionalTask
+
+QUARTERS = pandas.timedelta_range(start="0min", end="60min", freq="15min")
+Cells = npt.NDArray[np.int64]  # columns and rows of a grid
+
+
+def limits_of(isochrones: Iterable[Any]) -> list[datetime.timedelta]:
+    """The limits, ascending; whole numbers are minutes, and 0 bounds no area."""
+    made = {it if isinstance(it, datetime.timedelta) else datetime.timedelta(minutes=int(it)) for it in isochrones}
+    found = sorted(datetime.timedelta(seconds=it.total_seconds()) for it in made if it > datetime.timedelta())
+    if not found:
+        raise NotAvailable("isochrones", "no limit above 0", "minutes, or a pandas.timedelta_range")
+    return found
+
+
+class Grid:
+    """Squares of a metric projection through which a street goes; in the middle of each is a destination."""
+
+    def __init__(self, streets: Streets, crs: Any, side: float) -> None:
+        self.crs, self.side = crs, side
+        xy = np.stack(moved(DEGREES, crs, streets.longitudes, streets.latitudes), axis=1)
+        self.cells = cells_along(xy[streets.begin], xy[streets.end], side)
+
+    def places(self) -> Places:
+        """The middles as destinations."""
+        return Places(
+            "grid", list(range(len(self.cells))), *moved(self.crs, DEGREES, *((self.cells + 0.5) * self.side).T)
+        )
+
+    def area(self, reached: npt.NDArray[np.bool_]) -> Any:
+        """The squares that are reached, with the gaps among them that are narrower than two squares."""
+        from shapely.geometry import box
+        from shapely.ops import unary_union
+
+        low = self.cells[reached] * self.side
+        squares = [box(x, y, x + self.side, y + self.side) for x, y in low.tolist()]
+        return unary_union(squares).buffer(self.side, join_style=2).buffer(-self.side, join_style=2)
+
+
+def cells_along(begin: Floats, end: Floats, side: float) -> Cells:
+    """The squares of a grid in which pieces of streets lie, looked at every quarter of a square."""
+    counts = np.maximum(1, np.ceil(np.linalg.norm(end - begin, axis=1) / (side / 4))).astype(np.int64)
+    piece = np.repeat(np.arange(len(counts)), counts)
+    along = (np.arange(len(piece)) - np.repeat(np.cumsum(counts) - counts, counts)) / counts[piece]
+    points = np.concatenate([begin[piece] + (end - begin)[piece] * along[:, None], end])
+    made: Cells = np.unique(np.floor(points / side).astype(np.int64), axis=0)
+    return made
+
+
+def frame_of(
+    transport_network: Any, origins: Any, isochrones: Iterable[Any], resolution: float, **kwargs: Any
+) -> geopandas.GeoDataFrame:
+    """A row for each limit, ascending: the area that is reached from the nearest of the origins."""
+    limits, network = limits_of(isochrones), network_from(transport_network)
+    kwargs["max_time"] = limits[-1]
+    task = RegionalTask(network, **kwargs)
+    if len(task.percentiles) != 1:
+        raise NotAvailable("percentiles", f"{task.percentiles} are several", "ask for one at a time")
+    begins, *_, frame, _ = ends_of(network, as_frame(origins), None, False)
+    grid = Grid(network.streets, frame.estimate_utm_crs(), resolution)
+    found = seconds_between(network, task, begins, grid.places())[task.percentiles[0]]
+    least = np.fmin.reduce(found, axis=0)
+    with np.errstate(invalid="ignore"):
+        areas = [grid.area(least <= limit.total_seconds()) for limit in limits]
+    table = {"travel_time": pandas.to_timedelta(limits)}
+    return geopandas.GeoDataFrame(table, geometry=areas, crs=grid.crs).to_crs(DEGREES)
+
+
+def as_frame(origins: Any) -> Any:
+    """Origins as they are, or a point of shapely in degrees as the only one."""
+    if isinstance(origins, Point):
+        return geopandas.GeoDataFrame({"id": ["origin"]}, geometry=[origins], crs=DEGREES)
+    return origins
+
+
+class Isochrones(geopandas.GeoDataFrame):  # type: ignore[misc]
+    """The areas that are reached within some limits from the nearest of the origins: `travel_time` and `geometry`."""
+
+    def __init__(
+        self,
+        transport_network: Any,
+        origins: Any,
+        isochrones: Iterable[Any] = QUARTERS,
+        point_grid_resolution: float = 100,
+        point_grid_sample_ratio: float = 1.0,
+        **kwargs: Any,
+    ) -> None:
+        if point_grid_sample_ratio != 1:
+            told = f"{point_grid_sample_ratio!r} isn't to be had, since all points are computed"
+            raise NotAvailable("point_grid_sample_ratio", told, "leave it out, or give a larger point_grid_resolution")
+        super().__init__(frame_of(transport_network, origins, isochrones, point_grid_resolution, **kwargs))
+
+    @property
+    def _constructor(self) -> Any:
+        return geopandas.GeoDataFrame

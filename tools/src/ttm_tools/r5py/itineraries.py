@@ -1,0 +1,141 @@
+"""Journeys leg by leg, as frames with r5py's columns."""
+
+import datetime
+import warnings
+from typing import Any, Iterator, Sequence
+
+import geopandas
+import numpy as np
+from shapely.geometry import LineString
+
+from ..walks import points_of
+from ..walks.ways import Ways, degrees_of
+from .doors import doors_of, network_at, stops_in
+from .journeys import Journeys
+from .legs import Drawn, Row
+from .matrix import ends_of
+from .modes import TransportMode
+from .network import Prepared, TransportNetwork, network_from
+from .places import DEGREES, Places
+from .task import NEAR, RegionalTask
+
+COLUMNS = (
+    "from_id to_id option segment transport_mode departure_time distance travel_time wait_time feed agency_id route_id "
+    "start_stop_id end_stop_id geometry"
+).split()
+Pairs = Sequence[tuple[int, int]]  # places among the origins and the destinations
+
+
+def pairs_of(origins: Places, destinations: Places, all_to_all: bool) -> list[tuple[int, int]]:
+    """Between which places: the first with the first and so on where there are as many, else all with all."""
+    begins, ends = range(len(origins.identifiers)), range(len(destinations.identifiers))
+    if origins is destinations or len(begins) != len(ends) or all_to_all:
+        made = [(begin, end) for begin in begins for end in ends]
+    else:
+        made = list(zip(begins, ends))
+    placed = set(origins.placed.tolist()), set(destinations.placed.tolist())
+    return [(begin, end) for begin, end in made if begin in placed[0] and end in placed[1]]
+
+
+def ridden(
+    network: TransportNetwork, task: RegionalTask, feed: Prepared, ends: tuple[Places, Places], pairs: Pairs
+) -> Iterator[Row]:
+    """The journeys of each pair, which take vehicles or walk."""
+    doors = doors_of(network, task, feed, *ends)
+    found = Journeys(doors, network_at(network, task, doors), task)
+    names = [stops_in(doors.folder / name) for name in ("origins.csv", "destinations.csv")]
+    numbers = [dict(zip(places.placed.tolist(), own)) for places, own in zip(ends, names)]
+    options = {(one, other): found.between(numbers[0][one], numbers[1][other]) for one, other in pairs}
+    drawn = Drawn(network, found)
+    drawn.walk_along([leg for journeys in options.values() for journey in journeys for leg in journey.legs])
+    for (one, other), journeys in options.items():
+        ids = {"from_id": ends[0].identifiers[one], "to_id": ends[1].identifiers[other]}
+        for option, journey in enumerate(journeys):
+            for row in drawn.rows_of(journey):
+                yield {**ids, "option": option, **row}
+
+
+def walked(network: TransportNetwork, task: RegionalTask, ends: tuple[Places, Places], pairs: Pairs) -> Iterator[Row]:
+    """The walk of each pair, where there is one."""
+    begins, others = (points_of(np.nan_to_num(it.latitudes), np.nan_to_num(it.longitudes)) for it in ends)
+    ways = Ways(network.streets, begins, others, task.pace(), NEAR)
+    seconds = ways.seconds()
+    for one, other in pairs:
+        same = ends[0] is ends[1] and one == other
+        if same or np.isnan(seconds[one, other]):
+            continue
+        line, metres = ways.way(one, other)
+        yield {
+            "from_id": ends[0].identifiers[one],
+            "to_id": ends[1].identifiers[other],
+            "option": 0,
+            "segment": 0,
+            "transport_mode": TransportMode.WALK,
+            "departure_time": task.times.at(0),
+            "distance": metres,
+            "travel_time": datetime.timedelta(seconds=float(seconds[one, other])),
+            "wait_time": datetime.timedelta(),
+            "geometry": LineString(degrees_of(line)),
+        }
+
+
+def frame_of(
+    transport_network: Any, origins: Any, destinations: Any, snaps: bool | float, all_to_all: bool, **kwargs: Any
+) -> geopandas.GeoDataFrame:
+    """A row for each leg of each journey."""
+    network = network_from(transport_network)
+    task = RegionalTask(network, **kwargs)
+    begins, others, *_ = ends_of(network, origins, destinations, snaps)
+    pairs, feed = pairs_of(begins, others, all_to_all), network.feed_with(task.vehicles)
+    found = list[Row]()
+    if pairs:
+        both = (begins, others)
+        found += walked(network, task, both, pairs) if feed is None else ridden(network, task, feed, both, pairs)
+    columns = {name: [row.get(name) for row in found] for name in COLUMNS[:-1]}
+    shapes = [row["geometry"] for row in found]
+    return geopandas.GeoDataFrame(columns, geometry=shapes, crs=DEGREES)
+
+
+class DetailedItineraries(geopandas.GeoDataFrame):  # type: ignore[misc]
+    """The journeys between origins and destinations, a row for each leg: between the first, the second and so on where
+    there are as many, else between all of them.
+    """
+
+    def __init__(
+        self,
+        transport_network: Any,
+        origins: Any = None,
+        destinations: Any = None,
+        snap_to_network: bool | float = False,
+        force_all_to_all: bool = False,
+        **kwargs: Any,
+    ) -> None:
+        made = frame_of(transport_network, origins, destinations, snap_to_network, force_all_to_all, **kwargs)
+        super().__init__(made)
+
+    @property
+    def _constructor(self) -> Any:
+        return geopandas.GeoDataFrame
+
+
+class DetailedItinerariesComputer:
+    """The same by the names of r5py 0.1: `DetailedItinerariesComputer(..).compute_travel_details()`."""
+
+    def __init__(
+        self,
+        transport_network: Any,
+        origins: Any = None,
+        destinations: Any = None,
+        snap_to_network: bool | float = False,
+        force_all_to_all: bool = False,
+        **kwargs: Any,
+    ) -> None:
+        told = "DetailedItineraries replaces DetailedItinerariesComputer in r5py 1.0"
+        warnings.warn(told, DeprecationWarning, stacklevel=2)
+        self.arguments = (transport_network, origins, destinations, snap_to_network, force_all_to_all)
+        self.kwargs = kwargs
+        RegionalTask(transport_network, **kwargs)
+
+    def compute_travel_details(self) -> geopandas.GeoDataFrame:
+        """The journeys."""
+        return frame_of(*self.arguments, **self.kwargs)

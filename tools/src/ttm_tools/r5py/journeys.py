@@ -1,0 +1,84 @@
+"""The journeys between two places, found by the search of `ttm-tools explain` and checked against `ttm`'s travel times.
+
+Of the departures of a window those count that arrive later than the ones before: each has a journey of its own, and
+journeys by the same vehicles are one.
+"""
+
+from dataclasses import dataclass
+from typing import Iterator
+
+import numpy as np
+
+from ..faults import BadInput
+from ..feed import read_stops
+from ..measures import journeys as search
+from ..measures.journeys import Leg
+from ..network import Network
+from ..timetable import DAY, Edits, Runs, Timetable, read_timetable, read_walks, runs_of
+from .doors import Doors
+from .network import FEED
+from .task import RegionalTask
+
+BACK, AHEAD = 1, 1  # service days round the date, as `Network` has them
+
+
+@dataclass(frozen=True)
+class Journey:
+    """A journey that begins at a minute of the window."""
+
+    minute: int  # of the window
+    seconds: int  # how long it takes
+    legs: list[Leg]
+
+
+class Journeys:
+    """The timetable and the walks of a folder of places, and the searches in it."""
+
+    def __init__(self, doors: Doors, network: Network, task: RegionalTask) -> None:
+        self.doors, self.network, self.task = doors, network, task
+        folder = doors.folder / FEED
+        self.timetable: Timetable = read_timetable(read_stops(str(folder)))
+        self.runs: Runs = runs_of(self.timetable, task.times.date, (BACK, AHEAD), Edits(set(), set(), {}))
+        walks, changes = read_walks(self.timetable, str(doors.folder / "footpaths.csv"), doors.walk)
+        first = DAY * BACK + 60 * task.times.first
+        self.departures = [first + 60 * minute for minute in range(task.times.count)]
+        self.whole = search.network_of(self.timetable.events, self.runs, walks, changes, first)
+        self.places = {name: place for place, name in enumerate(self.timetable.stops)}
+
+    def between(self, origin: str, destination: str) -> list[Journey]:
+        """The journeys from one place to another, by their departures."""
+        if origin == destination:
+            return []
+        begin, end = self.places[origin], self.places[destination]
+        seconds = search.durations(self.whole, begin, end, self.departures, self.task.rides)
+        made = dict[tuple[tuple[int, int, int], ...], Journey]()
+        for minute, taken in last_to_arrive(seconds):
+            if taken < self.task.max_time:
+                self.check(origin, destination, minute, taken)
+                legs = self.legs(begin, end, minute, taken)
+                key = tuple((-1 if leg.run is None else leg.run, leg.start, leg.end) for leg in legs)
+                made.setdefault(key, Journey(minute, taken, legs))
+        return sorted(made.values(), key=lambda it: it.minute)
+
+    def legs(self, begin: int, end: int, minute: int, taken: int) -> list[Leg]:
+        departure = self.departures[minute]
+        within = self.whole.within(departure, departure + taken)
+        return search.journey(search.Search(within, begin, departure, self.task.rides), end)
+
+    def check(self, origin: str, destination: str, minute: int, taken: int) -> None:
+        """Refuses a journey that doesn't take as long as `ttm` says."""
+        at = self.task.times.at(minute).strftime("%H:%M")
+        answer = self.network.matrix((at, at), trips=self.task.rides, origins=[origin], destinations=[destination])
+        told = answer.array("base", 50)[0, 0]
+        if np.isnan(told) or int(told) != taken:
+            raise BadInput("the travel times differ", f"at {at}: ttm has {told} seconds, and this search {taken}")
+
+
+def last_to_arrive(seconds: list[int | None]) -> Iterator[tuple[int, int]]:
+    """Of the departures that arrive at the same time the last, with its duration; the last departure first."""
+    before = None
+    for minute in reversed(range(len(seconds))):
+        taken = seconds[minute]
+        if taken is not None and 60 * minute + taken != before:
+            before = 60 * minute + taken
+            yield minute, taken

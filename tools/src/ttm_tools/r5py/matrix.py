@@ -1,0 +1,103 @@
+"""Matrices of travel times, as frames with r5py's columns."""
+
+import warnings
+from typing import Any
+
+import numpy as np
+import pandas
+
+from .doors import Seconds, seconds_between
+from .network import TransportNetwork, network_from
+from .places import Places, places_of
+from .refusals import NotAvailable
+from .task import NEAR, RegionalTask
+
+
+def minutes_of(seconds: Seconds, most: int) -> Seconds:
+    """Whole minutes, rounded down as R5 does it; NaN where a place isn't reached in less than the most seconds."""
+    with np.errstate(invalid="ignore"):
+        made: Seconds = np.where(seconds < most, np.floor(seconds / 60), np.nan)
+    return made
+
+
+def ends_of(
+    network: TransportNetwork, origins: Any, destinations: Any, snaps: bool | float
+) -> tuple[Places, Places, Any, Any]:
+    """Where journeys begin and end, and the frames of these; without destinations they end at the origins."""
+    if origins is None:
+        raise NotAvailable("origins", "None isn't to be had", "a GeoDataFrame with the columns id and geometry")
+    frames = [origins] if destinations is None or destinations is origins else [origins, destinations]
+    if snaps is not False:
+        radius = NEAR if snaps is True else float(snaps)
+        frames = [it.assign(geometry=network.snap_to_network(it.geometry, radius)) for it in frames]
+    places = [places_of(name, it) for name, it in zip(("origins", "destinations"), frames)]
+    return places[0], places[-1], frames[0], frames[-1]
+
+
+def columns_of(task: RegionalTask, seconds: dict[int, Seconds]) -> dict[str, Seconds]:
+    """A column for each percentile, in minutes; the median alone has no number in its name."""
+    if task.percentiles == [50]:
+        return {"travel_time": minutes_of(seconds[50], task.max_time).ravel()}
+    return {f"travel_time_p{it}": minutes_of(seconds[it], task.max_time).ravel() for it in task.percentiles}
+
+
+def table_of(
+    transport_network: Any, origins: Any, destinations: Any, snap_to_network: bool | float, **kwargs: Any
+) -> pandas.DataFrame:
+    """The matrix in the long form."""
+    network = network_from(transport_network)
+    task = RegionalTask(network, **kwargs)
+    begins, ends, *_ = ends_of(network, origins, destinations, snap_to_network)
+    seconds = seconds_between(network, task, begins, ends)
+    count = len(ends.identifiers)
+    from_id = np.repeat(as_column(begins.identifiers), count)
+    to_id = np.tile(as_column(ends.identifiers), len(begins.identifiers))
+    return pandas.DataFrame({"from_id": from_id, "to_id": to_id, **columns_of(task, seconds)})
+
+
+def as_column(identifiers: list[Any]) -> Any:
+    """Identifiers of their own kind: numbers stay numbers."""
+    return pandas.Series(identifiers).to_numpy()
+
+
+class TravelTimeMatrix(pandas.DataFrame):  # type: ignore[misc]
+    """Travel times between all origins and destinations: `from_id`, `to_id`, and `travel_time` in minutes, or
+    `travel_time_p25` and so on where other percentiles are asked for; missing where a place isn't reached.
+    """
+
+    def __init__(
+        self,
+        transport_network: Any,
+        origins: Any = None,
+        destinations: Any = None,
+        snap_to_network: bool | float = False,
+        **kwargs: Any,
+    ) -> None:
+        super().__init__(table_of(transport_network, origins, destinations, snap_to_network, **kwargs))
+
+    @property
+    def _constructor(self) -> Any:
+        return pandas.DataFrame
+
+
+class TravelTimeMatrixComputer:
+    """The same by the names of r5py 0.1: `TravelTimeMatrixComputer(..).compute_travel_times()`."""
+
+    def __init__(
+        self,
+        transport_network: Any,
+        origins: Any = None,
+        destinations: Any = None,
+        snap_to_network: bool | float = False,
+        **kwargs: Any,
+    ) -> None:
+        warnings.warn(
+            "TravelTimeMatrix replaces TravelTimeMatrixComputer in r5py 1.0", DeprecationWarning, stacklevel=2
+        )
+        self.arguments = (transport_network, origins, destinations, snap_to_network)
+        self.kwargs = kwargs
+        RegionalTask(transport_network, **kwargs)
+
+    def compute_travel_times(self) -> pandas.DataFrame:
+        """The matrix."""
+        return table_of(*self.arguments, **self.kwargs)

@@ -1,0 +1,94 @@
+"""Modes of transport by r5py's names, and which of them a route of GTFS is."""
+
+import enum
+from typing import Iterable, Sequence
+
+from .refusals import NotAvailable
+
+
+class TransportMode(enum.Enum):
+    """How one travels."""
+
+    AIR = "AIR"
+    TRAM = "TRAM"
+    SUBWAY = "SUBWAY"
+    RAIL = "RAIL"
+    BUS = "BUS"
+    FERRY = "FERRY"
+    CABLE_CAR = "CABLE_CAR"
+    GONDOLA = "GONDOLA"
+    FUNICULAR = "FUNICULAR"
+    TRANSIT = "TRANSIT"
+    WALK = "WALK"
+    BICYCLE = "BICYCLE"
+    CAR = "CAR"
+    BICYCLE_RENT = "BICYCLE_RENT"
+    CAR_PARK = "CAR_PARK"
+
+
+class ElevationCostFunction(enum.Enum):
+    """How slopes slow one down. `ttm` knows no slopes."""
+
+    TOBLER = "TOBLER"
+    MINETTI = "MINETTI"
+    NONE = "NONE"
+
+
+LACKING = (TransportMode.BICYCLE, TransportMode.CAR, TransportMode.BICYCLE_RENT, TransportMode.CAR_PARK)
+VEHICLES = tuple(it for it in TransportMode if it not in (*LACKING, TransportMode.TRANSIT, TransportMode.WALK))
+BASIC = [
+    TransportMode.TRAM,
+    TransportMode.SUBWAY,
+    TransportMode.RAIL,
+    TransportMode.BUS,
+    TransportMode.FERRY,
+    TransportMode.CABLE_CAR,
+    TransportMode.GONDOLA,
+    TransportMode.FUNICULAR,
+]  # by route_type, 0 to 7
+OTHERS = {11: TransportMode.BUS, 12: TransportMode.RAIL}  # trolleybus, monorail
+EXTENDED = [  # route types below a number
+    (100, None),
+    (200, TransportMode.RAIL),
+    (300, TransportMode.BUS),
+    (500, TransportMode.RAIL),
+    (700, TransportMode.SUBWAY),
+    (900, TransportMode.BUS),
+    (1000, TransportMode.TRAM),
+    (1100, TransportMode.FERRY),
+    (1200, TransportMode.AIR),
+    (1300, TransportMode.FERRY),
+    (1400, TransportMode.GONDOLA),
+    (1500, TransportMode.FUNICULAR),
+]
+
+
+def mode_of(route_type: int) -> TransportMode | None:
+    """The mode of a route_type, one of the reference or an extended one; None where it has none."""
+    if 0 <= route_type < len(BASIC):
+        return BASIC[route_type]
+    return OTHERS.get(route_type) or next((mode for below, mode in EXTENDED if route_type < below), None)
+
+
+def modes_of(argument: str, given: Iterable[object]) -> list[TransportMode]:
+    """Modes that are to be had; names count as r5py takes them."""
+    made = [it if isinstance(it, TransportMode) else TransportMode(str(getattr(it, "value", it))) for it in given]
+    for mode in made:
+        if mode in LACKING:
+            instead = "ask for TransportMode.TRANSIT or WALK here, and for this mode in r5py itself"
+            raise NotAvailable(argument, f"{mode} isn't to be had, since ttm knows no streets for it", instead)
+    return made
+
+
+def only_walks(argument: str, given: Iterable[object]) -> None:
+    """Refuses all ways to and from a stop but walking."""
+    other = [it for it in modes_of(argument, given) if it is not TransportMode.WALK]
+    if other:
+        raise NotAvailable(argument, f"{other[0]} isn't to be had", "one walks to and from stops: [TransportMode.WALK]")
+
+
+def vehicles_of(modes: Sequence[TransportMode]) -> frozenset[TransportMode]:
+    """The vehicles that may be taken: none where one walks alone."""
+    if TransportMode.TRANSIT in modes:
+        return frozenset(VEHICLES)
+    return frozenset(modes) & frozenset(VEHICLES)

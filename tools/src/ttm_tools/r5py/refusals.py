@@ -1,0 +1,11 @@
+"""What can't be had: each refusal names the argument and says what to do."""
+
+from ..faults import WrongWords
+
+
+class NotAvailable(WrongWords, ValueError):
+    """An argument, or a value of it, that r5py takes and `ttm` can't serve."""
+
+    def __init__(self, argument: str, what: str, instead: str) -> None:
+        self.argument = argument
+        super().__init__(f"{argument}: {what}; {instead}")

@@ -1,0 +1,139 @@
+"""What is asked for, by r5py's names: departure, window, percentiles, modes, limits and speeds."""
+
+import datetime
+from dataclasses import dataclass
+from typing import Any, Iterable, Sequence
+
+from ..walks import Pace
+from .modes import TransportMode, modes_of, only_walks, vehicles_of
+from .refusals import NotAvailable
+
+MINUTE = datetime.timedelta(minutes=1)
+HOURS = datetime.timedelta(hours=2)
+TEN_MINUTES = datetime.timedelta(minutes=10)
+MOST_RIDES, MOST_PERCENTILES = 8, 8
+DETOUR = 1.3  # metres of way for a metre of straight line to a street that isn't near
+NEAR = 1600.0  # metres to a street that are walked as they are: R5's radius of links
+
+
+@dataclass(frozen=True)
+class Times:
+    """When journeys begin."""
+
+    date: datetime.date
+    first: int  # minutes since midnight
+    count: int  # departures, one a minute
+
+    @property
+    def window(self) -> tuple[str, str]:
+        """The first and the last departure."""
+        minutes = self.first, self.first + self.count - 1
+        first, last = (f"{minute // 60:02}:{minute % 60:02}" for minute in minutes)
+        return first, last
+
+    def at(self, minute: int) -> datetime.datetime:
+        """One of the departures."""
+        midnight = datetime.datetime.combine(self.date, datetime.time())
+        return midnight + (self.first + minute) * MINUTE
+
+
+class RegionalTask:
+    """All that r5py's class of this name takes, checked; what `ttm` can't serve raises `NotAvailable`."""
+
+    def __init__(
+        self,
+        transport_network: Any,
+        origin: Any = None,
+        destinations: Any = None,
+        departure: datetime.datetime | None = None,
+        departure_time_window: datetime.timedelta = TEN_MINUTES,
+        percentiles: Sequence[int] = (50,),
+        transport_modes: Iterable[TransportMode] = (TransportMode.TRANSIT,),
+        access_modes: Iterable[TransportMode] = (TransportMode.WALK,),
+        egress_modes: Iterable[TransportMode] | None = None,
+        max_time: datetime.timedelta = HOURS,
+        max_time_walking: datetime.timedelta = HOURS,
+        max_time_cycling: datetime.timedelta = HOURS,
+        max_time_driving: datetime.timedelta = HOURS,
+        speed_cycling: float = 12.0,
+        speed_walking: float = 3.6,
+        max_public_transport_rides: int = 8,
+        max_bicycle_traffic_stress: int = 3,
+        breakdown: bool = False,
+    ) -> None:
+        self.transport_network, self.origin, self.destinations = transport_network, origin, destinations
+        self.times = times_of(departure, departure_time_window)
+        self.percentiles = percentiles_of(percentiles)
+        self.transport_modes = modes_of("transport_modes", transport_modes)
+        self.vehicles = vehicles_of(self.transport_modes)
+        only_walks("access_modes", access_modes)
+        only_walks("egress_modes", [] if egress_modes is None else egress_modes)
+        self.max_time = seconds_of("max_time", max_time, 24 * HOURS)
+        self.max_time_walking = seconds_of("max_time_walking", max_time_walking, HOURS)
+        self.speed_walking = speed_of(speed_walking)
+        self.rides = rides_of(max_public_transport_rides)
+        of_others = {
+            "max_time_cycling": (max_time_cycling, HOURS),
+            "max_time_driving": (max_time_driving, HOURS),
+            "speed_cycling": (speed_cycling, 12.0),
+            "max_bicycle_traffic_stress": (max_bicycle_traffic_stress, 3),
+            "breakdown": (breakdown, False),
+        }
+        for name, (value, usual) in of_others.items():
+            if value != usual:
+                raise NotAvailable(name, f"{value!r} isn't to be had", "leave it out")
+
+    def pace(self, longest: int | None = None) -> Pace:
+        """How one walks, as long as a walk may last, or the seconds that are said."""
+        limit = min(self.max_time_walking, self.max_time) if longest is None else longest
+        return Pace(float(limit), self.speed_walking / 3.6, DETOUR)
+
+
+def times_of(departure: datetime.datetime | None, window: datetime.timedelta) -> Times:
+    """The departures, one at each minute of the window, whose end isn't one. Without a departure they begin now."""
+    first = datetime.datetime.now().replace(second=0, microsecond=0) if departure is None else departure
+    if not isinstance(first, datetime.datetime):
+        raise NotAvailable("departure", f"{first!r} is no datetime", "datetime.datetime(2026, 5, 4, 8, 30)")
+    if first.tzinfo is not None:
+        raise NotAvailable("departure", "a time zone isn't to be had", "the clock of the feed: .replace(tzinfo=None)")
+    if first.second or first.microsecond:
+        raise NotAvailable("departure", f"{first} is no whole minute", "departures are at whole minutes")
+    if window < MINUTE or window % MINUTE:
+        raise NotAvailable("departure_time_window", f"{window} isn't to be had", "a minute or more, in whole minutes")
+    minute, count = first.hour * 60 + first.minute, window // MINUTE
+    if minute + count > 24 * 60:
+        raise NotAvailable("departure_time_window", f"{window} goes past midnight", "ask for each day by itself")
+    return Times(first.date(), minute, count)
+
+
+def percentiles_of(given: Sequence[int]) -> list[int]:
+    """The percentiles as they are given."""
+    made = [int(it) for it in given]
+    if not made or len(set(made)) > MOST_PERCENTILES or any(it != whole for it, whole in zip(given, made)):
+        told = f"one to {MOST_PERCENTILES} whole numbers"
+        raise NotAvailable("percentiles", f"{list(given)!r} isn't to be had", told)
+    if not all(1 <= it <= 100 for it in made):
+        raise NotAvailable("percentiles", f"{made} isn't to be had", "each is from 1 to 100")
+    return made
+
+
+def seconds_of(argument: str, given: datetime.timedelta, most: datetime.timedelta) -> int:
+    """A limit in whole seconds."""
+    if not datetime.timedelta() < given <= most:
+        raise NotAvailable(argument, f"{given} isn't to be had", f"more than 0, at most {most}")
+    return int(given.total_seconds())
+
+
+def speed_of(given: float) -> float:
+    """A walking speed, kilometres an hour."""
+    if not 0.1 <= given <= 50:
+        raise NotAvailable("speed_walking", f"{given!r} isn't to be had", "0.1 to 50 kilometres an hour")
+    return float(given)
+
+
+def rides_of(given: int) -> int:
+    """How many vehicles a journey may take."""
+    if not 1 <= given <= MOST_RIDES:
+        instead = f"1 to {MOST_RIDES}; with transport_modes=[TransportMode.WALK] one takes none"
+        raise NotAvailable("max_public_transport_rides", f"{given!r} isn't to be had", instead)
+    return int(given)

@@ -1,0 +1,111 @@
+"""Shortest ways along streets from some places to others: how long each is, and how it goes.
+
+A place is put on its nearest street. The way there counts as it is where the place is near, and else as a straight line
+with its detour: as `streets` does it, and with the same seconds.
+"""
+
+from dataclasses import dataclass
+from functools import cached_property
+from typing import Any
+
+import numpy as np
+import numpy.typing as npt
+
+from ..feed import Floats
+from .osm import Streets
+from .straight import Pace, points_of
+from .streets import CELLS_AT_ONCE, Snapped, at, graph_of, snapped
+
+Seconds = npt.NDArray[np.float64]  # NaN where there is no way within the limit
+
+
+@dataclass(frozen=True)
+class Ways:
+    """The streets with some places on them; first those where ways begin, then those where they end."""
+
+    streets: Streets
+    begins: Floats  # points of the globe, three numbers each
+    ends: Floats
+    pace: Pace
+    near: float  # metres
+
+    @cached_property
+    def put(self) -> Snapped:
+        return snapped(self.streets, np.concatenate([self.begins, self.ends]))
+
+    @cached_property
+    def graph(self) -> tuple[Floats, Any]:
+        """The points of the nodes, and the connections as a matrix of scipy."""
+        from scipy.sparse import csr_matrix
+
+        made = graph_of(self.streets, self.put)
+        count = len(made.points)
+        return made.points, csr_matrix((made.metres, made.end, made.begins), shape=(count, count))
+
+    @cached_property
+    def beside(self) -> Floats:
+        """How far each place is from its street, metres."""
+        made: Floats = np.where(self.put.metres <= self.near, self.put.metres, self.put.metres * self.pace.detour)
+        return made
+
+    @property
+    def most(self) -> float:
+        """The longest way, metres."""
+        return self.pace.limit * self.pace.speed + 1e-6
+
+    @property
+    def first(self) -> int:
+        """The node of the first place."""
+        return len(self.graph[0]) - len(self.put.piece)
+
+    def seconds(self) -> Seconds:
+        """From each begin to each end."""
+        from scipy.sparse.csgraph import dijkstra
+
+        points, connections = self.graph
+        begins = self.first + np.arange(len(self.begins))
+        ends = begins[-1:].max(initial=self.first - 1) + 1 + np.arange(len(self.ends))
+        turned = len(ends) < len(begins)  # then the searches begin at the ends
+        sources, others, matrix = (ends, begins, connections.T) if turned else (begins, ends, connections)
+        found = np.full((len(sources), len(others)), np.inf)
+        for some in np.array_split(np.arange(len(sources)), -(-len(sources) * len(points) // CELLS_AT_ONCE) or 1):
+            found[some] = dijkstra(matrix, indices=sources[some], limit=self.most)[:, others]
+        metres = found.T if turned else found
+        metres = metres + self.beside[: len(begins), None] + self.beside[len(begins) :]
+        made: Seconds = np.full(metres.shape, np.nan)
+        there = metres <= self.most
+        made[there] = Pace(self.pace.limit, self.pace.speed, 1.0).seconds(metres[there])
+        return np.where(made <= self.pace.limit, made, np.nan)
+
+    def way(self, begin: int, end: int) -> tuple[Floats, float]:
+        """The points of the shortest way from one place to another, these with it, and its metres; none where there is
+        none.
+        """
+        from scipy.sparse.csgraph import dijkstra
+
+        points, connections = self.graph
+        source, target = self.first + begin, self.first + len(self.begins) + end
+        found, before = dijkstra(connections, indices=source, limit=self.most, return_predecessors=True)
+        if not np.isfinite(found[target]):
+            return np.zeros((0, 3)), float("nan")
+        nodes = [target]
+        while nodes[-1] != source:
+            nodes.append(int(before[nodes[-1]]))
+        line = np.concatenate([self.begins[begin][None], points[nodes[::-1]], self.ends[end][None]])
+        return line, float(found[target] + self.beside[begin] + self.beside[len(self.begins) + end])
+
+
+def on_streets(streets: Streets, latitudes: Floats, longitudes: Floats) -> tuple[Floats, Floats]:
+    """The nearest point on a street to each place, in degrees (longitudes and latitudes), and metres to it."""
+    put = snapped(streets, points_of(latitudes, longitudes))
+    nodes = points_of(streets.latitudes, streets.longitudes)
+    return degrees_of(at(nodes[streets.begin], nodes[streets.end], put.piece, put.along)), put.metres
+
+
+def degrees_of(points: Floats) -> Floats:
+    """Longitude and latitude of points of the globe."""
+    length = np.linalg.norm(points, axis=-1)
+    made: Floats = np.degrees(
+        np.stack([np.arctan2(points[..., 1], points[..., 0]), np.arcsin(points[..., 2] / length)], axis=-1)
+    )
+    return made
