@@ -12,4 +12,5 @@ pub mod Fills
 pub mod Ended
 pub mod Wholes
 pub mod Columns
+pub mod Doing
 pub mod AnyGate

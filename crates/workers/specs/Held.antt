@@ -13,7 +13,7 @@ use Rattle.workers.specs.Study.{StudyData}
 use Rattle.workers.specs.Rows.{IsRowOf}
 use Rattle.workers.specs.Jobs.{IsRowOfJob}
 use Rattle.workers.specs.declared.gates.Verdict.{Verdict}
-use Rattle.workers.specs.declared.gates.Verdict.TheVariants.{Lose, Vanish}
+use Rattle.workers.specs.declared.gates.Verdict.TheVariants.{Work, Lose, Vanish, Repeat}
 use Rattle.workers.specs.declared.worker.Ending.{Ending}
 use Rattle.workers.specs.declared.worker.Ending.TheVariants as ending
 use Rattle.workers.specs.declared.worker.Next.{Next}
@@ -91,6 +91,21 @@ LeavesAs decides lease v next.Draw = IsDone decides lease v
 LeavesAs decides lease v (next.End ending.Nothing) = ⊥
 LeavesAs decides lease v (next.End ending.Vanished) = decides lease Vanish
 LeavesAs decides lease v (next.End ending.Short) = ⊤
+
+-- how many rows a worker holds of a job that it kept, by what the gate decided of its lease
+abbrev pub copies_for : Verdict → ℕ
+copies_for Work = 1
+copies_for Lose = 0
+copies_for Vanish = 0
+copies_for Repeat = 2
+
+-- what a worker that draws another lease did with this one: it found its job settled; or it did what the gate decided,
+-- so that it holds that many more rows of the job if its seat kept it
+abbrev pub DoesAs : Decides → StudyData → Lease → View → View → List RowData → List RowData → Next → Type 0
+DoesAs decides s lease v w rows more next.Draw =
+    ((knows w lease.job ≡ true) × (more ≡ rows))
+    ⊎ ((verdict : Verdict) × decides lease verdict × HoldsMore s (copies_for verdict) lease.job v w rows more)
+DoesAs decides s lease v w rows more (next.End _) = ⊤
 
 -- what a worker promises: its seat is of the board, its rows are the study's, of exactly the jobs that its seat kept,
 -- the gate was told of each of them, and the worker ended for this reason

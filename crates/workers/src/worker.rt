@@ -5,7 +5,7 @@ ghost use Rattle.work_book.specs.Views.{knows};
 ghost use Rattle.work_book.specs.declared.rule.View.{View};
 ghost use Rattle.workers.specs.Study.{study_of, StudyFits};
 ghost use Rattle.workers.specs.Jobs.{jobs_of};
-ghost use Rattle.workers.specs.Held.{AreTold, HoldsMore, HoldsRows, IsHeard, KnowsAsMuch, LeavesAs, WorkedFor};
+ghost use Rattle.workers.specs.Held.{AreTold, DoesAs, HoldsMore, HoldsRows, IsHeard, KnowsAsMuch, LeavesAs, WorkedFor};
 
 use crate::gates::{Gate, Verdict};
 use crate::jobs::row_of_job;
@@ -114,6 +114,8 @@ fn take<G: Gate>(
         AreTold (G.was_told gate.now) (seen_by hands.new.seat).kept }
     ensures known { KnowsAsMuch (seen_by hands.old.seat) (seen_by hands.new.seat) }
     ensures next { LeavesAs (G.decides gate.now) lease (seen_by hands.new.seat) result }
+    ensures does { DoesAs (G.decides gate.now) (study_of study.now) lease (seen_by hands.old.seat)
+        (seen_by hands.new.seat) hands.old.rows.items hands.new.rows.items result }
 {
     if board.look(&mut hands.seat, lease.job) {
         return Next::Draw;

@@ -21,8 +21,8 @@ that ttm-tools scenarios wrote its own scenario files are taken where none is na
 scenario tells what it takes in all beside the first.
 
 --page writes an HTML page like a timetable at a stop: minutes of departure by hour, scenarios side by side. --picture
-draws a map, the wider a line the more vehicles an hour; needs matplotlib. docs/reference/measures.md says how each is counted.
-Needs pandas. Memory: some 150 MB, and 300 bytes for each stop time of the day and scenario."""
+draws a map, where a wider line has more vehicles an hour; needs matplotlib. docs/reference/measures.md says how each is
+counted. Needs pandas. Memory: some 150 MB, and 300 bytes for each stop time of the day and scenario."""
 CLOCK = re.compile(r"([0-9]{1,3}):([0-5][0-9])")
 
 
