@@ -8,9 +8,9 @@ from .options import add_base, add_matrix, add_number, add_points, add_share, ad
 TOLD = "a picture of travel times, of access, or of a difference"
 HELP = """\
 Draws a map of a matrix, a PNG file: travel times from an origin (times), access over all origins (access), or who loses
-and who gains in a scenario beside the base (difference): access at each origin, or with --origin the travel time to
-each stop. Who is cut off is a class of its own: a stop that isn't reached any more, an origin that loses all access. So
-is who is newly reached: a stop that wasn't reached before, an origin that had no access before.
+and who gains in a scenario compared with the base (difference): access at each origin, or with --origin the travel time
+to each stop. Who is cut off is a class of its own: a stop that isn't reached any more, an origin that loses all access.
+So is who is newly reached: a stop that wasn't reached before, an origin that had no access before.
 
 Points are drawn alone where the matrix has them, as squares where the file of points says how wide they are.
 Stops are drawn where the feed's stops.txt has them, over the lines of its shapes.txt, or over straight ones from stop
