@@ -21,7 +21,7 @@ def compared(town: Town, *words: str) -> str:
 def test_losers_come_first_and_what_has_no_difference_is_told(town: Town, second_form: bool) -> None:
     town.matrix(town_matrix(second_form))
     expected = HEAD + "A,D,cut off,2400,,\nA,C,slower,900,1900,1000\nD,B,new,,1700,\nD,A,faster,1500,1400,-100\n"
-    told = "cut beside base: of 8 pairs 1 cut off, 1 slower, 1 new, 1 faster (by more than 60 seconds)\n"
+    told = "cut compared with base: of 8 pairs 1 cut off, 1 slower, 1 new, 1 faster (by more than 60 seconds)\n"
     assert town.ran("compare", town.file) == (expected, told, 0)
 
 

@@ -65,7 +65,7 @@ def test_the_difference_of_access(town: Town, monkeypatch: pytest.MonkeyPatch) -
 def test_the_difference_of_travel_times(town: Town, monkeypatch: pytest.MonkeyPatch) -> None:
     town.matrix(town_matrix(False))
     texts, _, classes = figure(town, monkeypatch, "difference", "--origin", "A")
-    title = "Travel time from Alpha (A): cut beside base"
+    title = "Travel time from Alpha (A): cut compared with base"
     assert texts[:2] == [title, "Of 4 stops 1 are cut off, 2 slower, 0 faster"]
     gone = "cut off: not reached now  (1)"
     assert classes[:3] == [gone, "15 min or more slower  (1)", "1 to 5 min slower  (1)"]

@@ -87,7 +87,7 @@ def test_of_several_shares_and_limits_one_must_be_named(town: Town) -> None:
 
 def test_two_scenarios_of_several(town: Town) -> None:
     three = {**TOWN, "late": TOWN["cut"]}
-    told = "it has the scenarios cut and late beside base: name one by --scenario"
+    told = "it has the scenarios cut and late besides base: name one by --scenario"
     refused(town, town_matrix(True, three), told, lambda it: pair_of(it, "base", None, None))
     told = "no scenario late; it has base, cut"
     refused(town, town_matrix(True), told, lambda it: pair_of(it, "base", "late", None))

@@ -72,7 +72,7 @@ def test_a_click_shows_the_travel_times_of_the_matrix(town: Town, browser: Brows
 def test_the_difference_has_who_is_cut_off_as_a_class(town: Town, browser: Browser) -> None:
     town.matrix(town_matrix(True))
     browser.open(page(town, *jobs(town)), "view=times&scenario=cut&difference=1&from=A")
-    told = "cut beside base: of 4 places 1 are cut off, 1 slower by 2 minutes or more, 0 faster, 0 new."
+    told = "cut compared with base: of 4 places 1 are cut off, 1 slower by 2 minutes or more, 0 faster, 0 new."
     assert browser.text("told") == told
     key = {"cut off: not reached now": "1", "15 min or more slower": "1", "at most 1 min either way": "2"}
     assert browser.key() == key
@@ -245,7 +245,7 @@ def test_points_alone_as_squares_and_a_new_line(town: Town, browser: Browser) ->
     assert browser.run("return head.scenarios") == ["today", "tram"]
     assert (
         browser.text("told")
-        == "tram beside today: of 3 places 0 are cut off, 0 slower by 2 minutes or more, 1 faster, 1 new."
+        == "tram compared with today: of 3 places 0 are cut off, 0 slower by 2 minutes or more, 1 faster, 1 new."
     )
     assert "trips that are added" in browser.text("lines-key") and "taken out" not in browser.text("lines-key")
     aside = int(browser.run("return 0.4 * page.sideOf(0) * 2 ** page.map.getZoom()"))  # pixels, within the square

@@ -519,8 +519,9 @@ def test_today_is_the_base_and_what_has_everything_is_left_out(town: Town) -> No
         town_matrix(True, {"base": {"A": [0, 1, 2, 3]}, "today": {"A": today}, "tram": {"A": [0, 200, 900, 800]}})
     )
     out, told, status = town.ran("compare", town.file)
-    assert (read(out)[0]["what"], told.split(":")[0], status) == ("new", "tram beside today", 0)
-    assert town.ran("compare", "--base", "base", "--scenario", "tram", town.file)[1].startswith("tram beside base")
+    assert (read(out)[0]["what"], told.split(":")[0], status) == ("new", "tram compared with today", 0)
+    told = town.ran("compare", "--base", "base", "--scenario", "tram", town.file)[1]
+    assert told.startswith("tram compared with base")
     left = f"{town.file}: base, which has the trips of all scenarios at once, is left out\n"
     out, told, _ = town.ran("long", town.file)
     assert (list(dict.fromkeys(row["scenario"] for row in read(out))), told) == (["today", "tram"], left)
@@ -528,7 +529,7 @@ def test_today_is_the_base_and_what_has_everything_is_left_out(town: Town) -> No
     pytest.importorskip("h5py")
     assert town.ran("omx", "--out", town.path("m.omx"), town.file)[1] == left
     out, told, _ = town.ran("compare", town.path("m.omx"))
-    assert (read(out)[0]["what"], told.split(":")[0]) == ("new", "tram beside today")
+    assert (read(out)[0]["what"], told.split(":")[0]) == ("new", "tram compared with today")
     jobs = town.write("jobs.csv", "stop_id,jobs", [["A", 7], ["D", 8]])
     out, told, _ = town.ran("access", "--opportunities", jobs, town.file)
     assert ([row["scenario"] for row in read(out)], told) == (["today", "tram"], left)

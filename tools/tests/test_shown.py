@@ -51,7 +51,7 @@ def test_points_in_the_folder_of_a_feed_are_found(town: Town) -> None:
     points(town)
     out, told, status = town.ran("compare", "--feed", town.feed, town.file)
     assert (out.splitlines()[1:], status) == (['D,Delta,B,"Béta, ""the"" square",new,,1700,'], 0)
-    assert told.startswith("cut beside base: of 2 pairs 0 cut off, 0 slower, 1 new, 0 faster")
+    assert told.startswith("cut compared with base: of 2 pairs 0 cut off, 0 slower, 1 new, 0 faster")
 
 
 def test_access_is_measured_at_points_alone(town: Town) -> None:

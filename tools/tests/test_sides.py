@@ -62,4 +62,4 @@ def test_map_page_and_compare_count_alike(
     counts = re.search(r"[0-9]+ lose( \([0-9]+ of them cut off\))?, [0-9]+ gain( \([^)]* reached\))?", told)
     assert counts is not None, told
     assert texts[1].startswith(f"Of 4 stops {counts[0]}")
-    assert browser.text("told") == f"cut beside base: of 4 places {counts[0]}."
+    assert browser.text("told") == f"cut compared with base: of 4 places {counts[0]}."

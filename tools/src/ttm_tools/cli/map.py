@@ -13,11 +13,11 @@ if TYPE_CHECKING:
 TOLD = "a picture of travel times, of access, or of a difference"
 HELP = """\
 Draws a map of a matrix, a PNG file: travel times from an origin (times), access over all origins (access), or who loses
-and who gains in a scenario beside the base (difference): access at each origin, or with --origin the travel time to
-each stop. Who is cut off is a class of its own: a stop that isn't reached any more, an origin that loses all access. So
-is who is newly reached: a stop that wasn't reached before, an origin that had no access before. With nearest each
-origin shows the travel time within which so many of --opportunities are reached; a difference shows how that changes
-where --nearest says how many.
+and who gains in a scenario compared with the base (difference): access at each origin, or with --origin the travel time
+to each stop. Who is cut off is a class of its own: a stop that isn't reached any more, an origin that loses all access.
+So is who is newly reached: a stop that wasn't reached before, an origin that had no access before. With nearest each
+origin shows the travel time within which this number of --opportunities is reached; a difference shows how that changes
+if --nearest says how many.
 
 Points are drawn alone where the matrix has them: as squares where the file of points says how wide they are, and as
 areas where it has these.

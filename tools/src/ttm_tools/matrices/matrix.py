@@ -160,7 +160,7 @@ class Matrix(ABC):
         others = [name for name in (self.scenarios if base == BASE else self.compared) if name != base]
         if len(others) > 1:
             told = f"{shown(others[0])} and {shown(others[1])}"
-            raise BadInput(self.path, f"it has the scenarios {told} beside {shown(base)}: name one by --scenario")
+            raise BadInput(self.path, f"it has the scenarios {told} besides {shown(base)}: name one by --scenario")
         if not others:
             raise BadInput(
                 self.path, f"no scenario other than {shown(base)}; it has {', '.join(map(shown, self.scenarios))}"

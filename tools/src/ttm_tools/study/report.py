@@ -86,7 +86,7 @@ def write_figures(made: Document, whole: Whole, records: dict[str, Record]) -> N
         made.table(caption, ["Counted", "Within, minutes", *whole.scenarios], list(means(whole)))
     for scenario, name in whole.others.items():
         if f"compare_{name}" in records:
-            made.heading(f"{shown(scenario)} beside {shown(whole.inputs.base)}", 3)
+            made.heading(f"{shown(scenario)} compared with {shown(whole.inputs.base)}", 3)
             made.items(records[f"compare_{name}"].lines)
             write_changes(made, f"compare_{name}.csv")
     if "equity" in records:

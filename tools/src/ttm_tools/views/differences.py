@@ -90,7 +90,7 @@ def summary(pair: Pair, comparison: Comparison, limit: float, place: int | None,
     pairs = len(pair.origins) * len(pair.matrix.stops)
     totals = comparison.counts.sum(axis=0)
     counts = ", ".join(f"{count:,} {kind}" for kind, count in zip(KINDS, totals.tolist()))
-    names, end = f"{shown(pair.other)} beside {shown(pair.base)}", pair.matrix.told_greatest
+    names, end = f"{shown(pair.other)} compared with {shown(pair.base)}", pair.matrix.told_greatest
     told = [f"{names}: of {pairs:,} pairs {counts} (by more than {limit:g} seconds{'; ' * bool(end)}{end})"]
     if place is not None:
         first, second = pair.access(place)

@@ -198,7 +198,7 @@ def told_counts(classes: Classes, breaks: Sequence[float], words: Sequence[str])
 
 
 def beside(pair: Pair) -> str:
-    return f"{shown(pair.other)} beside {shown(pair.base)}"
+    return f"{shown(pair.other)} compared with {shown(pair.base)}"
 
 
 def picture_of_time_difference(matrix: Matrix, stops: Stops, origin: str, wish: Wish) -> Picture:

@@ -148,7 +148,7 @@ function showTimesTold(place, scenario, now, before) {
   element("heading").textContent = `Travel times from ${nameOf(place)}`;
   const reached = now.reduce((sum, minutes) => sum + (minutes !== NEVER), 0);
   element("told").textContent = before === null ? `${name}: ${told(reached)} of ${places(now.length)} are reached.`
-    : `${name} beside ${head.scenarios[0]}: ${changesTold(now, before)}`;
+    : `${name} compared with ${head.scenarios[0]}: ${changesTold(now, before)}`;
 }
 
 /** How many minutes are lost, for an order. */
@@ -176,7 +176,7 @@ function showAccessTold(words, now, before) {
       + `${words.short} are reached, at most ${told(sorted[sorted.length - 1])}.`;
     return;
   }
-  element("told").textContent = `${words.scenario} beside ${head.scenarios[0]}: of ${places(now.length)} `
+  element("told").textContent = `${words.scenario} compared with ${head.scenarios[0]}: of ${places(now.length)} `
     + `${sidesTold(before, now)}.`;
 }
 
