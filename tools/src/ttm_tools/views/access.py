@@ -53,7 +53,7 @@ def write_access(
     out: BinaryIO,
     found: Sequence[Measured],
     opportunities: Sequence[str],
-    limits: Sequence[float],
+    limits: Sequence[float | str],
     *,
     heads: tuple[str, str],
     form: str,
@@ -61,13 +61,14 @@ def write_access(
 ) -> None:
     """Writes what was measured of some scenarios, one after the other."""
     named, middle = ["scenario"] * with_scenario + ["id"], "_nearest_" if heads == NEAREST else "_"
-    cells = list(itertools.product(opportunities, map(told, limits)))
+    texts = [it if isinstance(it, str) else told(it) for it in limits]
+    cells = list(itertools.product(opportunities, texts))
     if form == WIDE:
         header = [*named, "percentile", *[f"{name}{middle}{limit}" for name, limit in cells]]
         write_rows(out, header, wide_rows(found, with_scenario))
     else:
         header = [*named, "opportunity", "percentile", *heads]
-        write_rows(out, header, long_rows(found, opportunities, list(map(told, limits)), with_scenario))
+        write_rows(out, header, long_rows(found, opportunities, texts, with_scenario))
 
 
 def wide_rows(found: Sequence[Measured], with_scenario: bool) -> Iterator[list[object]]:
