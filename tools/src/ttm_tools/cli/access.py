@@ -58,8 +58,8 @@ def describe(parser: argparse.ArgumentParser) -> None:
     told = "the mean over all limits of whole minutes from one to another, such as 15,45"
     add_numbers(parser, "--interval", told, "minutes", (0, 1000), without="one number for each of --cutoffs")
     told = "access where people compete: a floating catchment, a balanced one, or spatial availability; needs --demand"
-    names = ("floating", "balanced", "availability")
-    parser.add_argument("--competition", choices=names, help=f"{told} (without it, nobody does)")
+    methods = ("floating", "balanced", "availability")
+    parser.add_argument("--competition", choices=methods, help=f"{told} (without it, nobody does)")
     add_text(parser, "--demand", "FILE", "how many people are at each origin, for --competition", without="none")
     add_text(parser, "--demand-column", "NAME", "its column of people", without="the only one")
     add_text(parser, "--scenario", "NAME", "the scenario that is taken", without="all")
