@@ -133,7 +133,9 @@ def test_pairs_go_with_no_ends(small: Room) -> None:
         "no.csv", "origin,destination", []
     )
     words = ["explain", str(small.folder), *PAIR_WORDS]
-    for wrong in ([], ["--origin", "A"], ["--pairs", pairs, "--origin", "A"], ["--pairs", pairs, "--picture", "x.png"]):
+    both, picture = ["--pairs", pairs, "--origin", "A"], ["--pairs", pairs, "--picture", "x.png"]
+    wrongs: list[list[str]] = [[], ["--origin", "A"], both, picture]
+    for wrong in wrongs:
         assert small.ran(*words, *wrong)[2] == 2
     small.refused(f"{none}: no pairs", *words, "--pairs", none)
 

@@ -1,6 +1,7 @@
 """ttm-tools access."""
 
 import argparse
+from dataclasses import replace
 from typing import TYPE_CHECKING, Callable
 
 from .options import (
@@ -87,6 +88,8 @@ def run(words: argparse.Namespace) -> int:
     counts = read_counts(words.opportunities, matrix.stops, "stop of the matrix", words.column)
     measure = measure_of(words, matrix, counts)
     found = [measured(matrix, scenario, shares, measure) for scenario in scenarios]
+    if words.competition:  # for each person there may be little
+        found = [replace(it, decimals=12) for it in found]
     heads, limits = (NEAREST, words.nearest) if words.nearest else (ACCESS, words.cutoffs)
     if words.interval:
         limits = ["{:g}-{:g}".format(*words.interval)]

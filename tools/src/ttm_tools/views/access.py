@@ -23,6 +23,7 @@ class Measured:
     origins: list[str]
     shares: list[Share]
     numbers: Floats  # by share, origin, opportunity, and cutoff (or count of the nearest)
+    decimals: int = 6  # with which they are written
 
 
 def origins_of(matrix: Matrix, scenario: str) -> list[str]:
@@ -42,11 +43,11 @@ def measured(
     return Measured(scenario, origins, list(shares), np.stack([measure(scenario, share) for share in shares]))
 
 
-def told(number: float) -> str:
-    """A number without needless zeros, to the nearest millionth; nothing for NaN."""
+def told(number: float, decimals: int = 6) -> str:
+    """A number without needless zeros, to the nearest millionth or so; nothing for NaN."""
     if np.isnan(number):
         return ""
-    return str(int(number)) if number == int(number) else f"{number:.6f}".rstrip("0").rstrip(".")
+    return str(int(number)) if number == int(number) else f"{number:.{decimals}f}".rstrip("0").rstrip(".")
 
 
 def write_access(
@@ -75,8 +76,8 @@ def wide_rows(found: Sequence[Measured], with_scenario: bool) -> Iterator[list[o
     for of in found:
         for row, origin in enumerate(of.origins):
             for place, share in enumerate(of.shares):
-                numbers = of.numbers[place, row].ravel().tolist()
-                yield [*[of.scenario] * with_scenario, origin, "" if share is None else share, *map(told, numbers)]
+                texts = [told(number, of.decimals) for number in of.numbers[place, row].ravel().tolist()]
+                yield [*[of.scenario] * with_scenario, origin, "" if share is None else share, *texts]
 
 
 def long_rows(
@@ -89,4 +90,4 @@ def long_rows(
                 for place, share in enumerate(of.shares):
                     for limit, number in zip(limits, numbers[place][column]):
                         head = [*[of.scenario] * with_scenario, origin, name, "" if share is None else share]
-                        yield [*head, limit, told(number)]
+                        yield [*head, limit, told(number, of.decimals)]
