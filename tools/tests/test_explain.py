@@ -16,6 +16,7 @@ from test_damages import damaged
 from ttm_tools.feed import read_stops
 from ttm_tools.measures.journeys import Leg, Search, cell, durations, journey, network_of
 from ttm_tools.timetable import read_edits, read_timetable, read_walks, runs_of
+from ttm_tools.views.itineraries import parts_of
 
 ROOT = Path(__file__).resolve().parents[2]
 WORDS = "--origin A --destination C --date 20260504 --from 07:58 --to 08:01 --trips 2 --walk 120 --ahead 0".split()
@@ -86,6 +87,57 @@ def test_a_walk_at_the_end_and_what_is_not_reached(small: Room, program: str) ->
     ]
     assert lines[4].split() == ["base:", "1950", "seconds", "cut:", "not", "reached"]
     assert lines[-1].split() == ["08:01", "-", "-"]
+
+
+HEAD = "scenario,origin,destination,percentile,seconds,departure,access_seconds,wait_seconds,ride_seconds"
+PAIR_WORDS = WORDS[4:]
+
+
+def test_many_pairs_make_a_table_of_parts(small: Room, program: str) -> None:
+    pairs = small.write("pairs.csv", "origin,destination", [["A", "C"], ["C", "D"], ["A", "D"], ["A", "C"]])
+    words = [small.path("late.csv"), *PAIR_WORDS, "--footpaths", small.path("walks.csv"), "--pairs", pairs]
+    assert explained(small, program, str(small.folder), *words) == [
+        f"{HEAD},change_seconds,walk_seconds,egress_seconds,rides,routes,trips",
+        # waits of 1 minute at A and 2 (7 where T2 is later) at B, rides of 10 and 15 minutes, a change of 3
+        "base,A,C,50,1860,07:59:00,0,180,1500,180,0,0,2,R1 R2,T1 T2",
+        "late,A,C,50,2160,07:59:00,0,480,1500,180,0,0,2,R1 R2,T1 T2",
+        "base,C,D,50,90,07:58:00,90,0,0,0,0,0,0,,",
+        "late,C,D,50,90,07:58:00,90,0,0,0,0,0,0,,",
+        "base,A,D,50,1950,07:59:00,0,180,1500,180,0,90,2,R1 R2,T1 T2",
+        "late,A,D,50,2250,07:59:00,0,480,1500,180,0,90,2,R1 R2,T1 T2",
+    ]
+
+
+def test_a_pair_that_is_not_reached_has_no_parts(small: Room, program: str) -> None:
+    pairs = small.write("pairs.csv", "origin,destination", [["C", "A"]])
+    lines = explained(small, program, str(small.folder), *PAIR_WORDS, "--pairs", pairs)
+    assert lines[1] == "base,C,A,50" + "," * 11
+
+
+def test_walks_between_rides_are_apart_from_those_at_the_ends() -> None:
+    walk, ride = (0, 1, 100, 160, None, 0), (1, 2, 200, 500, 3, 0)
+    legs = [
+        Leg(*walk),
+        Leg(*ride),
+        Leg(2, 3, 500, 530, None, 0),
+        Leg(3, 4, 600, 700, 4, 30),
+        Leg(4, 5, 700, 707, None, 0),
+    ]
+    made = parts_of(legs, 100)
+    assert (made.access, made.wait, made.ride, made.change, made.walk, made.egress) == (60, 80, 400, 30, 30, 7)
+    assert sum(vars(made).values()) == 607
+
+
+def test_pairs_go_with_no_ends(small: Room) -> None:
+    pairs, none = small.write("pairs.csv", "origin,destination", [["A", "C"]]), small.write(
+        "no.csv", "origin,destination", []
+    )
+    words = ["explain", str(small.folder), *PAIR_WORDS]
+    both, picture = ["--pairs", pairs, "--origin", "A"], ["--pairs", pairs, "--picture", "x.png"]
+    wrongs: list[list[str]] = [[], ["--origin", "A"], both, picture]
+    for wrong in wrongs:
+        assert small.ran(*words, *wrong)[2] == 2
+    small.refused(f"{none}: no pairs", *words, "--pairs", none)
 
 
 def test_the_numbers_of_both_are_told_where_they_differ(small: Room) -> None:

@@ -4,7 +4,6 @@ import os
 import sys
 from pathlib import Path
 
-
 from helpers import Room
 from test_pages import environment_of, make_town, needs_maps_and_page
 

@@ -2,6 +2,7 @@
 
 import random
 from pathlib import Path
+from typing import Any
 
 import numpy as np
 import pytest
@@ -20,7 +21,7 @@ def line(room: Room) -> Room:
     room.stops(("A", 0, 0), ("B", 0, 1000), ("C", 0, 3000))
     room.write("routes.txt", "route_id,route_short_name", [["R", "7"], ["Q", ""]])
     room.write("calendar.txt", *CALENDAR)
-    trips = [["R", "M", f"T{number}", 0] for number in range(3)]
+    trips: list[list[Any]] = [["R", "M", f"T{number}", 0] for number in range(3)]
     room.write(
         "trips.txt", "route_id,service_id,trip_id,direction_id", [*trips, ["R", "M", "S", 1], ["Q", "M", "N", ""]]
     )
@@ -140,8 +141,8 @@ def test_the_scenarios_of_a_plan_are_taken_with_today_first(line: Room) -> None:
 
 def test_what_a_scenario_adds_to_a_route_is_of_that_route(line: Room) -> None:
     line.write("routes.txt", "route_id,route_short_name", [["R", "7"], ["Q", ""], ["R@more", "7"], ["X@more", "9"]])
-    trips = [["R", "M", f"T{number}", 0] for number in range(3)]
-    more = [["R@more", "M", "S", 0], ["X@more", "M", "N", ""]]
+    trips: list[list[Any]] = [["R", "M", f"T{number}", 0] for number in range(3)]
+    more: list[list[Any]] = [["R@more", "M", "S", 0], ["X@more", "M", "N", ""]]
     line.write("trips.txt", "route_id,service_id,trip_id,direction_id", [*trips, *more])
     (line.folder / "scenarios").mkdir()
     line.write("scenarios/today.csv", "action,id,seconds", [["remove_trip", "S", ""], ["remove_trip", "N", ""]])

@@ -5,6 +5,7 @@ at 08:00, S2 at 08:06, and takes three minutes to each next stop. Of the departu
 get from S2 to S3 in 420 seconds or less (08:02 to 08:04); from all other stops the median is the walk.
 """
 
+import json
 from pathlib import Path
 
 import pytest
@@ -48,6 +49,22 @@ def test_maps_show_the_nearest_of_each_thing_counted(place: Place) -> None:  # n
     assert place.ran("study", path)[2] == 0
     names = {it.name for it in Path(place.path("nine/maps")).iterdir()}
     assert {"nearest_schools.png", "nearest_schools_cut.png"} <= names
+
+
+def test_areas_are_written_for_each_named_place(place: Place) -> None:  # noqa: F811
+    pytest.importorskip("shapely")
+    words = 'maps = false\nisochrones = ["S0", "S4"]\nisochrone_bands = [5, 10]\n'
+    path = place.lay_out(STUDY.replace("csv = true\n", words))
+    assert place.ran("study", path)[2] == 0
+    features = json.loads(Path(place.path("nine/isochrones/S4.geojson")).read_text())["features"]
+    made = {(it["properties"]["scenario"], it["properties"]["minutes"]): it["properties"] for it in features}
+    # within 10 minutes one walks from S4 to S3 and S5, which have a school each
+    assert (made["base", 10]["reached"], made["base", 10]["schools"], made["base", 5]["reached"]) == (3, 2, 1)
+    # in five minutes one gets 300 s * 1.33 / 1.3 as the crow flies
+    assert made["cut", 5]["square_km"] == pytest.approx(3.1326 * (0.3 * 1.33 / 1.3) ** 2, rel=1e-3)
+    assert "isochrones" in Path(place.path("nine/report.md")).read_text()
+    place.say(STUDY.replace("csv = true\n", 'isochrones = ["S9"]\n'))
+    assert "isochrones of [results]: S9 is no origin of the study" in place.ran("study", path)[1]
 
 
 @pytest.mark.parametrize(

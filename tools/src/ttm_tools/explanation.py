@@ -2,9 +2,9 @@
 
 import datetime
 import math
-from dataclasses import replace
+from dataclasses import dataclass, replace
 from pathlib import Path
-from typing import Sequence
+from typing import Iterator, Sequence
 
 from .engine import Pathlike, Run, nearer_by_plan, origins_file, run
 from .faults import BadInput, say
@@ -13,7 +13,7 @@ from .files import scratch
 from .matrices import BASE, TODAY, Matrix, open_matrix
 from .measures.journeys import Search, cell, durations, journey, network_of
 from .records import shown
-from .timetable import DAY, Walks, Whole, read_edits, read_timetable, read_walks, runs_of
+from .timetable import DAY, Timetable, Walks, Whole, read_edits, read_timetable, read_walks, runs_of
 from .views.journeys import Asked, Found
 
 
@@ -29,29 +29,57 @@ def found_of(
     """What is found for the base and each scenario. The travel times beside are those of a matrix, or of a run of the
     program.
     """
+    (made,) = all_found(asked, date, [(origin, destination)], program=program, matrix=matrix)
+    return made
+
+
+def all_found(
+    asked: Run,
+    date: datetime.date,
+    pairs: Sequence[tuple[str, str]],
+    *,
+    program: Pathlike | None = None,
+    matrix: str | None = None,
+) -> Iterator[tuple[Asked, list[Found]]]:
+    """The same of several pairs of an origin and a destination, one after the other, by one run of the program."""
     stops = read_stops(str(asked.feed))
-    for name in (origin, destination):
+    for name in dict.fromkeys(name for pair in pairs for name in pair):
         if name not in stops.places or stops.kinds[stops.places[name]] != 0:
             raise BadInput(stops.path, f"no stop {shown(name)} at which vehicles call")
     files = scenarios_of(asked.scenarios)
-    names = list(files)
     if matrix is not None:
-        cells = cells_of(open_matrix(matrix), names, asked.shares[0], origin, destination)
+        cells = cells_of(open_matrix(matrix), list(files), asked.shares[0], pairs)
     else:
-        cells = cells_of_ttm(asked, names, origin, destination, program)
+        cells = cells_of_ttm(asked, list(files), pairs, program)
     say(*nearer_by_plan(asked))
     timetable = read_timetable(stops)
     footpaths = asked.files.get("footpaths")
     first, last = (int(text[:2]) * 60 + int(text[3:]) for text in asked.window)
     departures = [DAY * asked.back + 60 * minute for minute in range(first, last + 1)]
-    begin, end = map(timetable.stops.index, (origin, destination))
-    walks, changes = read_walks(timetable, None if footpaths is None else str(footpaths), asked.walk, begin)
-    what = Asked(timetable, begin, end, departures, asked.back, asked.shares[0], told_of(asked, date))
-    found = []
-    for name, seconds in cells.items():
-        found.append(found_in(what, asked, date, name, files[name], walks, changes))
-        tell_difference(found[-1], seconds, origin, destination)
-    return what, found
+    ends = [(timetable.stops.index(one), timetable.stops.index(other)) for one, other in pairs]
+    walks = Walked(timetable, None if footpaths is None else str(footpaths), asked.walk)
+    for pair, (begin, end) in zip(pairs, ends):
+        what = Asked(timetable, begin, end, departures, asked.back, asked.shares[0], told_of(asked, date))
+        found = []
+        for name, seconds in cells[pair].items():
+            found.append(found_in(what, asked, date, name, files[name], *walks.of(begin)))
+            tell_difference(found[-1], seconds, *pair)
+        yield what, found
+
+
+@dataclass
+class Walked:
+    """The walks of a feed, of one origin at a time: those of the last one are kept."""
+
+    timetable: Timetable
+    footpaths: str | None
+    limit: int
+    kept: tuple[int, tuple[Walks, Whole]] | None = None
+
+    def of(self, origin: int) -> tuple[Walks, Whole]:
+        if self.kept is None or self.kept[0] != origin:
+            self.kept = origin, read_walks(self.timetable, self.footpaths, self.limit, origin)
+        return self.kept[1]
 
 
 def scenarios_of(files: Sequence[Pathlike]) -> dict[str, Pathlike | None]:
@@ -71,22 +99,31 @@ def told_of(asked: Run, date: datetime.date) -> str:
 Cells = dict[str, int | None]  # a travel time for each scenario, seconds; None where there is none
 
 
-def cells_of_ttm(asked: Run, names: Sequence[str], origin: str, destination: str, program: Pathlike | None) -> Cells:
-    """The cells as `ttm` computes them."""
+Pairs = Sequence[tuple[str, str]]  # origins and destinations
+
+
+def cells_of_ttm(
+    asked: Run, names: Sequence[str], pairs: Pairs, program: Pathlike | None
+) -> dict[tuple[str, str], Cells]:
+    """The cells of some pairs as `ttm` computes them."""
     with scratch("explain") as made:
         path = made / "matrix.csv"
-        files = {**asked.files, "origins": origins_file(made, [origin])}
+        files = {**asked.files, "origins": origins_file(made, list(dict.fromkeys(origin for origin, _ in pairs)))}
         run(replace(asked, files=files), path, program)
-        return cells_of(open_matrix(str(path)), names, asked.shares[0], origin, destination)
+        return cells_of(open_matrix(str(path)), names, asked.shares[0], pairs)
 
 
-def cells_of(matrix: Matrix, names: Sequence[str], share: int, origin: str, destination: str) -> Cells:
-    """The cells of a matrix for some scenarios, which it has."""
-    if destination not in matrix.places:
-        raise BadInput(matrix.path, f"no stop {shown(destination)}")
-    chosen, place = matrix.share(share if matrix.layout.names_share else None), matrix.places[destination]
-    found = {name: float(matrix.seconds(matrix.scenario(name), chosen, origin)[place]) for name in names}
-    return {name: None if math.isnan(seconds) else int(seconds) for name, seconds in found.items()}
+def cells_of(matrix: Matrix, names: Sequence[str], share: int, pairs: Pairs) -> dict[tuple[str, str], Cells]:
+    """The cells of a matrix for some pairs and scenarios, which it has."""
+    chosen = matrix.share(share if matrix.layout.names_share else None)
+    made: dict[tuple[str, str], Cells] = {}
+    for origin, destination in pairs:
+        if destination not in matrix.places:
+            raise BadInput(matrix.path, f"no stop {shown(destination)}")
+        place = matrix.places[destination]
+        found = {name: float(matrix.seconds(matrix.scenario(name), chosen, origin)[place]) for name in names}
+        made[origin, destination] = {name: None if math.isnan(it) else int(it) for name, it in found.items()}
+    return made
 
 
 def found_in(

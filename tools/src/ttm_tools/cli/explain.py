@@ -15,7 +15,9 @@ HELP = """\
 Shows the journey behind a cell of the matrix: that of the first departure whose duration is the cell's, leg by leg,
 with stops, route, trip, times, waits, changes and walks, for the feed as it is and for each scenario side by side; then
 the durations of all departures (minutes and seconds; a star at the departure of the journey, - if it never arrives).
---picture draws these, minute by minute.
+--picture draws these, minute by minute. With --pairs a table has a line for each pair and scenario: travel time,
+departure, and its parts in seconds (access, wait, ride, change, walk between rides, egress), the number of rides, and
+their routes and trips.
 
 A second search, in Python, finds the journey by the definitions of docs/explanation/definitions.md. This search isn't
 proved; ttm runs too (or --matrix gives the cell), and if the travel times differ an error prints both. A time of
@@ -34,7 +36,9 @@ def describe(parser: argparse.ArgumentParser) -> None:
     told = "scenario files, each compared with the feed as it is"
     parser.add_argument("scenarios", metavar="SCENARIO", nargs="*", help=told)
     for name, told in (("--origin", "where the journey begins"), ("--destination", "and where it ends")):
-        parser.add_argument(name, metavar="STOP", required=True, help=f"the stop {told} (needed)")
+        parser.add_argument(name, metavar="STOP", help=f"the stop {told} (needed without --pairs)")
+    told = "many of these, a file with the columns origin and destination: a table of their journeys as CSV"
+    add_text(parser, "--pairs", "FILE", told, without="one is told leg by leg")
     told = "the day of the departures, YYYYMMDD or YYYY-MM-DD, of the years 1 to 9999 (needed)"
     parser.add_argument("--date", metavar="DATE", type=day, required=True, help=told)
     for name, told in (("--from", "first"), ("--to", "last")):
@@ -72,8 +76,11 @@ def asked_of(words: argparse.Namespace) -> "Run":
 
 
 def run(words: argparse.Namespace) -> int:
-    from ..faults import needs
+    from ..faults import WrongWords, needs
 
+    one = [words.origin, words.destination, words.picture]
+    if any(it is not None for it in one) if words.pairs else None in one[:2]:
+        raise WrongWords("--origin and --destination are needed, or --pairs alone, without --picture")
     needs("numpy", "pandas", *(["matplotlib"] if words.picture else []))
     from ..explanation import found_of
     from ..files import output
@@ -81,6 +88,8 @@ def run(words: argparse.Namespace) -> int:
     from ..views.journeys import text_of
 
     run, ends = asked_of(words), (words.origin, words.destination)
+    if words.pairs:
+        return table_of(words, run)
     asked, found = found_of(run, words.date, *ends, program=words.program, matrix=words.matrix)
     lines = list(text_of(asked, found))
     figure = figure_of(asked, found) if words.picture else None
@@ -90,4 +99,21 @@ def run(words: argparse.Namespace) -> int:
     if figure is not None:
         with output(words.picture) as file:
             figure.savefig(file, format="png", dpi="figure")
+    return 0
+
+
+def table_of(words: argparse.Namespace, run: "Run") -> int:
+    """Writes the table of the journeys of many pairs."""
+    from ..explanation import all_found
+    from ..faults import BadInput
+    from ..files import output
+    from ..records import rows, write_rows
+    from ..views.itineraries import HEADS, MORE, lines_of
+
+    pairs = list(dict.fromkeys((one, other) for _, (one, other) in rows(words.pairs, ["origin", "destination"])))
+    if not pairs:
+        raise BadInput(words.pairs, "no pairs")
+    found = all_found(run, words.date, pairs, program=words.program, matrix=words.matrix)
+    with output(words.out) as file:
+        write_rows(file, [*HEADS, *MORE], (line for asked, of in found for line in lines_of(asked, of)))
     return 0

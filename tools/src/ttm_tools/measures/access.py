@@ -8,7 +8,7 @@ Each is a product of matrices, block of rows by block of rows: weights of cells 
 
 import math
 from dataclasses import dataclass
-from typing import Callable, Sequence
+from typing import Callable, Protocol, Sequence
 
 import numpy as np
 import numpy.typing as npt
@@ -21,6 +21,28 @@ from ..matrices import Matrix, Seconds, Share
 STEP, LINEAR, EXPONENTIAL, LOGISTIC = "step", "linear", "exponential", "logistic"
 DECAYS = (STEP, LINEAR, EXPONENTIAL, LOGISTIC)
 NEARLY = 1 - 1e-12  # of a sum of decimals that is meant to be whole
+
+
+class Weighting(Protocol):
+    """What gives the weight of each travel time, 0 where there is none."""
+
+    def weights(self, seconds: Seconds, cutoff: float) -> Floats:
+        """The weights, 0 to 1, beside a cutoff in minutes."""
+
+
+@dataclass(frozen=True)
+class Interval:
+    """The mean of cumulative opportunities over all limits of whole minutes from one to another, both included."""
+
+    low: int
+    high: int
+
+    def weights(self, seconds: Seconds, cutoff: float) -> Floats:
+        """The part of the limits within which each travel time is; the cutoff isn't used."""
+        count = self.high - self.low + 1
+        minutes = np.ceil(np.where(np.isnan(seconds), np.inf, seconds).astype(np.float64) / 60)
+        made: Floats = np.clip(self.high + 1 - np.maximum(minutes, self.low), 0, count) / count
+        return made
 
 
 @dataclass(frozen=True)
@@ -62,7 +84,7 @@ def logistic(at: Floats, at_zero: float) -> Floats:
 
 
 def access(
-    matrix: Matrix, scenario: str, share: Share, numbers: Floats, decay: Decay, cutoffs: Sequence[float]
+    matrix: Matrix, scenario: str, share: Share, numbers: Floats, decay: Weighting, cutoffs: Sequence[float]
 ) -> Floats:
     """The weighted sums of the numbers by stop, from each origin: by origin, column of numbers, and cutoff."""
     used = np.flatnonzero(numbers.any(axis=1))

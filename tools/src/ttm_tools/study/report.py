@@ -8,6 +8,7 @@ from typing import Iterator, Sequence
 
 from ..measures.access_table import read_access
 from ..records import records as records_in, shown
+from .areas import AREAS
 from .document import Document
 from .maps import Drawn, maps_of
 from .page import PAGE
@@ -99,6 +100,8 @@ def write_figures(made: Document, whole: Whole, records: dict[str, Record]) -> N
             made.table(f"{caption} ({name}.csv)", [as_words(it) for it in header], lines)
     if "page" in records:
         made.link("To look at in a browser:", PAGE)
+    if AREAS in records:
+        made.paragraph(f"Areas that are reached within so many minutes, as GeoJSON, are in the folder {AREAS}.")
     if "maps" in records:
         made.heading("Maps", 3)
         made.paragraph("The pictures lie in the folder maps, as files of their own.")

@@ -180,6 +180,18 @@ class ResultWish:
     differs: int = told(whole(0, 604800, "seconds"), "a change of travel time counts above this", "60", 60)
     maps: bool = told(FLAG, "pictures of access and of each scenario's difference", "false", True)
     map_origins: tuple[str, ...] = told(TEXTS, "stops whose travel times are drawn too", '["B00170S"]', ())
+    isochrones: tuple[str, ...] = told(
+        TEXTS,
+        "stops or points from which areas are written, as isochrones/STOP.geojson; needs shapely",
+        '["B00170S"]',
+        (),
+    )
+    isochrone_bands: tuple[float, ...] = told(
+        ascending(1, 10000, "minutes", False),
+        "within which these areas are reached",
+        "[15, 30]",
+        (15.0, 30.0, 45.0, 60.0),
+    )
     unit: str | None = told(
         TEXT, "what access counts, in a reader's word; without it, the name of the column", '"jobs"', None
     )

@@ -16,6 +16,7 @@ from ..matrices import BASE, TODAY, open_matrix
 from ..naming import told_names
 from ..parts import origins_in
 from ..views.page.document import LEAFLET, leaflet_files
+from .areas import make_areas
 from .cutting import PARTS, cut_of, parts_noted, remove_parts, study_key, trial
 from .elsewhere import Means, run_elsewhere
 from .inputs import Inputs, make_inputs
@@ -67,19 +68,20 @@ def packages_of(study: Study) -> list[str]:
     wish = study.results
     pictures = [*(["matplotlib"] if wish.maps else []), *(["jinja2"] if wish.page else [])]
     streets = ["osmium", "scipy"] if study.walks.streets else []
-    return ["h5py", *pictures, *(["shapely"] if study.feed.area else []), *streets]
+    return ["h5py", *pictures, *(["shapely"] if study.feed.area or wish.isochrones else []), *streets]
 
 
 def refuse_wishes(study: Study, inputs: Inputs) -> None:
     """Tells before the run what maps and the page couldn't show after it."""
     if study.results.page:
         leaflet_files(LEAFLET)
-    if not (study.results.maps or study.results.page):
+    if not (study.results.maps or study.results.page or study.results.isochrones):
         return
     origins = set(origins_in(str(inputs.run.files["origins"])))
-    lost = next((stop for stop in study.results.map_origins if stop not in origins), None)
-    if lost is not None:
-        raise BadInput(study.path, f"map_origins of [results]: {lost} is no origin of the study")
+    for key, named in (("map_origins", study.results.map_origins), ("isochrones", study.results.isochrones)):
+        lost = next((stop for stop in named if stop not in origins), None)
+        if lost is not None:
+            raise BadInput(study.path, f"{key} of [results]: {lost} is no origin of the study")
     if not read_stops(inputs.feed).placed.any():
         raise BadInput(
             f"{inputs.feed}/stops.txt",
@@ -90,6 +92,7 @@ def refuse_wishes(study: Study, inputs: Inputs) -> None:
 def make_results(whole: Whole, folder: Folder, records: dict[str, Record], version: list[str]) -> dict[str, Record]:
     """Does all stages behind the matrix."""
     made = make_tables(whole, folder)
+    made |= make_areas(whole, folder)
     maps = make_maps(whole, folder)
     made |= {"maps": maps} if maps else {}
     page = make_page(whole, folder)

@@ -23,6 +23,7 @@ class Measured:
     origins: list[str]
     shares: list[Share]
     numbers: Floats  # by share, origin, opportunity, and cutoff (or count of the nearest)
+    decimals: int = 6  # with which they are written
 
 
 def origins_of(matrix: Matrix, scenario: str) -> list[str]:
@@ -42,18 +43,18 @@ def measured(
     return Measured(scenario, origins, list(shares), np.stack([measure(scenario, share) for share in shares]))
 
 
-def told(number: float) -> str:
-    """A number without needless zeros, to the nearest millionth; nothing for NaN."""
+def told(number: float, decimals: int = 6) -> str:
+    """A number without needless zeros, to the nearest millionth or so; nothing for NaN."""
     if np.isnan(number):
         return ""
-    return str(int(number)) if number == int(number) else f"{number:.6f}".rstrip("0").rstrip(".")
+    return str(int(number)) if number == int(number) else f"{number:.{decimals}f}".rstrip("0").rstrip(".")
 
 
 def write_access(
     out: BinaryIO,
     found: Sequence[Measured],
     opportunities: Sequence[str],
-    limits: Sequence[float],
+    limits: Sequence[float | str],
     *,
     heads: tuple[str, str],
     form: str,
@@ -61,21 +62,22 @@ def write_access(
 ) -> None:
     """Writes what was measured of some scenarios, one after the other."""
     named, middle = ["scenario"] * with_scenario + ["id"], "_nearest_" if heads == NEAREST else "_"
-    cells = list(itertools.product(opportunities, map(told, limits)))
+    texts = [it if isinstance(it, str) else told(it) for it in limits]
+    cells = list(itertools.product(opportunities, texts))
     if form == WIDE:
         header = [*named, "percentile", *[f"{name}{middle}{limit}" for name, limit in cells]]
         write_rows(out, header, wide_rows(found, with_scenario))
     else:
         header = [*named, "opportunity", "percentile", *heads]
-        write_rows(out, header, long_rows(found, opportunities, list(map(told, limits)), with_scenario))
+        write_rows(out, header, long_rows(found, opportunities, texts, with_scenario))
 
 
 def wide_rows(found: Sequence[Measured], with_scenario: bool) -> Iterator[list[object]]:
     for of in found:
         for row, origin in enumerate(of.origins):
             for place, share in enumerate(of.shares):
-                numbers = of.numbers[place, row].ravel().tolist()
-                yield [*[of.scenario] * with_scenario, origin, "" if share is None else share, *map(told, numbers)]
+                texts = [told(number, of.decimals) for number in of.numbers[place, row].ravel().tolist()]
+                yield [*[of.scenario] * with_scenario, origin, "" if share is None else share, *texts]
 
 
 def long_rows(
@@ -88,4 +90,4 @@ def long_rows(
                 for place, share in enumerate(of.shares):
                     for limit, number in zip(limits, numbers[place][column]):
                         head = [*[of.scenario] * with_scenario, origin, name, "" if share is None else share]
-                        yield [*head, limit, told(number)]
+                        yield [*head, limit, told(number, of.decimals)]

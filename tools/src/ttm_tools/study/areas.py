@@ -1,0 +1,43 @@
+"""The areas of a study that are reached from named places within some numbers of minutes, as GeoJSON."""
+
+from pathlib import Path
+
+from ..files import output
+from ..naming import file_names
+from ..points.shown import points_in
+from ..views import isochrones
+from .results import Whole
+from .stages import Folder, Record, Stage
+
+AREAS = "isochrones"
+
+
+def make_areas(whole: Whole, folder: Folder) -> dict[str, Record]:
+    """Writes the areas, where some are asked for."""
+    return {AREAS: folder.do(areas_stage(whole))} if whole.study.results.isochrones else {}
+
+
+def areas_stage(whole: Whole) -> Stage:
+    """A file for each origin, with all scenarios and bands."""
+    study, inputs = whole.study, whole.inputs
+    wish = study.results
+    names = file_names(list(wish.isochrones), ("",))
+
+    def make() -> list[str]:
+        matrix, stops = whole.open()
+        ground = isochrones.ground_of(stops.of(matrix.stops), isochrones.polygons_of(points_in(inputs.feed)))
+        walking = isochrones.Walking(study.walks.speed, study.walks.detour, study.walk_limit)
+        Path(AREAS).mkdir()
+        for origin, name in names.items():
+            bands = isochrones.Bands(
+                origin, matrix.compared, [matrix.share(study.share)], wish.isochrone_bands, walking
+            )
+            found = isochrones.isochrones_of(matrix, ground, bands, whole.counts(matrix))
+            with output(f"{AREAS}/{name}.geojson") as file:
+                isochrones.write_geojson(file, found, origin)
+        return [f"{AREAS}: {len(names)} files"]
+
+    pace = [study.walks.speed, study.walks.detour, study.walk_limit]
+    counted = inputs.records["counted"].outputs if "counted" in inputs.records else {}
+    words = {"origins": list(wish.isochrones), "bands": list(wish.isochrone_bands), "pace": pace, "counted": counted}
+    return Stage(AREAS, {**whole.depends, **words}, [AREAS], make)

@@ -1,0 +1,60 @@
+"""A table of the journeys behind many cells: a line for each pair and scenario, with the parts of its travel time."""
+
+from dataclasses import dataclass
+from typing import Iterator, Sequence
+
+from ..measures.journeys import Leg
+from ..records import shown
+from .journeys import Asked, Found
+
+HEADS = ["scenario", "origin", "destination", "percentile", "seconds", "departure", "access_seconds", "wait_seconds"]
+MORE = ["ride_seconds", "change_seconds", "walk_seconds", "egress_seconds", "rides", "routes", "trips"]
+
+
+@dataclass
+class Parts:
+    """The parts of a journey's travel time, in seconds, which add up to it."""
+
+    access: int = 0  # the walk before the first ride, or all of a journey on foot
+    wait: int = 0
+    ride: int = 0
+    change: int = 0  # that pass before one may board, after another vehicle
+    walk: int = 0  # between rides
+    egress: int = 0  # behind the last ride
+
+
+def parts_of(legs: Sequence[Leg], departure: int) -> Parts:
+    """The parts of a journey that sets out at a time."""
+    made, time, rides = Parts(), departure, [place for place, leg in enumerate(legs) if leg.run is not None]
+    for place, leg in enumerate(legs):
+        seconds = leg.finish - leg.begin
+        if leg.run is not None:
+            made.change += leg.change
+            made.wait += leg.begin - time - leg.change
+            made.ride += seconds
+        elif not rides or place < rides[0]:
+            made.access += seconds
+        elif place > rides[-1]:
+            made.egress += seconds
+        else:
+            made.walk += seconds
+        time = leg.finish
+    return made
+
+
+def lines_of(asked: Asked, found: Sequence[Found]) -> Iterator[list[object]]:
+    """The lines of a pair, one for each scenario; without parts where too few departures get there."""
+    stops = [asked.timetable.stops[place] for place in (asked.origin, asked.destination)]
+    for of in found:
+        head: list[object] = [of.name, *stops, asked.share]
+        if of.cell is None or of.chosen is None:
+            yield [*head, *[""] * (len(HEADS) + len(MORE) - len(head))]
+            continue
+        departure = asked.departures[of.chosen]
+        it = parts_of(of.legs, departure)
+        trips = [int(of.runs.trip[leg.run]) for leg in of.legs if leg.run is not None]
+        parts = [it.access, it.wait, it.ride, it.change, it.walk, it.egress]
+        names = [
+            " ".join(shown(names[trip]) for trip in trips) for names in (asked.timetable.routes, asked.timetable.trips)
+        ]
+        yield [*head, of.cell, asked.clock(departure), *parts, len(trips), *names]
