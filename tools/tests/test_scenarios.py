@@ -3,13 +3,18 @@
 import csv
 import random
 import shutil
+import warnings
 from pathlib import Path
+from typing import Any
 
+import numpy as np
 import pytest
 
 import helpers
+import ttm_tools
 from helpers import Cell, Room, Town, read, town_matrix
 from test_damages import damaged
+from ttm_tools.walks import Walks
 
 STOPS = [["A", "Alpha", 50.0, 8.0], ["B", "Beta", 50.0, 8.014], ["C", "", 50.0, 8.028], ["D", "Delta", 50.0, 8.042]]
 CALENDAR = "service_id,monday,tuesday,wednesday,thursday,friday,saturday,sunday,start_date,end_date"
@@ -516,6 +521,52 @@ def test_walks_that_bring_old_stops_nearer_are_told(small: Room) -> None:
     assert small.ran(*words)[1].splitlines()[1] == f"{nearer}590 seconds apart by way of them, and 591 without"
     small.write("walks.csv", "from_stop_id,to_stop_id,seconds", [*table[:2], ["B", "A", 600]])
     assert small.ran(*words)[1].endswith("590 seconds apart by way of them, and out of reach without\n")
+
+
+@pytest.fixture
+def with_new_stop(small: Room) -> Room:
+    """The feed `out` with a new stop N, and walks by way of which A and B are 590 seconds apart."""
+    line = 'do = "add_line"\nroute = "T"\nstops = ["A", "N"]\nspeed = 30\nservice = "M"'
+    made(small, f'{line}\ndepartures = [{{ first = "8:00", last = "8:00", every = 60 }}]', before=NEW_STOP)
+    small.write("walks.csv", "from_stop_id,to_stop_id,seconds", [["A", "N", 290], ["N", "B", 300]])
+    return small
+
+
+NEARER = "walks to new stops bring 1 pairs of old stops nearer, so today isn't as it was: A and B, 590 seconds apart"
+
+
+def test_walks_that_bring_old_stops_nearer_are_told_in_python(with_new_stop: Room, program: str) -> None:
+    """Where single walks end before the run's do: 300 seconds and 600."""
+    scenarios = [with_new_stop.path(f"out/scenarios/{name}.csv") for name in ("today", "new")]
+    ends = ("08:00", "08:00")
+    words: dict[str, Any] = {"footpaths": with_new_stop.path("walks.csv"), "program": program, "scenarios": scenarios}
+    with pytest.warns(UserWarning, match=NEARER):
+        found = ttm_tools.matrix(with_new_stop.path("out"), "20260504", ends, walk=600, **words)
+    assert found.times("today", 50).loc["A", "B"] == 300  # by the bus; on foot it takes 590
+    with warnings.catch_warnings():
+        warnings.simplefilter("error")
+        ttm_tools.matrix(with_new_stop.path("out"), "20260504", ends, walk=589, **words)
+
+
+def test_walks_that_bring_old_stops_nearer_are_told_by_explain(with_new_stop: Room, program: str) -> None:
+    words = ["--origin", "A", "--destination", "B", "--date", "20260504", "--from", "08:00", "--to", "08:00"]
+    words += ["--footpaths", with_new_stop.path("walks.csv"), "--program", program]
+    scenario = with_new_stop.path("out/scenarios/today.csv")
+    _, told, status = with_new_stop.ran("explain", with_new_stop.path("out"), scenario, *words)
+    assert status == 0 and told.startswith(NEARER), told
+
+
+def test_walks_that_bring_old_stops_nearer_are_told_by_points(
+    with_new_stop: Room, monkeypatch: pytest.MonkeyPatch
+) -> None:
+    """Walks of an engine that finds no way from A to B but by way of N."""
+    places = np.array([[0, 4, 290], [4, 1, 300], [5, 0, 10]])  # A, B, C, D, N and the point P
+    names = ["A", "B", "C", "D", "N", "P"]
+    monkeypatch.setattr("ttm_tools.walks.walks_of", lambda *_: Walks(names, places[:, 0], places[:, 1], places[:, 2], 0))
+    points = with_new_stop.write("points.csv", "id,lat,lon", [["P", 50.0, 8.0]])
+    words = ["points", with_new_stop.path("out"), points, "--out", with_new_stop.path("doors"), "--limit", "590"]
+    _, told, status = with_new_stop.ran(*words)
+    assert status == 0 and told.splitlines()[-1].startswith(NEARER), told
 
 
 def test_limits_of_ttm_are_told_before_anything_is_written(small: Room, monkeypatch: pytest.MonkeyPatch) -> None:

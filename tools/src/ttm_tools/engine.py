@@ -6,6 +6,7 @@ import re
 import shutil
 import subprocess
 import sysconfig
+import warnings
 from dataclasses import dataclass, field
 from pathlib import Path
 from typing import Any, Iterable, Mapping, Sequence
@@ -16,6 +17,7 @@ from .dates import as_ttm_reads
 from .faults import BadInput, Lacking, WrongWords
 from .files import output, scratch
 from .matrices import BASE, TODAY, Matrix, Seconds, Sums, open_matrix
+from .plans.nearness import told_nearer
 from .records import Rounded, write_rows
 
 FAULT = re.compile(r"ttm: (?:(?P<file>.+?): )?(?:record (?P<record>[0-9]+): )?(?P<what>[^:]*)")
@@ -118,13 +120,21 @@ def program_at(path: Pathlike | None) -> str:
 
 def run(asked: Run, out: Pathlike, program: Pathlike | None = None) -> None:
     """Runs `ttm`; the matrix gets its name when it is whole, and a fault leaves none. The report is asked for, as it
-    explains a refusal.
+    explains a refusal. A warning says where walks to a plan's new stops bring old stops nearer.
     """
     with output(str(out)) as file:
         words = [program_at(program), *asked.words(), "--report"]
         ran = subprocess.run(words, stdout=file, stderr=subprocess.PIPE)
         if ran.returncode != 0:
             raise EngineFault("\n".join(refusal_of(ran.stderr, ran.returncode)), ran.returncode)
+    for line in nearer_by_plan(asked):
+        warnings.warn(line, stacklevel=2)
+
+
+def nearer_by_plan(asked: Run) -> list[str]:
+    """A sentence where walks to a plan's new stops bring old stops nearer, so that today isn't the feed as it was."""
+    footpaths = asked.files.get("footpaths")
+    return [] if footpaths is None else list(told_nearer(str(asked.feed), str(footpaths), asked.walk))
 
 
 @dataclass(frozen=True)

@@ -6,8 +6,8 @@ from dataclasses import replace
 from pathlib import Path
 from typing import Sequence
 
-from .engine import Pathlike, Run, origins_file, run
-from .faults import BadInput
+from .engine import Pathlike, Run, nearer_by_plan, origins_file, run
+from .faults import BadInput, say
 from .feed import read_stops
 from .files import scratch
 from .matrices import BASE, TODAY, Matrix, open_matrix
@@ -39,6 +39,7 @@ def found_of(
         cells = cells_of(open_matrix(matrix), names, asked.shares[0], origin, destination)
     else:
         cells = cells_of_ttm(asked, names, origin, destination, program)
+    say(*nearer_by_plan(asked))
     timetable = read_timetable(stops)
     footpaths = asked.files.get("footpaths")
     first, last = (int(text[:2]) * 60 + int(text[3:]) for text in asked.window)

@@ -24,8 +24,9 @@ stay as they are; where one is a stop's already, or a point's of a file before, 
 name and a colon.
 
 Walks are those of ttm-tools walks, straight lines or along streets; a point has no entrances. A point without any stop
-in reach is told. ttm takes 65,535 stops, stations and points, and 4,000,000 walks: more are told before anything is
-written. Memory: some 150 MB, 150 bytes for each walk, and with --streets 800 for each node of the ways."""
+in reach is told, and so is where walks by way of a plan's new stops bring old stops nearer. ttm takes 65,535 stops,
+stations and points, and 4,000,000 walks: more are told before anything is written. Memory: some 150 MB, 150 bytes for
+each walk, and with --streets 800 for each node of the ways."""
 
 
 def describe(parser: argparse.ArgumentParser) -> None:
@@ -47,9 +48,10 @@ def run(words: argparse.Namespace) -> int:
     from ..faults import WrongWords, needs, say
 
     needs("numpy")
+    from ..plans.nearness import told_nearer
     from ..points import read_points
     from ..points.table import Columns
-    from ..points.study import Asked, make
+    from ..points.study import FEED, FOOTPATHS, Asked, make
     from ..walks import Pace, walks_of
 
     files, begins, ends = files_of(words)
@@ -60,6 +62,7 @@ def run(words: argparse.Namespace) -> int:
     asked = Asked(words.feed, words.out, points, begins, ends, words.limit, words.leave_out, words.near)
     pace = Pace(words.limit, words.speed, words.detour)
     say(*make(asked, lambda stops, first: walks_of(stops, pace, words.streets, words.near, first)))
+    say(*told_nearer(f"{words.out}/{FEED}", f"{words.out}/{FOOTPATHS}", words.limit))
     return 0
 
 

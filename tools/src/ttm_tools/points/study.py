@@ -24,7 +24,7 @@ from ..walks import Walks, told as what_is_told
 from .table import Points, plain
 
 MOST_STOPS, MOST_PAIRS = 65_535, 4_000_000  # that `ttm` takes
-FEED, POINTS, WORDS, LABELS = "feed", "points.csv", "words.txt", "labels.csv"
+FEED, POINTS, WORDS, LABELS, FOOTPATHS = "feed", "points.csv", "words.txt", "labels.csv", "footpaths.csv"
 SCENARIOS, NEW_STOPS = "scenarios", "new_stops.csv"  # of a plan, beside its feed
 HELPS, HELPS_AFTER = "--leave-out leaves out points without a stop in reach; or ", "take parts of the region"
 PLACE = ("stop_name", "stop_lat", "stop_lon")
@@ -240,7 +240,7 @@ def has_heights(points: Points) -> bool:
 def write_files(folder: Path, asked: Asked, study: Study, walks: Walks, rounded: Rounded) -> None:
     """Writes what stands beside the feed."""
     ends = {"origins.csv": study.of_files(asked.begins), "destinations.csv": study.of_files(asked.ends)}
-    with open(folder / "footpaths.csv", "wb") as out:
+    with open(folder / FOOTPATHS, "wb") as out:
         write_rows(out, ["from_stop_id", "to_stop_id", "seconds"], walks.rows())
     for name, stops in ends.items():
         with open(folder / name, "wb") as out:
@@ -269,7 +269,7 @@ def words(asked: Asked) -> str:
     folder = Path(asked.out)
     options = {
         "feed": folder / FEED,
-        "footpaths": folder / "footpaths.csv",
+        "footpaths": folder / FOOTPATHS,
         "walk": asked.limit,
         "origins": folder / "origins.csv",
     }

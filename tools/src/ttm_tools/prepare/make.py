@@ -16,7 +16,7 @@ from .clip import Clip, clip, near, on_days
 from .days import runs_of_trips
 from .fields import FILES
 from .likely import of_days
-from .losses import counts_of, left, refuse_day, refuse_losses
+from .losses import counts_of, left, no_runs, refuse_day, refuse_losses
 from .merge import merge
 from .report import CHANGE_COLUMNS, Change, fault_lines
 from .rules import repair
@@ -65,13 +65,22 @@ def make(asked: Asked, room: Path) -> list[str]:
     lines += [*merged, *(of_days(feed) if changes else [])]
     if not asked.allows_loss:
         refuse_day(asked.paths[0] if len(feeds) == 1 else "the feeds", feed, asked.day)
-    lines += clip(feed, asked.clip) if asked.clip.is_any else []
+    if asked.clip.is_any:
+        lines += clip(feed, asked.clip)
+        refuse_empty(asked, feed)
     refuse_limits(feed)
     with many_written_aside(asked.out) as folder:
         write_feed(feed, folder)
         with open(folder / PREPARED, "wb") as file:
             write_rows(file, CHANGE_COLUMNS, [change.row() for change in changes])
     return [*lines, *run_lines(feed, asked.clip.days), counted(asked.out, feed)]
+
+
+def refuse_empty(asked: Asked, feed: Feed) -> None:
+    """Ends where no trip of what was clipped runs on the day of the departures."""
+    found = None if asked.allows_loss or asked.day is None else no_runs(feed, asked.day)
+    if found:
+        raise BadInput(asked.out, f"clipped to nothing that runs: {found} (--allow-loss takes what is left)")
 
 
 def refuse_faults(path: str, feed: Feed, help: str) -> None:

@@ -1,5 +1,6 @@
 """A study's files looked at beside each other, before any work that takes long."""
 
+import datetime
 from pathlib import Path
 from typing import Collection, Sequence
 
@@ -7,7 +8,11 @@ from ..faults import BadInput
 from ..measures.opportunities import called, columns_of, numbers_of
 from ..parts import origins_in, origins_of_feed
 from ..points import read_points
+from ..prepare.check import check
+from ..prepare.losses import refuse_day
+from ..prepare.tables import read_feed
 from ..records import rows, shown
+from .stages import room
 from .wishes import Study
 
 OF_STUDY, OF_ORIGINS = "point of the study", "point at which journeys begin"
@@ -42,6 +47,16 @@ def check_stops(study: Study, feed: str) -> None:
     if study.opportunities.people:
         check_names(study.at(study.opportunities.people), origins, "origin of the study")
     check_map_origins(study, origins)
+
+
+def check_runs(study: Study, folder: str, day: datetime.date) -> None:
+    """Ends where no trip of a feed that is ready runs on the day; what is wrong with the feed itself, `ttm` says."""
+    if study.feed.allow_loss:
+        return
+    with room() as made:
+        feed = read_feed(folder, made)
+        if not check(feed):
+            refuse_day(study.at(study.feed.files[0]), feed, day)
 
 
 def names_of(files: dict[str, list[str]]) -> set[str]:

@@ -22,7 +22,7 @@ from ..points import read_points, study as points
 from ..prepare.clip import Clip
 from ..records import Rounded, records, shown, write_rows
 from ..walks import Pace, Walks, read_walks, told as what_is_told, walks_of
-from .checks import check_points, check_stops
+from .checks import check_points, check_runs, check_stops
 from .counted import (
     OPPORTUNITIES,
     ORIGINS,
@@ -230,7 +230,9 @@ def feed_stage(maker: Maker) -> Stage:
 
     def make() -> list[str]:
         if wish.ready:
-            return taken(paths[0])
+            told = taken(paths[0])
+            check_runs(study, FEED, date_of(study))
+            return told
         from ..prepare.make import Asked, make as make_ready
 
         with room() as made:

@@ -2,14 +2,18 @@
 
 import contextlib
 import itertools
+import signal
 import sys
+import threading
 import time
 from dataclasses import dataclass
+from types import FrameType
 from typing import Generator, Iterator, Sequence
 
 from .. import progress
 from ..engine import Run
 from ..faults import BadInput, say
+from ..files import Interrupted
 from .cutting import Part
 from .stages import log
 from .ttm import Running, with_origins
@@ -27,16 +31,20 @@ class Failed:
 
 
 def run_parts(run: Run, parts: Sequence[Part], at_once: int, threads: int) -> list[Failed]:
-    """Computes the parts that aren't done; one that fails is told at once, and the others go on."""
+    """Computes the parts that aren't done; one that fails is told at once, and the others go on. The first Ctrl-C has
+    no more parts begin, and keeps those that run.
+    """
     missing = [part for part in parts if not part.is_done()]
     if len(parts) > len(missing) > 0:
         say(f"parts: {len(parts) - len(missing)} of {len(parts)} are there already")
-    failed = list[Failed]()
-    with contextlib.closing(ends_of(run, missing, at_once, threads)) as ended:
+    failed, pool = list[Failed](), Pool(run, missing, at_once, threads)
+    with ends_gently(pool), contextlib.closing(ends_of(pool)) as ended:
         for it in shown(ended, len(missing)):
             if it is not None:
                 failed.append(it)
                 say(f"part {it.part.number}: {it.told}")
+    if pool.is_ending:
+        raise Interrupted(signal.SIGINT)
     return failed
 
 
@@ -48,12 +56,21 @@ class Pool:
         self.waiting = list(reversed(missing))
         self.said = time.monotonic()
         self.running: dict[int, tuple[Part, Running]] = {}
+        self.is_ending = False  # whether no more parts begin, since somebody pressed Ctrl-C
+        self.has_said_so = False
+
+    @property
+    def goes_on(self) -> bool:
+        return bool(self.running) or (bool(self.waiting) and not self.is_ending)
 
     def fill(self) -> None:
         """Begins as many runs as there is room for."""
-        while self.waiting and len(self.running) < self.at_once:
+        while self.waiting and len(self.running) < self.at_once and not self.is_ending:
             part = self.waiting.pop()
             self.running[part.number] = (part, begun(self.run, part, self.threads))
+        if self.is_ending and self.running and not self.has_said_so:
+            self.has_said_so = True
+            say(f"interrupted: {len(self.running)} parts that run are waited for and kept; Ctrl-C again ends them")
 
     def over(self) -> list[tuple[Part, Running]]:
         """The runs that are over, after a while."""
@@ -76,11 +93,30 @@ class Pool:
             it.stop()
 
 
-def ends_of(run: Run, missing: Sequence[Part], at_once: int, threads: int) -> Generator[Failed | None, None, None]:
-    """What became of each part, as they end; all that run are ended where this is left."""
-    pool = Pool(run, missing, at_once, threads)
+@contextlib.contextmanager
+def ends_gently(pool: Pool) -> Iterator[None]:
+    """Has the first Ctrl-C begin no more parts, and the second one do what it does elsewhere."""
+    before = signal.getsignal(signal.SIGINT)
+    if threading.current_thread() is not threading.main_thread() or before is signal.SIG_IGN:
+        yield
+        return
+
+    def end(_: int, __: FrameType | None) -> None:
+        signal.signal(signal.SIGINT, before)
+        pool.is_ending = True
+
+    signal.signal(signal.SIGINT, end)
     try:
-        while pool.waiting or pool.running:
+        yield
+    finally:
+        if signal.getsignal(signal.SIGINT) is end:
+            signal.signal(signal.SIGINT, before)
+
+
+def ends_of(pool: Pool) -> Generator[Failed | None, None, None]:
+    """What became of each part, as they end; all that run are ended where this is left."""
+    try:
+        while pool.goes_on:
             pool.fill()
             yield from itertools.starmap(ended, pool.over())
     finally:

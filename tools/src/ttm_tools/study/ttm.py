@@ -96,7 +96,9 @@ def aside_of(path: Path) -> Path:
 
 
 class Running:
-    """A run that goes on: its matrix is written aside, and gets its name when `end` finds it whole."""
+    """A run that goes on: its matrix is written aside, and gets its name when `end` finds it whole. It has a session of
+    its own, so that Ctrl-C reaches this process alone, which decides what becomes of the run.
+    """
 
     def __init__(self, run: Run, out: Path, words: Sequence[str] = ()) -> None:
         self.out, self.begin = out, time.monotonic()
@@ -104,7 +106,8 @@ class Running:
         self.told = tempfile.TemporaryFile()
         called = [program_at(None), *run.words(), *words]
         with open(self.made, "wb") as matrix:
-            self.process = subprocess.Popen(called, stdout=matrix, stderr=self.told, preexec_fn=die_with_parent)
+            how: dict[str, Any] = {"preexec_fn": die_with_parent, "start_new_session": True}
+            self.process = subprocess.Popen(called, stdout=matrix, stderr=self.told, **how)
 
     def is_over(self) -> bool:
         return self.process.poll() is not None
