@@ -107,6 +107,13 @@ class Room:
         assert self.ran(*words) == ("", f"ttm-tools {words[0]}: {told}\n", 1)
         assert self.names() == before
 
+    def refused_with(self, told: str, *words: str) -> None:
+        """The command ends with one line that begins so, and the status 1, and leaves no new file."""
+        before = self.names()
+        out, said, status = self.ran(*words)
+        assert (out, status, said.count("\n")) == ("", 1, 1) and said.startswith(f"ttm-tools {words[0]}: {told}"), said
+        assert self.names() == before
+
 
 class Town(Room):
     """A room with the town's feed, and its matrix once `matrix` has written it."""

@@ -139,6 +139,38 @@ def test_nested_and_long_texts_of_toml_and_json_are_told(room: Room) -> None:
         assert told(room, "prepare", *area, str(room.folder)).startswith(f"{room.path('a.geojson')}: ")
 
 
+def test_two_equal_columns_are_told(town: Town) -> None:
+    """Which of them is meant can't be known; nor which of two stops of the same name."""
+    town.matrix(town_matrix(True))
+    access = town.write(
+        "access.csv", "scenario,id,opportunity,percentile,cutoff,accessibility", [["base", "A", "j", 50, 30, 7]]
+    )
+    points = town.write("cells.csv", "id,lat,lon,people, people", [["p", 0.0, 9.001, 1, 2]])
+    twice = town.write("twice.csv", "id,id,lat,lon", [["p", "q", 0.0, 9.001]])
+    jobs = town.write("jobs.csv", "stop_id,jobs,jobs", [["A", 1, 2]])
+    for name, path, words in (
+        ("people", points, ["points", "--out", town.path("out"), town.feed, points]),
+        ("id", twice, ["points", "--out", town.path("out"), town.feed, twice]),
+        ("jobs", jobs, ["access", "--opportunities", jobs, town.file]),
+        ("jobs", jobs, ["equity", access, "--people", jobs]),
+        ("jobs", jobs, ["page", "--feed", town.feed, "--people", jobs, "--out", town.path("out"), town.file]),
+    ):
+        assert told(town, *words) == f"{path}: record 1: two columns {name}"
+    town.matrix(town_matrix(True, stops=("A", "B", "C", "C")))
+    words = ["omx", "--out", town.path("out.omx"), town.file]
+    assert told(town, *words) == f"{town.file}: 'C' destination 4 is there twice"
+
+
+def test_a_property_that_is_called_as_the_shapes_is_told(town: Town) -> None:
+    pytest.importorskip("geopandas")
+    shape = '"geometry": {"type": "Point", "coordinates": [9, 1]}'
+    feature = '{"type": "Feature", "properties": {"id": "a", "geometry": 5}, ' + shape + "}"
+    path = town.path("a.geojson")
+    Path(path).write_text('{"type": "FeatureCollection", "features": [' + feature + "]}")
+    words = ["points", "--out", town.path("out"), town.feed, path]
+    assert told(town, *words).startswith(f"{path}: not read: ")
+
+
 def test_the_sources_of_a_feed_do_not_lead_out_of_it(room: Room) -> None:
     (room.folder / "feed").mkdir()
     (room.folder / "secret.txt").write_text("secret\n")

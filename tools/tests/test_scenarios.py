@@ -537,12 +537,11 @@ NEARER = "walks to new stops bring 1 pairs of old stops nearer, so today isn't a
 
 def test_walks_that_bring_old_stops_nearer_are_told_in_python(with_new_stop: Room, program: str) -> None:
     """Where single walks end before the run's do: 300 seconds and 600."""
-    scenarios = [with_new_stop.path(f"out/scenarios/{name}.csv") for name in ("today", "new")]
     ends = ("08:00", "08:00")
-    words: dict[str, Any] = {"footpaths": with_new_stop.path("walks.csv"), "program": program, "scenarios": scenarios}
+    words: dict[str, Any] = {"footpaths": with_new_stop.path("walks.csv"), "program": program}
     with pytest.warns(UserWarning, match=NEARER):
         found = ttm_tools.matrix(with_new_stop.path("out"), "20260504", ends, walk=600, **words)
-    assert found.times("today", 50).loc["A", "B"] == 300  # by the bus; on foot it takes 590
+    assert found.times().loc["A", "B"] == 300  # by the bus; on foot it takes 590
     with warnings.catch_warnings():
         warnings.simplefilter("error")
         ttm_tools.matrix(with_new_stop.path("out"), "20260504", ends, walk=589, **words)
@@ -551,8 +550,7 @@ def test_walks_that_bring_old_stops_nearer_are_told_in_python(with_new_stop: Roo
 def test_walks_that_bring_old_stops_nearer_are_told_by_explain(with_new_stop: Room, program: str) -> None:
     words = ["--origin", "A", "--destination", "B", "--date", "20260504", "--from", "08:00", "--to", "08:00"]
     words += ["--footpaths", with_new_stop.path("walks.csv"), "--program", program]
-    scenario = with_new_stop.path("out/scenarios/today.csv")
-    _, told, status = with_new_stop.ran("explain", with_new_stop.path("out"), scenario, *words)
+    _, told, status = with_new_stop.ran("explain", with_new_stop.path("out"), *words)
     assert status == 0 and told.startswith(NEARER), told
 
 
@@ -562,7 +560,9 @@ def test_walks_that_bring_old_stops_nearer_are_told_by_points(
     """Walks of an engine that finds no way from A to B but by way of N."""
     places = np.array([[0, 4, 290], [4, 1, 300], [5, 0, 10]])  # A, B, C, D, N and the point P
     names = ["A", "B", "C", "D", "N", "P"]
-    monkeypatch.setattr("ttm_tools.walks.walks_of", lambda *_: Walks(names, places[:, 0], places[:, 1], places[:, 2], 0))
+    monkeypatch.setattr(
+        "ttm_tools.walks.walks_of", lambda *_: Walks(names, places[:, 0], places[:, 1], places[:, 2], 0)
+    )
     points = with_new_stop.write("points.csv", "id,lat,lon", [["P", 50.0, 8.0]])
     words = ["points", with_new_stop.path("out"), points, "--out", with_new_stop.path("doors"), "--limit", "590"]
     _, told, status = with_new_stop.ran(*words)

@@ -4,9 +4,9 @@ of a feed.
 
 import math
 import os
-from dataclasses import dataclass
+from dataclasses import dataclass, field
 from functools import cached_property
-from typing import Sequence
+from typing import Mapping, Sequence
 
 import numpy as np
 import numpy.typing as npt
@@ -16,6 +16,7 @@ from .records import columns, number_of, rows, shown
 
 
 Floats = npt.NDArray[np.float64]
+Area = Sequence[Sequence[Floats]]  # polygons, each an outer ring and its holes: rows of longitude and latitude
 EARTH = 6_371_008.8  # mean radius in metres
 GRID = 0.01  # kilometres on which the ends of pieces of lines are laid
 
@@ -33,6 +34,7 @@ class Stops:
     stations: list[str]  # parent_station, "" where none is named
     widths: Floats | None = None  # of cells that are drawn in place of marks, metres; NaN where there is none
     heights: Floats | None = None  # of these cells, metres; NaN where one is as high as it is wide
+    areas: Mapping[str, Area] = field(default_factory=dict)  # of cells that have another shape, by identifier
 
     @cached_property
     def places(self) -> dict[str, int]:
@@ -48,7 +50,8 @@ class Stops:
         names, stations = ([texts[place] for place in chosen] for texts in (self.names, self.stations))
         places = (self.latitudes[chosen], self.longitudes[chosen])
         sides = [None if it is None else it[chosen] for it in (self.widths, self.heights)]
-        return Stops(self.path, list(identifiers), names, *places, self.kinds[chosen], stations, *sides)
+        areas = {name: self.areas[name] for name in identifiers if name in self.areas} if self.areas else {}
+        return Stops(self.path, list(identifiers), names, *places, self.kinds[chosen], stations, *sides, areas)
 
     def sides(self) -> Floats:
         """How wide and how high the cell of each stop is, in metres; NaN for a stop that has none."""

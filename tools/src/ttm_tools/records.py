@@ -54,6 +54,14 @@ def places_of(header: Sequence[str], path: str | Path, needed: Sequence[str]) ->
     return places
 
 
+def refuse_alike(path: str | Path, header: Sequence[str], names: Iterable[str]) -> None:
+    """Refuses a file that has two columns of one of these names: which of them is meant can't be known."""
+    heads = [it.strip(" ") for it in header]
+    twice = next((name for name in names if heads.count(name) > 1), None)
+    if twice is not None:
+        raise BadInput(path, f"two columns {shown(twice)}", record=1)
+
+
 def rows(path: str | Path, needed: Sequence[str], wanted: Sequence[str] = ()) -> Iterator[tuple[int, list[str]]]:
     """Each record after the header, with its number and the needed and wanted fields in that order; "" where a wanted
     column isn't there.

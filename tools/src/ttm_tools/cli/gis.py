@@ -9,7 +9,8 @@ HELP = """\
 Writes the stops of a matrix as points for a geographic information system, with their access, and with --origin their
 travel times from there: a column for each scenario, share and limit, such as base_50_access_1800 and base_50_seconds,
 empty where a stop is no origin or isn't reached. A name that ends in .geojson or .json writes GeoJSON, one in .gpkg a
-GeoPackage (needs geopandas). Stops without coordinates are left out, and counted. Memory: some 100 MB."""
+GeoPackage (needs geopandas). Points that are areas keep their polygons; in a GeoPackage all of these are of the kind
+MultiPolygon. Stops without coordinates are left out, and counted. Memory: some 100 MB."""
 
 
 def describe(parser: argparse.ArgumentParser) -> None:

@@ -12,7 +12,8 @@ and who gains in a scenario beside the base (difference): access at each origin,
 each stop. Who is cut off is a class of its own: a stop that isn't reached any more, an origin that loses all access. So
 is who is newly reached: a stop that wasn't reached before, an origin that had no access before.
 
-Points are drawn alone where the matrix has them, as squares where the file of points says how wide they are.
+Points are drawn alone where the matrix has them: as squares where the file of points says how wide they are, and as
+areas where it has these.
 Stops are drawn where the feed's stops.txt has them, over the lines of its shapes.txt, or over straight ones from stop
 to stop where it has none. With --edits the lines of the trips that a scenario file removes are drawn black; in a
 difference from a base that has a scenario file of its own, name both files, and the trips that the base lacks and the

@@ -14,9 +14,9 @@ works by keyboard, on a phone, and on paper.
 
 Travel times are in whole minutes, rounded up. All travel times are in the page where the matrix has up to 60 million
 of them; else those from the stops that --origins names, or from as many drawn ones as there is room for, and access
-from all. Where the feed has points they alone are shown, as squares where their file says how wide they are. With
---edits a scenario's file draws what it takes out of the base, and adds to it where the base has a file, too; of a feed
-that ttm-tools scenarios wrote its own files are taken.
+from all. Where the feed has points they alone are shown: as squares where their file says how wide they are, and as
+areas where it has these. With --edits a scenario's file draws what it takes out of the base, and adds to it where the
+base has a file, too; of a feed that ttm-tools scenarios wrote its own files are taken.
 
 Needs jinja2, pandas, and Leaflet from Debian's libjs-leaflet, which is written into the page with its licence. The same
 words and files give the same bytes. Memory: some 200 MB, a byte for each cell of the page, and 110 bytes for each stop

@@ -19,9 +19,9 @@ at the points of POINTS, begin at those of --origins, and end at those of --dest
 The folder has: feed, the feed with the points; footpaths.csv, the walks between points and stops, of stops and of
 points, within the limit; origins.csv and destinations.csv, the points; opportunities_NAME.csv for each column, its
 numbers made whole for ttm; labels.csv, the labels, where there are any; and words.txt, the words that a run begins
-with. feed/points.csv has all points with their numbers, and by it the other commands show points alone. Identifiers
-stay as they are; where one is a stop's already, or a point's of a file before, those of its file begin with the file's
-name and a colon.
+with. feed/points.csv has all points with their numbers, and by it the other commands show points alone; map, page and
+gis show areas with their shapes, which feed/areas.geojson keeps. Identifiers stay as they are; where one is a stop's
+already, or a point's of a file before, those of its file begin with the file's name and a colon.
 
 Walks are those of ttm-tools walks, straight lines or along streets; a point has no entrances. A point without any stop
 in reach is told, and so is where walks by way of a plan's new stops bring old stops nearer. ttm takes 65,535 stops,

@@ -67,6 +67,8 @@ def write_open_matrix(matrix: Matrix, path: str, threads: int | None = None) -> 
             what = f"{scenario}, share {share}" if share is not None else scenario
             lost = lacking((layouts[0][0], first), (what, names)) or f"{what} has them in another order"
             raise BadInput(matrix.path, f"an Open Matrix file has one list of origins: {lost}")
+    refuse_twice(first, "origin", matrix.path)
+    refuse_twice(matrix.stops, "destination", matrix.path)
     with written_aside(path) as made, h5py.File(made, "w") as file:
         file.attrs["OMX_VERSION"] = np.bytes_(b"0.2")
         file.attrs["SHAPE"] = np.array([len(first), len(matrix.stops)], np.int32)

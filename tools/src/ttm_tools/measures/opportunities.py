@@ -8,7 +8,7 @@ import numpy as np
 
 from ..faults import BadInput, some
 from ..feed import Floats
-from ..records import number_of, places_of, records, rows, shown
+from ..records import number_of, places_of, records, refuse_alike, rows, shown
 
 IDENTIFIERS = ("stop_id", "id")  # the column that names a stop or a point: the first of these that is there
 NO_COUNTS = {
@@ -64,10 +64,11 @@ def called(column: str, path: str) -> str:
 
 
 def columns_of(path: str) -> list[str]:
-    """The columns of numbers of a file: all but the identifier, names and places."""
+    """The columns of numbers of a file: all but the identifier, names and places; no two of them are called alike."""
     _, header = next(records(path), (1, list[str]()))
-    names = list(places_of(header, path, []))
-    made = [name for name in names if name not in NO_COUNTS and name not in IDENTIFIERS and name]
+    names = [name for name in places_of(header, path, []) if name]
+    refuse_alike(path, header, [name for name in names if name not in NO_COUNTS])
+    made = [name for name in names if name not in NO_COUNTS and name not in IDENTIFIERS]
     if not made:
         raise BadInput(path, "no column of numbers beside the identifier", record=1)
     return made

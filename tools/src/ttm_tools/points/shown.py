@@ -1,6 +1,7 @@
 """What is shown of a matrix: points alone where it has them, with their names and places."""
 
 import os
+from dataclasses import replace
 
 import numpy as np
 
@@ -8,6 +9,7 @@ from ..faults import BadInput
 from ..feed import Stops, read_stops
 from ..matrices import Matrix
 from ..matrices.chosen import Chosen
+from .areas import areas_beside
 from .study import POINTS
 from .table import Points, read_points
 
@@ -25,15 +27,25 @@ def shown_of(matrix: Matrix, feed: str | None, points: str | None) -> tuple[Matr
     stops, path = read_stops(feed) if feed is not None else None, points or points_in(feed)
     if path is None:
         return matrix, stops
-    found = read_points(path)
+    found = with_areas(read_points(path))
     made = Chosen(matrix, found.identifiers)
     if points is not None and not made.is_any:
         raise BadInput(matrix.path, f"it has no point of {points}")
     return made, with_points(stops, found) if stops is not None else found.as_stops()
 
 
+def with_areas(points: Points) -> Points:
+    """The points of a folder that `ttm-tools points` wrote with their areas, which lie beside them; others as they
+    are.
+    """
+    is_of_folder = os.path.basename(points.path) == POINTS
+    return replace(points, areas=areas_beside(points.path)) if is_of_folder else points
+
+
 def with_points(stops: Stops, points: Points) -> Stops:
-    """The stops of a feed, of which some are points: with widths, and with those points behind them that it hasn't."""
+    """The stops of a feed, of which some are points: with widths and areas, and with those points behind them that it
+    hasn't.
+    """
     new = np.array([place for place, name in enumerate(points.identifiers) if name not in stops.places], dtype=np.intp)
     more = points.only(new).as_stops()
     heights = np.full(len(points.identifiers), np.nan) if points.heights is None else points.heights
@@ -49,4 +61,5 @@ def with_points(stops: Stops, points: Points) -> Stops:
         np.concatenate([stops.kinds, more.kinds]),
         stops.stations + more.stations,
         *sides.T,
+        points.areas,
     )

@@ -21,6 +21,7 @@ from ..opening.paths import inside
 from ..parts import write_stops
 from ..records import Rounded, places_of, records, shown, write_rows
 from ..walks import Walks, told as what_is_told
+from .areas import AREAS_FILE, write_areas
 from .table import Points, plain
 
 MOST_STOPS, MOST_PAIRS = 65_535, 4_000_000  # that `ttm` takes
@@ -124,7 +125,8 @@ def study_of(files: Sequence[Points], prefixes: Sequence[str]) -> Study:
     for points in files:
         for name, texts in labels.items():
             texts.extend(points.labels.get(name, [""] * len(points.identifiers)))
-    whole = Points(path, identifiers, names, north, east, wide, columns, numbers, labels, high)
+    areas = {prefix + own: area for points, prefix in zip(files, prefixes) for own, area in points.areas.items()}
+    whole = Points(path, identifiers, names, north, east, wide, columns, numbers, labels, high, areas)
     return Study(whole, np.repeat(np.arange(len(files)), [len(points.identifiers) for points in files]))
 
 
@@ -192,6 +194,9 @@ def write_feed(folder: Path, feed: str, points: Points) -> None:
     with open(folder / POINTS, "wb") as out:
         sides = ["width", *(["height"] if has_heights(points) else [])]
         write_rows(out, ["id", "name", "lat", "lon", *sides, *points.columns], point_lines(points))
+    if points.areas:
+        with open(folder / AREAS_FILE, "wb") as out:
+            write_areas(out, points.areas)
 
 
 def stops_with(path: Path, points: Points) -> tuple[list[str], Iterator[list[str]]]:

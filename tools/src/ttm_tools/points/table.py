@@ -4,15 +4,16 @@ import math
 from array import array
 from dataclasses import dataclass, field, replace
 from pathlib import Path
-from typing import Any, Iterable, Sequence
+from typing import Any, Iterable, Mapping, Sequence
 
 import numpy as np
 import numpy.typing as npt
 
 from ..faults import BadInput, needs
-from ..feed import Floats, Stops
+from ..feed import Area, Floats, Stops
 from ..opening.paths import as_one_line, sized
-from ..records import number_of, places_of, records, rows, shown
+from ..records import number_of, places_of, records, refuse_alike, rows, shown
+from .areas import areas_of
 
 NEEDED, WANTED = ("id", "lat", "lon"), ("name", "width", "height")
 AREAS = {".gpkg": b"SQLite format 3", ".geojson": b"{", ".json": b"{"}  # what geopandas reads, and how it begins
@@ -49,12 +50,13 @@ class Points:
     numbers: Floats  # a row for each point, a column for each of these
     labels: dict[str, list[str]] = field(default_factory=dict)  # and in texts, by column
     heights: Floats | None = None  # metres; NaN where a cell is as high as it is wide
+    areas: Mapping[str, Area] = field(default_factory=dict)  # of points that are areas, by identifier
 
     def as_stops(self) -> Stops:
         """The points as stops at which vehicles might call."""
         kinds, stations = np.zeros(len(self.identifiers), np.int8), [""] * len(self.identifiers)
-        places = (self.latitudes, self.longitudes)
-        return Stops(self.path, self.identifiers, self.names, *places, kinds, stations, self.widths, self.heights)
+        places, shape = (self.latitudes, self.longitudes), (self.widths, self.heights, self.areas)
+        return Stops(self.path, self.identifiers, self.names, *places, kinds, stations, *shape)
 
     def only(self, kept: npt.NDArray[np.intp]) -> "Points":
         """Some of the points."""
@@ -62,7 +64,8 @@ class Points:
         places = (self.latitudes[kept], self.longitudes[kept], self.widths[kept])
         heights = None if self.heights is None else self.heights[kept]
         labels = {name: [texts[place] for place in kept.tolist()] for name, texts in self.labels.items()}
-        return Points(self.path, identifiers, names, *places, self.columns, self.numbers[kept], labels, heights)
+        areas = {name: self.areas[name] for name in identifiers if name in self.areas}
+        return Points(self.path, identifiers, names, *places, self.columns, self.numbers[kept], labels, heights, areas)
 
 
 @dataclass
@@ -158,9 +161,7 @@ def read_table(path: str, called: Columns) -> Points:
     _, header = next(records(path), (1, list[str]()))
     needed = called.needed
     others = [name for name in places_of(header, path, needed) if name and name not in needed + WANTED]
-    twice = next((name for name in others if [it.strip(" ") for it in header].count(name) > 1), None)
-    if twice is not None:
-        raise BadInput(path, f"two columns {shown(twice)}", record=1)
+    refuse_alike(path, header, [*needed, *others])
     columns = number_columns(path, others)
     labels = {name: list[str]() for name in others if name not in columns}
     reader, taken = Reader(path, set()), Taken(path, columns)
@@ -176,8 +177,8 @@ def read_table(path: str, called: Columns) -> Points:
 
 
 def read_areas(path: str, called: Columns) -> Points:
-    """A point inside of each area of a file of a geographic information system; a point where that has points. Its
-    columns of text have labels.
+    """A point inside of each area of a file of a geographic information system, with that area; a point where that has
+    points. Its columns of text have labels.
     """
     frame = read_frame(path)
     twice = next((name for name in frame.columns if list(frame.columns).count(name) > 1), None)
@@ -204,7 +205,8 @@ def read_areas(path: str, called: Columns) -> Points:
         given = [reader.side(text_of(it), place + 1, column) for it, column in zip(wide, WANTED[1:])]
         taken.take(identifier, text_of(name) or identifier, (*where, *given), numbers)
     labels = {str(name): [text_of(value) for value in frame[name]] for name in texts}
-    return replace(taken.points(), labels=labels)
+    areas = areas_of(taken.identifiers, frame.geometry.to_crs(4326))
+    return replace(taken.points(), labels=labels, areas=areas)
 
 
 def read_frame(path: str) -> Any:

@@ -113,7 +113,7 @@ def agree(study: Study, entries: dict[str, Entry]) -> None:
         raise feed.fault("names no feed", "files", allowed='["feed.zip"]')
     if study.feed.ready and len(study.feed.files) != 1:
         raise feed.fault("is for one folder, and files names several", "ready")
-    for key in ("repair", "allow_loss", "same_clock", "box", "area", "routes", "agencies", "only_days"):
+    for key in ("repair", "same_clock", "box", "area", "routes", "agencies", "only_days"):
         refuse_both(feed, "ready", key)
     refuse_both(run, "limits", "cutoffs")
     refuse_both(entries["results"], "within", "cutoff")

@@ -23,7 +23,9 @@ class FeedWish:
     """The timetable."""
 
     files: tuple[str, ...] = told(FILES, "published feeds, zip files or folders; several are merged", '["feed.zip"]')
-    ready: bool = told(FLAG, "it is one folder that ttm reads: taken as it is, not checked", "true", False)
+    ready: bool = told(
+        FLAG, "it is one folder that ttm reads: taken as it is, and has trips on the date", "true", False
+    )
     repair: bool = told(FLAG, "mend faults by the rules of ttm-tools prepare; false refuses them", "false", True)
     allow_loss: bool = told(
         FLAG, "go on where a repair takes much of a file, or no trip runs on the date", "true", False

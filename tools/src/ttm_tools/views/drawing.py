@@ -11,12 +11,13 @@ import numpy as np
 import numpy.typing as npt
 from matplotlib import colormaps, colors
 from matplotlib.backends.backend_agg import FigureCanvasAgg
-from matplotlib.collections import LineCollection, PolyCollection
+from matplotlib.collections import LineCollection
 from matplotlib.figure import Figure
 from matplotlib.lines import Line2D
 from matplotlib.patheffects import withStroke
 
 from ..feed import GRID, Projection, Stops
+from .cells import Cells
 from .pictures import NO_ORIGIN, Mark, Picture, round_step
 from .texts import text_alone
 
@@ -27,7 +28,6 @@ MAP_WIDTH, MAP_HEIGHT, HEAD, EDGE = 6.7, 7.0, 0.85, 0.2
 LEAST_HEIGHT = 5.2  # of the picture, so that the key has room
 LEAST_SIDE = 0.5  # kilometres that a map shows
 FAINT, OVER_SQUARES = "#cdcdcd", "#7d7d7d"  # the colours of lines on which vehicles run
-CORNERS = np.array([[-0.5, -0.5], [0.5, -0.5], [0.5, 0.5], [-0.5, 0.5]])
 STAR = {"marker": "*", "color": "#111111"}
 LETTERS: dict[str, Any] = {
     "ha": "center",
@@ -73,24 +73,24 @@ def draw(picture: Picture, stops: Stops, lines: Sequence[Lines], note: str, widt
     """The picture of these stops, which are those of the matrix, as a figure of so many pixels across."""
     projection = Projection(stops.latitudes, stops.longitudes)
     points = np.stack([projection.east(stops.longitudes), projection.north(stops.latitudes)], axis=1)
-    figure, axes = empty_map(limits_of(points[stops.placed]), width)
+    cells = Cells(stops, projection)
+    figure, axes = empty_map(limits_of(np.concatenate([points[stops.placed], cells.corners()])), width)
     top = figure.get_figheight()
     title, told = shortened(picture.title, 84), shortened(picture.told, 136)
     plain: dict[str, Any] = {"va": "top", "parse_math": False}
     figure.text(EDGE / INCHES, 1 - 0.2 / top, title, fontsize=14.5, fontweight="bold", **plain)
     figure.text(EDGE / INCHES, 1 - 0.52 / top, told, fontsize=9.5, color="#333333", **plain)
-    squares = squares_of(stops)
-    if not np.isnan(squares).all():
+    if cells.are_there.any():
         lines = [replace(kind, colour=OVER_SQUARES) if kind.colour == FAINT else kind for kind in lines]
     for number, kind in enumerate(lines):
         draw_lines(axes, kind, 1 + number / 10)
-    draw_squares(axes, picture, points, stops.sides() / 1000)
-    draw_stops(axes, picture, np.where(np.isnan(squares)[:, None], points, np.nan))
+    draw_cells(axes, picture, points, cells)
+    draw_stops(axes, picture, np.where(cells.are_there[:, None], np.nan, points))
     draw_names(axes, picture, stops, points)
     draw_scale(axes)
     place = axes.get_position()
     beside = place.x1 + EDGE / INCHES
-    draw_key(figure, (beside, place.y1), shaped(picture, squares), points, lines)
+    draw_key(figure, (beside, place.y1), shaped(picture, cells), points, lines)
     notes = wrapped(" ".join(filter(None, [picture.source, note, f"In brackets: number of {picture.what}."])), 44)
     figure.text(beside, EDGE / top, notes, fontsize=8, color="#555555", va="bottom", parse_math=False)
     return figure
@@ -161,31 +161,19 @@ def colour_of(mark: Mark) -> str:
     return str(colors.to_hex(colormaps[mark.colour.scale](mark.colour.place)))
 
 
-def squares_of(stops: Stops) -> npt.NDArray[np.float64]:
-    """How wide the square is that is drawn in place of each stop, in kilometres; NaN where a mark is drawn."""
-    none = np.full(len(stops.identifiers), np.nan)
-    return none if stops.widths is None else stops.widths / 1000
-
-
-def shaped(picture: Picture, squares: npt.NDArray[np.float64]) -> Picture:
+def shaped(picture: Picture, cells: Cells) -> Picture:
     """The picture as its key shows it: squares where no mark is drawn."""
-    if np.isnan(squares).any():
+    if not cells.are_there.all():
         return picture
     return replace(picture, marks=[replace(mark, shape="s", size=1.0) for mark in picture.marks])
 
 
-def draw_squares(axes: Any, picture: Picture, points: Points, sides: npt.NDArray[np.float64]) -> None:
-    """Cells in the colours of their classes, below the lines, each so many kilometres wide and high; where some lie
-    over others, what changes is on top.
-    """
-    here = drawn(picture, points) & ~np.isnan(sides[:, 0])
+def draw_cells(axes: Any, picture: Picture, points: Points, cells: Cells) -> None:
+    """Cells in the colours of their classes, below the lines; where some lie over others, what changes is on top."""
+    here = drawn(picture, points) & cells.are_there
     for above, place in enumerate(order_of_drawing(picture.marks)):
-        mark = picture.marks[place]
         chosen = np.flatnonzero(here & (picture.classes == place))
-        corners = points[chosen][:, None, :] + sides[chosen][:, None, :] * CORNERS
-        if len(chosen):
-            how: dict[str, Any] = {"facecolors": colour_of(mark), "edgecolors": "face", "linewidths": 0.2}
-            axes.add_collection(PolyCollection(corners, zorder=0.5 + above / 1000, **how))
+        cells.draw(axes, chosen, points, colour_of(picture.marks[place]), 0.5 + above / 1000)
 
 
 def draw_stops(axes: Any, picture: Picture, points: Points) -> None:

@@ -1,5 +1,5 @@
 """Stops with their access, and travel times from an origin, as points for a geographic information system: GeoJSON or
-GeoPackage.
+GeoPackage. Points that are areas keep their shapes.
 """
 
 import contextlib
@@ -18,6 +18,7 @@ from ..feed import Stops
 from ..files import written_aside
 from ..matrices import Matrix, Share
 from ..opening.paths import as_one_line
+from ..points.areas import geometry_of
 from ..records import shown, with_gaps
 
 LAYER = "stops"
@@ -71,23 +72,28 @@ def write_geojson(out: BinaryIO, features: Features) -> None:
     """A collection of features, one a line (RFC 7946)."""
     out.write(b'{"type": "FeatureCollection", "features": [')
     places = zip(features.stops.longitudes.tolist(), features.stops.latitudes.tolist())
-    for number, place in enumerate(places):
-        feature = {"type": "Feature", "geometry": {"type": "Point", "coordinates": place}}
+    for number, (name, place) in enumerate(zip(features.stops.identifiers, places)):
+        area = features.stops.areas.get(name)
+        geometry = {"type": "Point", "coordinates": place} if area is None else geometry_of(area)
+        feature: dict[str, Any] = {"type": "Feature", "geometry": geometry}
         feature["properties"] = features.properties(number)
         out.write((",\n" if number else "\n").encode() + json.dumps(feature, ensure_ascii=False).encode("utf-8"))
     out.write(b"\n]}\n")
 
 
 def write_geopackage(path: str, features: Features) -> None:
-    """A layer of points in WGS 84."""
+    """A layer of points, or areas, in WGS 84."""
     needs("geopandas")
     import geopandas
+    from shapely.geometry import MultiPolygon
 
     stops = features.stops
     columns: dict[str, Any] = {"stop_id": list(map(shown, stops.identifiers)), "stop_name": stops.names}
     columns |= {name: with_gaps(numbers) for name, numbers in features.columns.items()}
-    points = geopandas.points_from_xy(stops.longitudes, stops.latitudes)
-    frame = geopandas.GeoDataFrame(columns, geometry=points, crs="EPSG:4326")
+    shapes = list(geopandas.points_from_xy(stops.longitudes, stops.latitudes))
+    for name, area in stops.areas.items():  # all as several polygons, since a layer has one kind
+        shapes[stops.places[name]] = MultiPolygon([(whole, holes) for whole, *holes in area])
+    frame = geopandas.GeoDataFrame(columns, geometry=shapes, crs="EPSG:4326")
     write_layer(path, frame, LAYER)
 
 

@@ -22,7 +22,7 @@ from .parts import Part, blocks_of, part, rows_in_block
 
 ASSETS = Path(__file__).resolve().parent / "assets"
 LEAFLET = "/usr/share/javascript/leaflet"
-SCRIPTS = ("data.js", "classes.js", "layer.js", "figures.js", "panel.js", "search.js", "main.js")
+SCRIPTS = ("data.js", "classes.js", "areas.js", "layer.js", "figures.js", "panel.js", "search.js", "main.js")
 STYLES = ("page.css",)
 
 
@@ -61,6 +61,8 @@ def parts_of(content: Content, lines: Lines) -> Iterator[Part]:
     yield part("places", ground.places.degrees())
     yield part("widths", ground.places.widths.astype(np.float32))
     yield part("heights", ground.places.heights.astype(np.float32))
+    for name, rings in zip(("area-rings", "area-corners"), ground.places.rings()):
+        yield part(name, rings)
     for name, names in (("columns", ground.columns), ("origins", ground.origins), ("rows", ground.rows)):
         yield part(name, ground.at(names))
     yield part("counts", content.counts.numbers.T)

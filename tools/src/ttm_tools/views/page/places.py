@@ -1,16 +1,17 @@
 """The stops or points that a page shows, in an order in which neighbours stand together."""
 
-from dataclasses import dataclass
-from typing import Sequence
+from dataclasses import dataclass, field
+from typing import Mapping, Sequence
 
 import numpy as np
 import numpy.typing as npt
 
-from ...feed import Floats, Stops
+from ...feed import Area, Floats, Stops
 
 MICRO = 1_000_000  # of a degree
 NOWHERE = np.iinfo(np.int32).max
 CELLS = 1 << 15  # of the square of the order, along a side
+Whole = npt.NDArray[np.int32]
 
 
 @dataclass(frozen=True)
@@ -23,12 +24,13 @@ class Places:
     longitudes: Floats
     widths: Floats  # metres of a cell, 0 where it is none
     heights: Floats  # the same to the north
+    areas: Mapping[str, Area] = field(default_factory=dict)  # of cells with a shape of their own, by identifier
 
     def chosen(self, order: Sequence[int]) -> "Places":
         identifiers, names = ([texts[place] for place in order] for texts in (self.identifiers, self.names))
         numbers = (self.latitudes, self.longitudes, self.widths, self.heights)
         chosen = [it[np.array(order, dtype=np.intp)] for it in numbers]
-        return Places(identifiers, names, *chosen)
+        return Places(identifiers, names, *chosen, self.areas)
 
     def in_order(self) -> "Places":
         """The same, neighbours together; those without a place last."""
@@ -39,11 +41,24 @@ class Places:
         made = np.stack([self.latitudes, self.longitudes], axis=1) * MICRO
         return np.where(np.isnan(made), NOWHERE, np.rint(made)).astype(np.int32)
 
+    def rings(self) -> tuple[Whole, Whole]:
+        """The rings of all areas: rows of a place's number and how many corners its ring has; and all corners in
+        millionths of a degree, latitude and longitude, each less the corner before it.
+        """
+        rows, corners = list[tuple[int, int]](), [np.zeros((0, 2))]
+        for number, name in enumerate(self.identifiers):
+            for ring in (ring for polygon in self.areas.get(name, ()) for ring in polygon):
+                rows.append((number, len(ring) - 1))  # the last corner is the first one again
+                corners.append(ring[:-1, ::-1])
+        whole = np.rint(np.concatenate(corners) * MICRO).astype(np.int32)
+        return np.array(rows, np.int32).reshape(-1, 2), np.diff(whole, axis=0, prepend=np.zeros((1, 2), np.int32))
+
 
 def places_of(stops: Stops, identifiers: Sequence[str]) -> Places:
     """The places of some stops or points, which the feed has."""
     found = stops.of(identifiers)
-    return Places(found.identifiers, found.names, found.latitudes, found.longitudes, *np.nan_to_num(found.sides()).T)
+    sides = np.nan_to_num(found.sides()).T
+    return Places(found.identifiers, found.names, found.latitudes, found.longitudes, *sides, found.areas)
 
 
 def ranks(latitudes: Floats, longitudes: Floats) -> Floats:

@@ -26,7 +26,7 @@ const numbers = {}; // what `readNumbers` has read, by the names of the parts
 /** Reads all that is shown before a place is chosen. */
 async function readNumbers() {
   const kinds = { places: Int32Array, widths: Float32Array, heights: Float32Array, counts: Float64Array, running: Int32Array };
-  for (const name of ["columns", "origins", "rows"]) {
+  for (const name of ["columns", "origins", "rows", "area-rings", "area-corners"]) {
     kinds[name] = Int32Array;
   }
   for (let scenario = 0; scenario < head.scenarios.length; scenario++) {

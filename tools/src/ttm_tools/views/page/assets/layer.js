@@ -71,6 +71,7 @@ const Drawing = L.Layer.extend({
 class PageMap {
   constructor(chosen, tipOf) {
     this.points = onWorld(numbers.places);
+    this.areas = new Areas();
     this.lines = {};
     this.shown = { classes: null, marks: [UNKNOWN], faint: null, place: -1, scenario: 0 };
     this.map = L.map("map", { zoomControl: true, zoomSnap: 0.25, wheelPxPerZoomLevel: 90, zoomAnimation: false,
@@ -138,6 +139,12 @@ class PageMap {
         [south, north] = [Math.min(south, latitude - half), Math.max(north, latitude + half)];
       }
     }
+    for (const [left, top, right, bottom] of this.areas.boxes.values()) {
+      const ends = [L.point(left, bottom), L.point(right, top)];
+      const [low, high] = ends.map((end) => L.CRS.EPSG3857.pointToLatLng(end, 0));
+      [west, east] = [Math.min(west, low.lng), Math.max(east, high.lng)];
+      [south, north] = [Math.min(south, low.lat), Math.max(north, high.lat)];
+    }
     this.map.fitBounds([[south, west], [north, east]], { padding: [14, 14], maxZoom: 16, animate: false });
     this.fitZoom = this.map.getZoom();
   }
@@ -164,13 +171,25 @@ class PageMap {
     return L.point(this.points[2 * place] * scale - origin.x, this.points[2 * place + 1] * scale - origin.y);
   }
 
-  /** The place at a pixel: the nearest one within reach, or whose square it is in; -1 where there is none. */
+  /** The place at a pixel: the nearest mark within reach, or the square or area in which it is; else the area whose
+   * middle is the nearest within reach; -1 where there is none.
+   */
   placeAt(pixel) {
     const scale = 2 ** this.map.getZoom();
     const origin = this.map.getPixelOrigin().add(this.map.containerPointToLayerPoint(L.point(0, 0)));
     const x = (pixel.x + origin.x) / scale, y = (pixel.y + origin.y) / scale;
+    const mark = this.nearest(x, y, scale, false);
+    const area = mark < 0 && this.areas.any ? this.areas.at(x, y) : mark;
+    return area < 0 && this.areas.any ? this.nearest(x, y, scale, true) : area;
+  }
+
+  /** The place nearest to a point of the map, within reach, among the areas or the others. */
+  nearest(x, y, scale, amongAreas) {
     let found = -1, least = (REACH / scale) ** 2;
     for (let place = 0; place < head.names.length; place++) {
+      if (this.areas.has(place) !== amongAreas) {
+        continue;
+      }
       const east = this.points[2 * place] - x, south = this.points[2 * place + 1] - y;
       const far = east * east + south * south;
       const [wide, high] = [this.sideOf(place) / 2, this.sideOf(place, numbers.heights) / 2];
@@ -192,7 +211,7 @@ class PageMap {
     if (this.map.options.finest > 1) {
       this.paintLines(pen, view, "running"); // on paper browsers may leave out a canvas that lies below another one
     }
-    const squares = numbers.widths.some((width) => width > 0);
+    const squares = this.areas.any || numbers.widths.some((width) => width > 0);
     if (!squares) {
       this.paintChanges(pen, view);
     }
@@ -241,7 +260,8 @@ class PageMap {
     const groups = marks.map(() => [[], []]);
     for (let place = 0; place < head.names.length; place++) {
       const [x, y] = this.at(place, view);
-      if (x > -40 && y > -40 && x < view.width + 40 && y < view.height + 40) {
+      const isNear = x > -40 && y > -40 && x < view.width + 40 && y < view.height + 40;
+      if (isNear || (this.areas.has(place) && this.areas.isSeen(place, view))) {
         groups[classes === null ? 0 : classes[place]][faint !== null && faint[place] ? 0 : 1].push(place);
       }
     }
@@ -254,11 +274,14 @@ class PageMap {
     pen.globalAlpha = 1;
   }
 
-  /** The places of a class: their squares, or their marks. */
+  /** The places of a class: their areas, their squares, or their marks. */
   paintClass(pen, view, mark, some, radius) {
     for (const place of some) {
       const [x, y] = this.at(place, view);
-      if (numbers.widths[place] > 0) {
+      if (this.areas.has(place)) {
+        this.areas.paint(pen, view, place, colourOfCell(mark));
+        paintWithin(pen, mark, x, y, this.areas.sizeOf(place, view));
+      } else if (numbers.widths[place] > 0) {
         const sides = [this.sideOf(place), this.sideOf(place, numbers.heights)];
         paintCell(pen, mark, x, y, ...sides.map((side) => Math.max(side * view.scale, LEAST_SQUARE)));
       } else {
@@ -277,9 +300,17 @@ class PageMap {
 
 /** A place's cell with a mark of its class in it. */
 function paintCell(pen, mark, x, y, wide, high) {
-  const size = Math.min(wide, high);
-  pen.fillStyle = mark.shape === "thin" || mark.shape === "dot" ? "#e4e4e4" : mark.colour;
+  pen.fillStyle = colourOfCell(mark);
   pen.fillRect(x - wide / 2, y - high / 2, wide, high);
+  paintWithin(pen, mark, x, y, Math.min(wide, high));
+}
+
+function colourOfCell(mark) {
+  return mark.shape === "thin" || mark.shape === "dot" ? "#e4e4e4" : mark.colour;
+}
+
+/** The mark of a class within a cell of some pixels, where that has room. */
+function paintWithin(pen, mark, x, y, size) {
   if (size >= 9 && mark.shape !== "circle" && mark.shape !== "dot") {
     const colour = mark.shape === "cross" ? "#ffffff" : mark.shape === "thin" ? "#8a8a8a" : "#333333";
     paintMark(pen, { ...mark, colour, inside: true }, x, y, size * 0.22);

@@ -1,0 +1,75 @@
+"""Areas of points: the polygons of a file of a geographic information system. A folder of points keeps them as GeoJSON,
+so that maps, pages and other files show them.
+"""
+
+import json
+from pathlib import Path
+from typing import Any, BinaryIO, Iterable, Mapping
+
+import numpy as np
+
+from ..faults import BadInput
+from ..feed import Area, Floats
+from ..opening.paths import as_one_line
+from ..opening.texts import read_json
+from ..records import shown
+
+AREAS_FILE = "areas.geojson"  # beside a feed's points
+DECIMALS = 7  # of degrees, about a hundredth of a metre
+KINDS = ("Polygon", "MultiPolygon")
+
+
+def area_of(shape: Any) -> Area:
+    """A polygon of shapely, or several, with outer rings against the clock and holes with it, as RFC 7946 has them."""
+    from shapely.geometry.polygon import orient
+
+    parts = [orient(part) for part in getattr(shape, "geoms", [shape]) if not part.is_empty]
+    return [[ring_of(ring.coords) for ring in (part.exterior, *part.interiors)] for part in parts]
+
+
+def ring_of(corners: Any) -> Floats:
+    """A ring as rows of longitude and latitude."""
+    made: Floats = np.round(np.array([corner[:2] for corner in corners], dtype=np.float64), DECIMALS)
+    return made
+
+
+def areas_of(identifiers: Iterable[str], shapes: Iterable[Any]) -> dict[str, Area]:
+    """The areas of those shapes, in degrees, that are polygons."""
+    return {name: area_of(shape) for name, shape in zip(identifiers, shapes) if shape.geom_type in KINDS}
+
+
+def geometry_of(area: Area) -> dict[str, Any]:
+    """An area as GeoJSON has it."""
+    whole = [[ring.tolist() for ring in polygon] for polygon in area]
+    return {"type": KINDS[len(whole) > 1], "coordinates": whole if len(whole) > 1 else whole[0]}
+
+
+def write_areas(out: BinaryIO, areas: Mapping[str, Area]) -> None:
+    """A collection of features, one a line, each with its point's identifier."""
+    out.write(b'{"type": "FeatureCollection", "features": [')
+    for number, (identifier, area) in enumerate(areas.items()):
+        feature = {"type": "Feature", "geometry": geometry_of(area), "properties": {"id": identifier}}
+        out.write((",\n" if number else "\n").encode() + json.dumps(feature).encode("ascii"))
+    out.write(b"\n]}\n")
+
+
+def areas_beside(points: str) -> dict[str, Area]:
+    """The areas that lie beside a file of points; none where there are none."""
+    path = Path(points).with_name(AREAS_FILE)
+    if not path.is_file():
+        return {}
+    found, made = read_json(path, "GeoJSON"), dict[str, Area]()
+    with as_one_line(path, "is no file of areas that ttm-tools points wrote"):
+        for feature in found["features"]:
+            geometry = feature["geometry"]
+            parts = geometry["coordinates"] if geometry["type"] == KINDS[1] else [geometry["coordinates"]]
+            made[str(feature["properties"]["id"])] = [[ring_of(ring) for ring in polygon] for polygon in parts]
+    for identifier, area in made.items():
+        if not all(is_ring(ring) for polygon in area for ring in polygon):
+            raise BadInput(path, f"the area of {shown(identifier)} has a ring that is none")
+    return made
+
+
+def is_ring(ring: Floats) -> bool:
+    """Whether a ring has corners on the earth, and enough of them."""
+    return ring.ndim == 2 and len(ring) > 3 and bool((np.abs(ring) <= [180, 90]).all())

@@ -1,0 +1,49 @@
+"""Cells on a map: squares, oblongs, or areas with the shape of their file, in kilometres."""
+
+from typing import Any
+
+import numpy as np
+import numpy.typing as npt
+from matplotlib.collections import PathCollection, PolyCollection
+from matplotlib.path import Path
+
+from ..feed import Area, Floats, Projection, Stops
+
+CORNERS = np.array([[-0.5, -0.5], [0.5, -0.5], [0.5, 0.5], [-0.5, 0.5]])
+
+
+class Cells:
+    """The cells of some stops or points, each in the place of its mark."""
+
+    def __init__(self, stops: Stops, projection: Projection) -> None:
+        self.sides = stops.sides() / 1000
+        self.areas = {
+            stops.places[name]: path_of(area, projection) for name, area in stops.areas.items() if name in stops.places
+        }
+        self.are_there: npt.NDArray[np.bool_] = ~np.isnan(self.sides[:, 0])
+        self.are_there[list(self.areas)] = True
+
+    def corners(self) -> Floats:
+        """The corners of all areas."""
+        made: Floats = np.concatenate([np.zeros((0, 2)), *(path.vertices for path in self.areas.values())])
+        return made
+
+    def draw(self, axes: Any, chosen: npt.NDArray[np.intp], points: Floats, colour: str, order: float) -> None:
+        """Draws the cells of some places in a colour."""
+        how: dict[str, Any] = {"facecolors": colour, "edgecolors": "face", "linewidths": 0.2, "zorder": order}
+        areas = [self.areas[place] for place in chosen.tolist() if place in self.areas]
+        oblong = np.array([place for place in chosen.tolist() if place not in self.areas], dtype=np.intp)
+        if areas:
+            axes.add_collection(PathCollection(areas, **how))
+        if len(oblong):
+            corners = points[oblong][:, None, :] + self.sides[oblong][:, None, :] * CORNERS
+            axes.add_collection(PolyCollection(corners, **how))
+
+
+def path_of(area: Area, projection: Projection) -> Path:
+    """An area as a path; its holes go round the other way, so they stay empty."""
+    rings = [ring for polygon in area for ring in polygon]
+    codes = [[Path.MOVETO, *[Path.LINETO] * (len(ring) - 2), Path.CLOSEPOLY] for ring in rings]
+    corners = np.concatenate(rings)
+    kilometres = np.stack([projection.east(corners[:, 0]), projection.north(corners[:, 1])], axis=1)
+    return Path(kilometres, np.concatenate(codes))
