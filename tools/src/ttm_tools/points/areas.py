@@ -29,8 +29,8 @@ def area_of(shape: Any) -> Area:
 
 def ring_of(corners: Any) -> Floats:
     """A ring as rows of longitude and latitude."""
-    made: Floats = np.round(np.array([corner[:2] for corner in corners], dtype=np.float64), DECIMALS)
-    return made
+    whole: Floats = np.array([corner[:2] for corner in corners], dtype=np.float64)
+    return whole.round(DECIMALS)
 
 
 def areas_of(identifiers: Iterable[str], shapes: Iterable[Any]) -> dict[str, Area]:

@@ -61,5 +61,5 @@ def with_points(stops: Stops, points: Points) -> Stops:
         np.concatenate([stops.kinds, more.kinds]),
         stops.stations + more.stations,
         *sides.T,
-        points.areas,
+        areas=points.areas,
     )

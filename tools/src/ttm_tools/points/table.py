@@ -55,8 +55,8 @@ class Points:
     def as_stops(self) -> Stops:
         """The points as stops at which vehicles might call."""
         kinds, stations = np.zeros(len(self.identifiers), np.int8), [""] * len(self.identifiers)
-        places, shape = (self.latitudes, self.longitudes), (self.widths, self.heights, self.areas)
-        return Stops(self.path, self.identifiers, self.names, *places, kinds, stations, *shape)
+        places, sides = (self.latitudes, self.longitudes), (self.widths, self.heights)
+        return Stops(self.path, self.identifiers, self.names, *places, kinds, stations, *sides, areas=self.areas)
 
     def only(self, kept: npt.NDArray[np.intp]) -> "Points":
         """Some of the points."""
