@@ -49,9 +49,9 @@ class Stops:
         chosen = np.array([self.places[name] for name in identifiers], dtype=np.intp)
         names, stations = ([texts[place] for place in chosen] for texts in (self.names, self.stations))
         places = (self.latitudes[chosen], self.longitudes[chosen])
-        sides = [None if it is None else it[chosen] for it in (self.widths, self.heights)]
+        wide, high = (None if it is None else it[chosen] for it in (self.widths, self.heights))
         areas = {name: self.areas[name] for name in identifiers if name in self.areas} if self.areas else {}
-        return Stops(self.path, list(identifiers), names, *places, self.kinds[chosen], stations, *sides, areas=areas)
+        return Stops(self.path, list(identifiers), names, *places, self.kinds[chosen], stations, wide, high, areas)
 
     def sides(self) -> Floats:
         """How wide and how high the cell of each stop is, in metres; NaN for a stop that has none."""

@@ -51,7 +51,7 @@ def with_points(stops: Stops, points: Points) -> Stops:
     heights = np.full(len(points.identifiers), np.nan) if points.heights is None else points.heights
     known = dict(zip(points.identifiers, zip(points.widths.tolist(), heights.tolist())))
     names = stops.identifiers + more.identifiers
-    sides = np.array([known.get(name, (np.nan, np.nan)) for name in names])
+    wide, high = np.array([known.get(name, (np.nan, np.nan)) for name in names]).reshape(-1, 2).T
     return Stops(
         stops.path,
         names,
@@ -60,6 +60,7 @@ def with_points(stops: Stops, points: Points) -> Stops:
         np.concatenate([stops.longitudes, more.longitudes]),
         np.concatenate([stops.kinds, more.kinds]),
         stops.stations + more.stations,
-        *sides.T,
-        areas=points.areas,
+        wide,
+        high,
+        points.areas,
     )

@@ -29,8 +29,8 @@ class Places:
     def chosen(self, order: Sequence[int]) -> "Places":
         identifiers, names = ([texts[place] for place in order] for texts in (self.identifiers, self.names))
         numbers = (self.latitudes, self.longitudes, self.widths, self.heights)
-        chosen = [it[np.array(order, dtype=np.intp)] for it in numbers]
-        return Places(identifiers, names, *chosen, areas=self.areas)
+        north, east, wide, high = (it[np.array(order, dtype=np.intp)] for it in numbers)
+        return Places(identifiers, names, north, east, wide, high, self.areas)
 
     def in_order(self) -> "Places":
         """The same, neighbours together; those without a place last."""
@@ -57,8 +57,8 @@ class Places:
 def places_of(stops: Stops, identifiers: Sequence[str]) -> Places:
     """The places of some stops or points, which the feed has."""
     found = stops.of(identifiers)
-    sides = np.nan_to_num(found.sides()).T
-    return Places(found.identifiers, found.names, found.latitudes, found.longitudes, *sides, areas=found.areas)
+    wide, high = np.nan_to_num(found.sides()).T
+    return Places(found.identifiers, found.names, found.latitudes, found.longitudes, wide, high, found.areas)
 
 
 def ranks(latitudes: Floats, longitudes: Floats) -> Floats:
