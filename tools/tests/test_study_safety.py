@@ -4,6 +4,7 @@ import contextlib
 import json
 import os
 import shutil
+import signal
 import subprocess
 from pathlib import Path
 from typing import Any, Callable
@@ -13,7 +14,7 @@ import pytest
 from helpers import Room
 from test_study import NO_MAPS, STOPS, STUDY, Place
 from ttm_tools.faults import BadInput
-from ttm_tools.files import sum_of
+from ttm_tools.files import many_written_aside, sum_of
 from ttm_tools.naming import file_names
 from ttm_tools.study import counted, inputs as study_inputs, stages
 from ttm_tools.study.hosts import command
@@ -88,6 +89,66 @@ def test_what_a_study_did_not_write_is_never_replaced(place: Place) -> None:
     assert status == 0, said
     assert (folder / "parts/mine/notes.txt").read_text() == "mine"
     assert sorted(it.name for it in (folder / "parts").iterdir()) == ["mine"]
+
+
+@pytest.mark.parametrize("moment", ["before", "within", "after"])
+def test_what_is_put_into_a_folder_that_a_kill_left_is_never_removed(
+    tmp_path: Path, monkeypatch: pytest.MonkeyPatch, moment: str
+) -> None:
+    """The kill comes while a stage writes its maps, before or after they have their names."""
+    monkeypatch.chdir(tmp_path)
+    Path("stages").mkdir()
+    folder = stages.Folder(Path("."))
+
+    def stage(kill: str) -> stages.Stage:
+        def make() -> list[str]:
+            if kill == "before":
+                os.kill(os.getpid(), signal.SIGKILL)
+            with many_written_aside("maps") as made:
+                (made / "access.png").write_text("drawn")
+                if kill == "within":
+                    os.kill(os.getpid(), signal.SIGKILL)
+            if kill == "after":
+                os.kill(os.getpid(), signal.SIGKILL)
+            return []
+
+        return stages.Stage("maps", {}, ["maps"], make)
+
+    for _ in range(2):  # the folder is new, or that of a stage that was done
+        child = os.fork()
+        if child == 0:
+            folder.do(stage(moment))
+        assert os.waitstatus_to_exitcode(os.waitpid(child, 0)[1]) == -signal.SIGKILL
+        Path("maps").mkdir(exist_ok=True)
+        Path("maps/mine.png").write_text("mine")
+        with pytest.raises(BadInput, match="maps/mine.png: isn't this study's"):
+            folder.do(stage("never"))
+        assert Path("maps/mine.png").read_text() == "mine"
+        Path("maps/mine.png").unlink()
+        folder.do(stage("never"))
+        assert contents(Path("maps")) == {"access.png": b"drawn"} and not list(Path("stages").glob("*.begun"))
+        Path("maps/access.png").write_text("other")
+
+
+def test_a_kill_while_old_outputs_are_removed_leaves_the_study_its_own(
+    tmp_path: Path, monkeypatch: pytest.MonkeyPatch
+) -> None:
+    monkeypatch.chdir(tmp_path)
+    Path("stages").mkdir()
+    folder = stages.Folder(Path("."))
+
+    def make() -> list[str]:
+        with many_written_aside("maps") as made:
+            (made / "access.png").write_text("drawn")
+        return []
+
+    folder.do(stages.Stage("maps", {}, ["maps"], make))
+    child = os.fork()
+    if child == 0:
+        stages.remove = lambda _: os.kill(os.getpid(), signal.SIGKILL)
+        folder.do(stages.Stage("maps", {"new": 1}, ["maps"], make))
+    assert os.waitstatus_to_exitcode(os.waitpid(child, 0)[1]) == -signal.SIGKILL
+    folder.do(stages.Stage("maps", {"new": 1}, ["maps"], make))
 
 
 def test_hosts_find_the_folder_whatever_it_is_called(room: Room) -> None:

@@ -14,7 +14,7 @@ import tempfile
 import threading
 from pathlib import Path
 from types import FrameType
-from typing import BinaryIO, Iterator, NoReturn
+from typing import BinaryIO, Callable, Iterator, NoReturn, Sequence
 
 from .faults import BadInput
 
@@ -28,6 +28,8 @@ ENDING = [
 FULL = (errno.ENOSPC, errno.EDQUOT, errno.EFBIG)
 LONGEST_NAME = 200  # bytes of a file's name that its name aside repeats
 _inputs: set[tuple[int, int]] | None = None  # device and inode of the files that a command has read
+Note = Callable[[Sequence[Path]], None]
+_outputs: Note | None = None  # is told of the files of a folder before they get their names
 
 
 class Interrupted(BaseException):
@@ -91,6 +93,24 @@ def refuse_input(path: Path) -> None:
         found = os.stat(path)
         if _inputs is not None and (found.st_dev, found.st_ino) in _inputs:
             raise BadInput(path, "is an input as well: name another output")
+
+
+@contextlib.contextmanager
+def outputs_noted(note: Note) -> Iterator[None]:
+    """Has the files of each folder that is written be noted before they get their names."""
+    global _outputs
+    before, _outputs = _outputs, note
+    try:
+        yield
+    finally:
+        _outputs = before
+
+
+def all_in(path: Path) -> list[Path]:
+    """A file, or whatever else isn't a folder; of a folder all of that in it."""
+    if path.is_symlink() or not path.is_dir():
+        return [path] if os.path.lexists(path) else []
+    return sorted(it for it in path.rglob("*") if it.is_symlink() or not it.is_dir())
 
 
 def is_full(fault: OSError) -> bool:
@@ -185,6 +205,8 @@ def many_written_aside(folder: str | Path) -> Iterator[Path]:
         files = sorted(made.iterdir())
         for file in files:
             refuse_input(whole / file.name)
+        if _outputs is not None:
+            _outputs([whole / it.relative_to(made) for it in all_in(made)])
         with no_signals():
             whole.mkdir(parents=True, exist_ok=True)
             for file in files:

@@ -12,7 +12,7 @@ from typing import Any, Callable, Sequence
 from ..engine import Run
 from ..faults import BadInput
 from ..feed import Stops, read_stops
-from ..files import copy_file
+from ..files import copy_file, many_written_aside
 from ..matrices import BASE, TODAY
 from ..parts import origins_in, origins_of_feed, write_stops
 from ..opening.paths import inside
@@ -252,10 +252,10 @@ def taken(path: str) -> list[str]:
     """Copies a feed that is ready."""
     if not Path(path).is_dir():
         raise BadInput(path, "is no folder: a feed that is ready is one")
-    Path(FEED).mkdir(parents=True)
     files = sorted(it for it in Path(path).iterdir() if it.suffix in (".txt", ".csv") and it.is_file())
-    for file in files:
-        copy_file(inside(Path(path), file), Path(FEED) / file.name)
+    with many_written_aside(FEED) as made:
+        for file in files:
+            copy_file(inside(Path(path), file), made / file.name)
     return [f"{FEED}: {len(files)} files as they are"]
 
 
@@ -370,9 +370,9 @@ def scenarios_stage(maker: Maker) -> Stage:
     sources = maker.reads(*study.scenarios.files)
 
     def make() -> list[str]:
-        Path(SCENARIOS).mkdir(parents=True)
-        for path in paths:
-            copy_file(path, Path(SCENARIOS) / path.name)
+        with many_written_aside(SCENARIOS) as made:
+            for path in paths:
+                copy_file(path, made / path.name)
         return [f"{SCENARIOS}: {', '.join(names)}"]
 
     depends = {"names": names, "inputs": sources.sums}

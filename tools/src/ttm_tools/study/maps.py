@@ -3,7 +3,7 @@
 from dataclasses import dataclass
 from pathlib import Path
 
-from ..files import output
+from ..files import many_written_aside, output
 from ..naming import file_names
 from ..views.lines import planned_of
 from ..views.maps import Sheet, figure_of, picture_of
@@ -51,9 +51,9 @@ def maps_stage(whole: Whole) -> Stage:
     drawn = maps_of(whole)
 
     def make() -> list[str]:
-        Path(MAPS).mkdir()
-        for it in drawn:
-            draw(whole, it)
+        with many_written_aside(MAPS) as folder:
+            for it in drawn:
+                draw(whole, it, folder)
         return [f"{MAPS}: {len(drawn)} pictures"]
 
     study, inputs = whole.study, whole.inputs
@@ -61,8 +61,8 @@ def maps_stage(whole: Whole) -> Stage:
     return Stage("maps", {**whole.depends, "words": words, "run": inputs.sums}, [MAPS], make)
 
 
-def draw(whole: Whole, drawn: Drawn) -> None:
-    """Draws one map, with the lines that a scenario takes out or brings."""
+def draw(whole: Whole, drawn: Drawn, folder: Path) -> None:
+    """Draws one map into a folder, with the lines that a scenario takes out or brings."""
     study, inputs = whole.study, whole.inputs
     matrix, stops = whole.open()
     base = inputs.base if drawn.is_difference else None
@@ -76,5 +76,5 @@ def draw(whole: Whole, drawn: Drawn) -> None:
     figure = figure_of(
         picture, matrix, stops, inputs.feed, Sheet(None, study.about.note, edits=own, planned=planned), base
     )
-    with output(drawn.file) as file:
+    with output(str(folder / Path(drawn.file).name)) as file:
         figure.savefig(file, format="png", dpi="figure")

@@ -15,7 +15,7 @@ from typing import Any, Callable, Iterator, Sequence
 
 from .. import __version__
 from ..faults import BadInput, say
-from ..files import remove, sum_of, written_aside
+from ..files import all_in, outputs_noted, remove, sum_of, written_aside
 
 RECORDS = "stages"
 LOCK, MARK = ".lock", "a folder of ttm-tools study\n"
@@ -31,8 +31,8 @@ class Stage:
 
     name: str
     depends: dict[str, Any]  # all that its outputs depend on: arguments, and sums of files
-    outputs: Sequence[str]  # files and folders, from the study's folder on
-    make: Callable[[], list[str]]  # writes them, and says what was done
+    outputs: Sequence[str]  # files, by names with a suffix, and folders, from the study's folder on
+    make: Callable[[], list[str]]  # writes them, a folder by `many_written_aside`, and says what was done
     of_tools: bool = True  # whether other tools may make other outputs: done anew, then
     keeps_task: bool = False  # whether what other machines compute stays what is asked for
     refuse_changed: Callable[[], None] = lambda: None  # tells what isn't as it was when its sum was taken
@@ -125,21 +125,45 @@ class Folder:
         )
 
     def owned(self) -> set[str]:
-        """The files that stages wrote, and the outputs of those that were begun."""
+        """The files that stages wrote, and those that were begun may have written."""
         known = [self.record(path.stem) for path in self.at(RECORDS).glob("*.json")]
         made = {name for record in known if record is not None for name in record.outputs}
         for path in self.at(RECORDS).glob("*.begun"):
-            made.update(path.read_text(encoding="utf-8", errors="surrogateescape").splitlines())
+            with contextlib.suppress(ValueError):
+                made.update(json.loads(path.read_text(encoding="utf-8")))
         return made
+
+    def there(self, stage: Stage) -> list[str]:
+        """The files that are there in the places of a stage's outputs."""
+        return [os.path.relpath(file, self.path) for name in stage.outputs for file in all_in(self.at(name))]
 
     def refuse_foreign(self, stage: Stage) -> None:
         """Refuses to replace what no stage wrote."""
         owned = self.owned()
+        for name in self.there(stage):
+            if name not in owned:
+                raise BadInput(self.at(name), "isn't this study's, which would replace it: move it elsewhere")
+
+    def make_anew(self, stage: Stage) -> list[str]:
+        """Removes what was there, and writes the outputs. At any moment the files that a kill would leave are noted:
+        those that are removed; then files under their names, and folders file by file, as soon as they are whole.
+        """
+        begun = self.at(f"{RECORDS}/{stage.name}.begun")
+        files = [name for name in stage.outputs if Path(name).suffix]
+
+        def note(more: Sequence[Path | str]) -> None:
+            write_settled(begun, as_text([*files, *(os.path.relpath(it, self.path) for it in more)]))
+
+        note([self.at(name) for name in self.there(stage)])
+        self.at(f"{RECORDS}/{stage.name}.json").unlink(missing_ok=True)
+        if not stage.keeps_task:
+            self.at(TASK).unlink(missing_ok=True)
         for name in stage.outputs:
-            there = files_in(self.at(name)) if os.path.lexists(self.at(name)) and name not in owned else []
-            for file in there:
-                if str(file.relative_to(self.path)) not in owned:
-                    raise BadInput(file, "isn't this study's, which would replace it: move it elsewhere")
+            remove(self.at(name))
+            self.at(name).parent.mkdir(parents=True, exist_ok=True)
+        note([])
+        with outputs_noted(note):
+            return stage.make()
 
     def do(self, stage: Stage) -> Record:
         """Does a stage, unless it was done."""
@@ -149,16 +173,8 @@ class Folder:
             return found
         say(f"{stage.name} ..")
         self.refuse_foreign(stage)
-        begun = self.at(f"{RECORDS}/{stage.name}.begun")
-        write_settled(begun, "".join(name + "\n" for name in stage.outputs))
-        self.at(f"{RECORDS}/{stage.name}.json").unlink(missing_ok=True)
-        if not stage.keeps_task:
-            self.at(TASK).unlink(missing_ok=True)
-        for name in stage.outputs:
-            remove(self.at(name))
-            self.at(name).parent.mkdir(parents=True, exist_ok=True)
         begin = time.monotonic()
-        lines = stage.make()
+        lines = self.make_anew(stage)
         stage.refuse_changed()
         files = [file for name in stage.outputs for file in files_in(self.at(name)) if file.is_file()]
         for file in files:
@@ -166,7 +182,7 @@ class Folder:
         sums = {str(file.relative_to(self.path)): sum_of(file) for file in files}
         record = Record(key, sums, lines, round(time.monotonic() - begin, 3))
         write_settled(self.path / RECORDS / f"{stage.name}.json", as_text(record.facts))
-        begun.unlink()
+        self.at(f"{RECORDS}/{stage.name}.begun").unlink()
         log("stage", stage.name, record.seconds)
         for line in lines:
             say(f"  {line}")
