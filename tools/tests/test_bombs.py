@@ -1,5 +1,6 @@
-"""Small files that would fill the memory: each ends in one line, within 2 GB of addresses."""
+"""Small files that would fill the memory: each ends in one line, within 2 GB of addresses and 1 GB of memory."""
 
+import os
 import resource
 import subprocess
 import sys
@@ -14,6 +15,7 @@ from helpers import LAUNCHER, Room
 from test_opening import FEED
 
 MOST = 2_000_000_000  # bytes of addresses, as by `ulimit -v`
+MOST_TAKEN = 1_000_000_000  # and of memory that is taken
 Bomb = Callable[[Path], "tuple[list[str], str]"]  # the command, and what its line says
 
 
@@ -118,15 +120,27 @@ def limited() -> None:
     resource.setrlimit(resource.RLIMIT_AS, (MOST, MOST))
 
 
+def ended(words: list[str]) -> tuple[int, str, int]:
+    """How a command ends: its status, what it says, and the bytes of memory that it took at most."""
+    ran = subprocess.Popen(words, stdout=subprocess.DEVNULL, stderr=subprocess.PIPE, text=True, preexec_fn=limited)
+    assert ran.stderr is not None
+    with ran.stderr as told:
+        said = told.read()
+    _, status, used = os.wait4(ran.pid, 0)
+    ran.returncode = os.waitstatus_to_exitcode(status)
+    return ran.returncode, said, used.ru_maxrss * 1024
+
+
 @pytest.mark.parametrize("bomb", BOMBS)
 def test_what_would_fill_the_memory_ends_in_a_line(room: Room, bomb: Bomb) -> None:
     for package in ("h5py", "pandas", "shapely"):
         pytest.importorskip(package)
     words, line = bomb(room.folder)
     before = room.names()
-    ran = subprocess.run([sys.executable, LAUNCHER, *words], capture_output=True, text=True, preexec_fn=limited)
+    status, said, taken = ended([sys.executable, LAUNCHER, *words])
+    assert taken < MOST_TAKEN, f"{taken:,}"
     if not line:
-        assert ran.returncode == 0, ran.stderr
+        assert status == 0, said
         return
-    assert ran.returncode == 1 and ran.stderr.count("\n") == 1 and line in ran.stderr, ran.stderr
+    assert status == 1 and said.count("\n") == 1 and line in said, said
     assert room.names() == before

@@ -1,14 +1,15 @@
 """What a person's inputs never do: run in a page, become mathematics of a picture, or get lost without a line."""
 
 import os
+import random
 import subprocess
 import sys
 from pathlib import Path
-from typing import Any
+from typing import Any, Iterator
 
 import pytest
 
-from helpers import CALENDAR, LAUNCHER, STOP_TIMES, Room, Town, town_matrix
+from helpers import CALENDAR, LAUNCHER, STOP_TIMES, Cell, Room, Town, launched, town_matrix
 from ttm_tools.escaping import markdown, printed
 from ttm_tools.prepare.days import days_of, runs_by_day
 from ttm_tools.prepare.tables import read_feed
@@ -151,6 +152,40 @@ def test_a_geopackage_that_is_not_whole_is_not_there(town: Town) -> None:
     ran = subprocess.run([sys.executable, "-c", program], capture_output=True, text=True)
     assert ran.returncode == 1 and ran.stderr.count("\n") == 1, ran.stderr
     assert not [name for name in town.names() if "made.gpkg" in name]
+
+
+@pytest.fixture
+def full_disk(room: Room) -> Iterator[Path]:
+    """A disk with room for some 60,000 bytes, where root may mount one."""
+    folder = room.folder / "disk"
+    folder.mkdir()
+    mounted = subprocess.run(["mount", "-t", "tmpfs", "-o", "size=64k", "tmpfs", folder], capture_output=True)
+    if mounted.returncode:
+        pytest.skip("no disk can be mounted")
+    yield folder
+    subprocess.run(["umount", folder], check=True)
+
+
+def test_what_a_full_disk_does_not_take_is_not_there(room: Room, full_disk: Path, tmp_path: Path) -> None:
+    pytest.importorskip("geopandas")
+    pytest.importorskip("h5py")
+    names = [f"S{number}" for number in range(400)]
+    places = [[name, f"Stop {name}", 50 + number / 1000, 7] for number, name in enumerate(names)]
+    room.write("stops.txt", "stop_id,stop_name,stop_lat,stop_lon", places)
+    draw = random.Random(1)
+    times: dict[str, list[Cell]] = {name: [draw.randrange(3600) for _ in names] for name in names}
+    (tmp_path / "matrix.csv").write_text(town_matrix(True, {"base": times}, stops=names))
+    feed, matrix = str(tmp_path), room.path("matrix.csv")
+    for name, words in (
+        ("made.gpkg", ["gis", "--feed", feed, "--origin", "S0"]),
+        ("made.json", ["gis", "--feed", feed, "--origin", "S0"]),
+        ("made.omx", ["omx"]),
+        ("made.csv", ["long", "--feed", feed]),
+    ):
+        ran = launched(*words, "--out", str(full_disk / name), matrix)
+        said = ran.stderr.decode()
+        assert ran.returncode == 1 and said.count("\n") == 1 and str(full_disk / name) in said, said
+        assert list(full_disk.iterdir()) == [], said
 
 
 def test_a_comma_for_a_point_and_formulas_are_told(room: Room) -> None:
