@@ -64,6 +64,13 @@ def firsts(room: Room, name: str) -> list[str]:
     return [line.split(",")[0] for line in texts(room, name)]
 
 
+@pytest.mark.parametrize("box", [["--box", "-7,49,9,50.15"], ["--box=-.5,49,9,50.15"]])
+def test_a_region_may_begin_west_of_greenwich(feed: Room, box: list[str]) -> None:
+    """An argument that begins with a minus and a number is no option."""
+    clipped(feed, *box)
+    assert firsts(feed, "stops.txt") == ["A", "B", "S", "E"]
+
+
 def test_a_region_keeps_stops_inside_with_their_stations_and_the_calls_there(feed: Room) -> None:
     clipped(feed, "--box", SOUTH)
     assert firsts(feed, "stops.txt") == ["A", "B", "S", "E"]

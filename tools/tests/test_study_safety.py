@@ -145,7 +145,7 @@ def test_a_kill_while_old_outputs_are_removed_leaves_the_study_its_own(
     folder.do(stages.Stage("maps", {}, ["maps"], make))
     child = os.fork()
     if child == 0:
-        stages.remove = lambda _: os.kill(os.getpid(), signal.SIGKILL)
+        monkeypatch.setattr("ttm_tools.study.stages.remove", lambda _: os.kill(os.getpid(), signal.SIGKILL))
         folder.do(stages.Stage("maps", {"new": 1}, ["maps"], make))
     assert os.waitstatus_to_exitcode(os.waitpid(child, 0)[1]) == -signal.SIGKILL
     folder.do(stages.Stage("maps", {"new": 1}, ["maps"], make))

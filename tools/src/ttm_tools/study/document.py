@@ -17,7 +17,8 @@ h1, h2, h3, p, li { overflow-wrap: anywhere; }
 .wide { overflow-x: auto; margin: 1em 0; }
 .wide:focus-visible { outline: 3px solid #0b57a4; outline-offset: 2px; }
 table { border-collapse: collapse; font-size: 0.9em; }
-caption { text-align: left; font-weight: bold; padding: 0.2em 0; }
+caption { text-align: left; font-weight: bold; padding: 0.2em 0; box-sizing: border-box; }
+@media screen { caption { max-width: calc(100vw - 3em); } } /* of a table that is wider than the screen */
 th, td { border: 1px solid #bbb; padding: 0.2em 0.6em; text-align: left; vertical-align: top; }
 td.number { text-align: right; white-space: nowrap; font-variant-numeric: tabular-nums; }
 code { background: #f2f2f2; overflow-wrap: anywhere; }
