@@ -6,7 +6,7 @@ use Rattle.studies.specs.declared.fault.StudyFault.{StudyFault}
 use Rattle.studies.specs.declared.kept.Kept.{Kept}
 use Rattle.studies.specs.declared.question.Question.{Question}
 use Rattle.studies.specs.Answers.{IsQuestion, asked_files}
-use Rattle.studies.specs.Inputs.{AreWithinLimit, InputFiles, inputs_of}
+use Rattle.studies.specs.Inputs.{InputFiles, inputs_of}
 use Rattle.studies.specs.Kept.{IsKept, lasting_files, lasting_settings}
 use Rattle.studies.specs.Parts.{feed_in, point_faults}
 use Rattle.studies.specs.Settings.{SettingsData}
@@ -21,16 +21,6 @@ module _ (k : Kept) (q : Question) (kept : IsKept k) (is : IsQuestion k.settings
 
   abbrev pub settings : SettingsData
   settings = q.settings.now
-
-  pub within_limit : AreWithinLimit files
-  within_limit = record {
-    feed = kept.limit.feed;
-    footpaths = kept.limit.footpaths;
-    origins = is.origins;
-    opportunities = is.opportunities;
-    destinations = is.destinations;
-    scenarios = kept.limit.scenarios;
-  }
 
   made : AreNetworks (lasting_files files) (lasting_settings settings) k.networks.items
   made = subst (λ (s : SettingsData). AreNetworks (lasting_files files) s k.networks.items) (sym is.lasting)
