@@ -4,12 +4,13 @@ use Rattle.std.specs.Prelude.{IfErr}
 use Rattle.workers.specs.Held.{Decides, WasTold}
 use Rattle.workers.proofs.AnyGate.{any_decides, any_told, any_new}
 use Rattle.workers.specs.declared.faults.RunFault.{RunFault}
+use Rattle.gtfs_tables.specs.Feed.{FeedData}
 use Rattle.studies.specs.declared.fault.StudyFault.{StudyFault}
 use Rattle.studies.specs.declared.fault.StudyFault.TheVariants as fault
 use Rattle.studies.specs.Inputs.{InputFiles}
 use Rattle.studies.specs.NamedFile.{NamedBytes}
 use Rattle.studies.specs.Settings.{SettingsData}
-use Rattle.studies.specs.Stages.{IsOfNoRun, TellsNames}
+use Rattle.studies.specs.Stages.{IsOfNoRun, TellsNames, TellsTables}
 use Rattle.studies.specs.Study.{IsFaultOfRun, Tells, TellsBy}
 
 module _ (decides : Decides) (was_told : WasTold) where
@@ -62,3 +63,15 @@ names_no_run (fault.Net k e) files h = absurd h
 names_no_run (fault.Run e) files h = absurd h
 names_no_run (fault.Text e) files h = absurd h
 names_no_run fault.Memory files h = absurd h
+
+pub tables_no_run : (e : StudyFault) (i : InputFiles) (feed : FeedData) → TellsTables e i feed → IsOfNoRun e
+tables_no_run fault.Scenarios i feed h = absurd h
+tables_no_run (fault.Name k) i feed h = absurd h
+tables_no_run (fault.Feed e) i feed h = tt
+tables_no_run (fault.Scenario k e) i feed h = absurd h
+tables_no_run (fault.Days e) i feed h = absurd h
+tables_no_run (fault.Feet e) i feed h = absurd h
+tables_no_run (fault.Net k e) i feed h = absurd h
+tables_no_run (fault.Run e) i feed h = absurd h
+tables_no_run (fault.Text e) i feed h = absurd h
+tables_no_run fault.Memory i feed h = tt

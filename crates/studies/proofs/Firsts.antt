@@ -19,6 +19,14 @@ tells_right e xs ys none h = elim h [ inl m ↦ inl m | inr f ↦ inr (first_rig
 pub none_of_both : {F : Type 0} (xs ys : List F) → xs ≡ [] → ys ≡ [] → xs ++ ys ≡ []
 none_of_both xs ys none_left none_right = rw (none_left, none_right) refl
 
+pub none_left : {F : Type 0} (xs ys : List F) → xs ++ ys ≡ [] → xs ≡ []
+none_left [] ys h = refl
+none_left (x ∷ xs) ys h = cc
+
+pub none_right : {F : Type 0} (xs ys : List F) → xs ++ ys ≡ [] → ys ≡ []
+none_right [] ys h = h
+none_right (x ∷ xs) ys h = cc
+
 -- where a list has no element it has no first one
 pub no_first : {F : Type 0} (e : F) (xs : List F) → xs ≡ [] → IsFirst e xs → ⊥
 no_first e xs none h =

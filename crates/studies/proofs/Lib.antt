@@ -10,5 +10,8 @@ pub mod FewOrigins
 pub mod StudyFacts
 pub mod OneMeaning
 mod OtherColumns
+pub mod Lasting
+pub mod Asking
+pub mod Answered
 pub mod AnyGate
 pub mod Saw

@@ -23,6 +23,7 @@ use Rattle.service_days.specs.declared.run.Run.{Run}
 use Rattle.service_days.specs.Instances as days
 use Rattle.service_days.specs.Instances.{IsRun}
 use Rattle.footpaths.specs.Direct.{DirectLists}
+use Rattle.footpaths.specs.Walks.{direct_faults}
 use Rattle.footpaths.specs.declared.faults.FootFault.{FootFault}
 use Rattle.footpaths.specs.declared.faults.FootFault.TheVariants as foot
 use Rattle.footpaths.specs.Closure.{IsClosure, IsFootFault, HasTooMany}
@@ -45,8 +46,8 @@ use Rattle.studies.specs.NamedFile.{NamedBytes}
 use Rattle.studies.specs.Names.{name_faults, names_of}
 use Rattle.studies.specs.Settings.{SettingsData, SettingsFit, query_of, window_of}
 use Rattle.studies.specs.Parts.{destinations_in, direct_in, edit_faults, feed_in, labels_in}
-use Rattle.studies.specs.Parts.{network_faults, networks_of, opportunities_in, origins_in, own_faults, runs_in}
-use Rattle.studies.specs.Parts.{scenarios_in, study_in, table_faults}
+use Rattle.studies.specs.Parts.{network_faults, networks_of, opportunities_in, origins_in, own_faults}
+use Rattle.studies.specs.Parts.{point_faults, runs_in, scenarios_in, study_in, table_faults}
 use Rattle.work_book.specs.declared.rule.View.{View}
 use Rattle.work_book.specs.declared.shared.Board.{Board}
 use Rattle.work_book.specs.Views.{first_view}
@@ -58,7 +59,7 @@ use Rattle.studies.specs.Stages.{AreNetworkParts, AreTables, IsFeedOf, TellsEdit
 use Rattle.studies.specs.Stages.{TellsTables, TellsText}
 use Rattle.studies.specs.Study.{AreDated, AreEdited, AreNamed, AreNetworks, AreRead, AreWalked, IsFaultOfRun}
 use Rattle.studies.specs.Study.{IsStudyText, Means, Tells, TellsBy}
-use Rattle.studies.proofs.Firsts.{first_left, first_right, none_of_both}
+use Rattle.studies.proofs.Firsts.{first_left, first_right, none_of_both, tells_left, tells_right}
 
 -- settings, by their fields
 abbrev pub seen : Inside → SettingsData
@@ -122,21 +123,32 @@ module _ (i : InputFiles) (s : SettingsData) where
       none_of_both (feed_faults i.feed) (own_faults i (feed_in i)) is.faultless
       (subst (λ (d : FeedData). own_faults i d ≡ []) is.feed_is none)
 
-  pub are_read : (feed : FeedData) → AreNamed i → IsFeedOf i feed → own_faults i feed ≡ [] → AreRead i
-  are_read feed named is none = record { named = named; tables = no_table_faults feed is none }
+  pub are_read : (feed : FeedData) → AreNamed i → IsFeedOf i feed → direct_faults feed i.footpaths ≡ [] →
+      point_faults i feed ≡ [] → AreRead i
+  are_read feed named is walked none = record {
+    named = named;
+    tables = no_table_faults feed is
+        (none_of_both (direct_faults feed i.footpaths) (point_faults i feed) walked none);
+  }
 
-  pub tables_told : (decides : Decides) (was_told : WasTold) (e : StudyFault) (feed : FeedData) → AreNamed i →
-      IsFeedOf i feed → TellsTables e i feed → TellsBy decides was_told e i s
-  tables_told decides was_told fault.Scenarios feed named is h = absurd h
-  tables_told decides was_told (fault.Name k) feed named is h = absurd h
-  tables_told decides was_told (fault.Feed e) feed named is h = own_told e feed named is h
-  tables_told decides was_told (fault.Scenario k e) feed named is h = absurd h
-  tables_told decides was_told (fault.Days e) feed named is h = absurd h
-  tables_told decides was_told (fault.Feet e) feed named is h = absurd h
-  tables_told decides was_told (fault.Net k e) feed named is h = absurd h
-  tables_told decides was_told (fault.Run e) feed named is h = absurd h
-  tables_told decides was_told (fault.Text e) feed named is h = absurd h
-  tables_told decides was_told fault.Memory feed named is h = inl h
+  pub direct_told : (e : FeedFault) (feed : FeedData) → AreNamed i → IsFeedOf i feed →
+      records.Tells e (direct_faults feed i.footpaths) → Tells (fault.Feed e) i s
+  direct_told e feed named is h =
+      own_told e feed named is (tells_left e (direct_faults feed i.footpaths) (point_faults i feed) h)
+
+  pub tables_told : (e : StudyFault) (feed : FeedData) → AreNamed i → IsFeedOf i feed →
+      direct_faults feed i.footpaths ≡ [] → TellsTables e i feed → Tells e i s
+  tables_told fault.Scenarios feed named is walked h = absurd h
+  tables_told (fault.Name k) feed named is walked h = absurd h
+  tables_told (fault.Feed e) feed named is walked h =
+      own_told e feed named is (tells_right e (direct_faults feed i.footpaths) (point_faults i feed) walked h)
+  tables_told (fault.Scenario k e) feed named is walked h = absurd h
+  tables_told (fault.Days e) feed named is walked h = absurd h
+  tables_told (fault.Feet e) feed named is walked h = absurd h
+  tables_told (fault.Net k e) feed named is walked h = absurd h
+  tables_told (fault.Run e) feed named is walked h = absurd h
+  tables_told (fault.Text e) feed named is walked h = absurd h
+  tables_told fault.Memory feed named is walked h = inl h
 
   pub are_edited : (feed : FeedData) → AreRead i → feed ≡ feed_in i → edit_faults feed 0 i.scenarios ≡ [] → AreEdited i
   are_edited feed read is none = record {

@@ -7,6 +7,8 @@ pub mod Names
 pub mod Parts
 pub mod Stages
 pub mod Study
+pub mod Kept
+pub mod Answers
 pub mod Laws
 pub mod FeedFiles
 pub mod Watched

@@ -45,12 +45,15 @@ opportunities_in i = opportunities_of i.opportunities (feed_in i)
 abbrev pub destinations_in : InputFiles → List StopNo
 destinations_in i = destinations_of i.destinations (feed_in i)
 
--- the faults of the analyst's own tables: those of footpaths, of origins, of opportunities, and of destinations
+-- the faults of the tables of a question: those of origins, of opportunities, and of destinations
+abbrev pub point_faults : InputFiles → FeedData → List FeedFault
+point_faults i feed =
+    origins_faults i.origins feed
+    ++ (opportunities_faults i.opportunities feed ++ destinations_faults i.destinations feed)
+
+-- the faults of the analyst's own tables: those of footpaths, and of the tables of a question
 abbrev pub own_faults : InputFiles → FeedData → List FeedFault
-own_faults i feed =
-    direct_faults feed i.footpaths
-    ++ (origins_faults i.origins feed
-    ++ (opportunities_faults i.opportunities feed ++ destinations_faults i.destinations feed))
+own_faults i feed = direct_faults feed i.footpaths ++ point_faults i feed
 
 -- the faults of all files but the scenarios: the feed's, and then those of the analyst's own tables
 abbrev pub table_faults : InputFiles → List FeedFault

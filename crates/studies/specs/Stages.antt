@@ -6,7 +6,6 @@ use Rattle.gtfs_tables.specs.Feed.{FeedData}
 use Rattle.gtfs_tables.specs.Files.{feed_faults}
 use Rattle.gtfs_tables.specs.Origins.{destinations_of, origins_of}
 use Rattle.gtfs_tables.specs.Opportunities.{opportunities_of}
-use Rattle.footpaths.specs.Walks.{direct_of}
 use Rattle.service_days.specs.declared.run.Run.{Run}
 use Rattle.service_days.specs.Instances.{IsRun}
 use Rattle.scenarios.specs.declared.faults.ScenarioWhat.TheVariants as edit
@@ -20,7 +19,7 @@ use Rattle.studies.specs.declared.parts.Tables.{Tables}
 use Rattle.studies.specs.Inputs.{InputFiles}
 use Rattle.studies.specs.NamedFile.{NamedBytes}
 use Rattle.studies.specs.Names.{name_faults}
-use Rattle.studies.specs.Parts.{feed_in, edit_faults, network_faults, own_faults, runs_in}
+use Rattle.studies.specs.Parts.{feed_in, edit_faults, network_faults, point_faults, runs_in}
 use Rattle.studies.specs.Parts.{scenarios_in}
 use Rattle.studies.specs.Settings.{SettingsData}
 use Rattle.studies.specs.Study.{AreWalked}
@@ -30,10 +29,9 @@ pub record IsFeedOf (i : InputFiles) (feed : FeedData) : Type 0 where
   pub faultless : feed_faults i.feed ≡ []
   pub feed_is : feed ≡ feed_in i
 
--- the analyst's own tables for a feed: the origins and destinations are stops, each once, and each stop has its
+-- the tables of a question for a feed: the origins and destinations are stops, each once, and each stop has its
 -- opportunities
 pub record AreTables (i : InputFiles) (feed : FeedData) (t : Tables) : Type 0 where
-  pub direct_is : t.direct ≡ direct_of feed i.footpaths
   pub origins_are : t.origins.items ≡ origins_of i.origins feed
   pub opportunities_are : t.opportunities.items ≡ opportunities_of i.opportunities feed
   pub in_range : All (λ o. o.0 < length feed.stops) t.origins.items
@@ -50,9 +48,9 @@ pub record AreNetworkParts (i : InputFiles) (s : SettingsData) (p : NetworkParts
   pub of_feed : All (IsRun (feed_in i)) p.runs.items
   pub walked : AreWalked i s p.feet
 
--- the first fault of the analyst's own tables, or out of memory
+-- the first fault of the tables of a question, or out of memory
 abbrev pub TellsTables : StudyFault → InputFiles → FeedData → Type 0
-TellsTables (fault.Feed e) i feed = Tells e (own_faults i feed)
+TellsTables (fault.Feed e) i feed = Tells e (point_faults i feed)
 TellsTables fault.Memory i feed = ⊤
 TellsTables _ i feed = ⊥
 

@@ -3,6 +3,9 @@
 //! - `study`: [`run_study`], the text of the matrix that the files ([`Inputs`], [`NamedFile`]) and the [`Settings`]
 //!   mean, or the first [`StudyFault`]. Its stages, each making one value of those before it: `names`, `tables`,
 //!   `networks` (with `scenario_files`), `matrix`; `parts` has what they hand on, and `boxes` puts it in boxes.
+//! - `kept`: [`keep`] reads and makes what no question changes ([`Kept`]); `question`: [`answer`] gives a [`Question`]'s
+//!   answer by it, [`answers`] those of a list. [`watch_study`] goes the same way: it makes what is kept, and answers
+//!   the study's own question.
 //! - `watch`: [`watch_study`] is [`run_study`] with a [`Watch`], who is told what each stage has made.
 //! - `inputs`, `named_file`, `settings`: what a study is made of, and `limits`, within which; `fault`: why there is
 //!   none.
@@ -19,6 +22,7 @@ mod boxes;
 mod fault;
 mod feed_files;
 mod inputs;
+mod kept;
 mod laws;
 mod limits;
 mod line;
@@ -29,6 +33,7 @@ mod names;
 mod networks;
 mod once;
 mod parts;
+mod question;
 mod scenario_files;
 mod settings;
 mod study;
@@ -38,10 +43,12 @@ mod watch;
 pub use fault::StudyFault;
 pub use feed_files::{FeedFiles, bytes_of};
 pub use inputs::Inputs;
+pub use kept::{Kept, keep};
 pub use laws::{refused_have_no_meaning, texts_are_unique, texts_have_their_columns};
 pub use limits::{MOST_DAYS, MOST_WORKERS, limits_are_as_stated};
 pub use minute::minute_line;
 pub use named_file::NamedFile;
+pub use question::{Question, answer, answers};
 pub use settings::Settings;
 pub use study::{run_study, watch_study};
 pub use watch::{Unwatched, Watch};

@@ -1,15 +1,15 @@
-//! What the stages of a study hand on, beside the feed: the analyst's own tables, and what networks are made of.
+//! What the stages of a study hand on: the analyst's own tables, what networks are made of, and what is asked of them.
 
-use footpaths::Direct;
+use crate::inputs::Inputs;
+use crate::kept::Kept;
+use crate::settings::Settings;
 use scenarios::Scenario;
 use service_days::Run;
 use timetable::{Feet, StopNo};
 
-/// What the analyst's own tables state, beside a feed.
+/// The tables of a question, by the feed that names their stops.
 #[derive(Drop)]
 pub(crate) struct Tables {
-    /// The direct footpaths, of the feed and then of the analyst's file.
-    pub direct: Direct,
     /// The stops at which journeys begin.
     pub origins: Vec<StopNo>,
     /// What each stop counts for.
@@ -27,4 +27,19 @@ pub(crate) struct NetworkParts {
     pub runs: Vec<Run>,
     /// The closed footpaths.
     pub feet: Feet,
+}
+
+/// A study whose rows aren't computed yet: what is kept, and the tables of its question.
+#[derive(Drop)]
+pub(crate) struct Prepared<'a> {
+    pub kept: Kept<'a>,
+    pub tables: Box<Tables>,
+}
+
+/// What is asked of the networks that are kept: a question's files and settings, and what its tables state.
+#[derive(Clone, Copy)]
+pub(crate) struct Asked<'a> {
+    pub inputs: &'a Inputs<'a>,
+    pub settings: &'a Settings,
+    pub tables: &'a Tables,
 }

@@ -7,18 +7,16 @@ ghost use Rattle.studies.specs.Inputs.{AreWithinLimit, inputs_of};
 ghost use Rattle.studies.specs.Parts.{feed_in, labels_in};
 ghost use Rattle.studies.specs.Settings.{SettingsFit};
 ghost use Rattle.studies.specs.Stages.{AreTables, TellsText};
-ghost use Rattle.studies.specs.Watched.{SawAll};
-ghost use Rattle.studies.specs.Study.{IsStudyText, Tells, TellsBy};
+ghost use Rattle.studies.specs.Watched.{SawAll, listed};
+ghost use Rattle.studies.specs.Study.{AreNetworks, IsStudyText, Tells, TellsBy};
 
-use crate::boxes::feed_from;
 use crate::fault::StudyFault;
 use crate::inputs::Inputs;
+use crate::kept::{Kept, prepare};
 use crate::matrix::matrix_of;
-use crate::names::{check_names, names_of};
-use crate::networks::{make_networks, network_parts};
-use crate::parts::Tables;
+use crate::names::names_of;
+use crate::parts::{Asked, Tables};
 use crate::settings::Settings;
-use crate::tables::read_tables;
 use crate::watch::{Unwatched, Watch};
 use collector::Matrix;
 use gtfs_tables::Feed;
@@ -74,26 +72,55 @@ pub fn watch_study<G: Gate + Sync, W: Watch, R: Threads + Wait + Sync>(
     ensures run { IfErr result (λ e. TellsBy (G.decides gate.now) (G.was_told gate.now) e (inputs_of inputs.now)
         settings.now) }
 {
-    check_names(inputs.scenarios)?;
-    let feed = feed_from(alloc, &inputs.feed)?;
-    let feed = feed.as_ref();
-    let tables = read_tables(alloc, inputs, feed)?;
-    let tables = tables.as_ref();
-    watch.tables_read(feed, &tables.direct, &tables.origins, &tables.destinations);
-    let parts = network_parts(alloc, inputs, settings, feed, &tables.direct)?;
-    let parts = parts.as_ref();
-    watch.days_listed(feed, settings, &parts.scenarios, &parts.runs, &parts.feet);
-    let networks = make_networks(alloc, feed, &parts.scenarios, &parts.runs, &parts.feet)?;
+    let prepared = prepare(alloc, inputs, settings, watch)?;
+    let asked = Asked {
+        inputs,
+        settings,
+        tables: prepared.tables.as_ref(),
+    };
+    text_of(rt, alloc, &prepared.kept, &asked, gate, watch)
+}
+
+/// The text of the matrix of what is asked of the networks that are kept.
+pub(crate) fn text_of<G: Gate + Sync, W: Watch, R: Threads + Wait + Sync>(
+    rt: &R,
+    alloc: Global,
+    kept: &Kept<'_>,
+    asked: &Asked<'_>,
+    gate: &G,
+    watch: &W,
+) -> Result<Vec<u8>, StudyFault>
+    requires settings { SettingsFit asked.now.settings.now }
+    requires feed { kept.now.feed.value ≡ feed_in (inputs_of asked.now.inputs.now) }
+    requires tables { AreTables (inputs_of asked.now.inputs.now) kept.now.feed.value asked.now.tables.now }
+    requires networks { AreNetworks (inputs_of asked.now.inputs.now) asked.now.settings.now kept.now.networks.items }
+    requires listed { W.saw watch.now listed }
+    ensures text { IfOk result (λ text.
+        IsStudyText (inputs_of asked.now.inputs.now) asked.now.settings.now text.items) }
+    ensures told { IfOk result (λ _.
+        SawAll (W.saw watch.now) (inputs_of asked.now.inputs.now) asked.now.settings.now) }
+    ensures run { IfErr result (λ e. TellsBy (G.decides gate.now) (G.was_told gate.now) e
+        (inputs_of asked.now.inputs.now) asked.now.settings.now) }
+{
+    let feed = kept.feed.as_ref();
+    let tables = asked.tables;
     feed.known();
     let study = Study {
         number: 0,
-        networks: networks.as_slice(),
+        networks: kept.networks.as_slice(),
         origins: tables.origins.as_slice(),
         opportunities: tables.opportunities.as_slice(),
-        ..settings.asked(tables.destinations.as_slice())
+        ..asked.settings.asked(tables.destinations.as_slice())
     };
-    let matrix = matrix_of(rt, alloc, &study, settings, gate, watch)?;
-    text_of_matrix(alloc, inputs, settings, feed, tables, matrix.as_ref())
+    let matrix = matrix_of(rt, alloc, &study, asked.settings, gate, watch)?;
+    text_of_matrix(
+        alloc,
+        asked.inputs,
+        asked.settings,
+        feed,
+        tables,
+        matrix.as_ref(),
+    )
 }
 
 /// The text of the matrix.

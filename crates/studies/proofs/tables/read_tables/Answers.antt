@@ -1,5 +1,4 @@
 use Rattle.std.proofs.Common.{◌≡◌, ◌++◌, List, [], subst, sym}
-use Rattle.footpaths.specs.Walks.{direct_faults}
 use Rattle.gtfs_tables.specs.Feed.{FeedData}
 use Rattle.gtfs_tables.specs.Opportunities.{opportunities_faults}
 use Rattle.gtfs_tables.specs.Origins.{destinations_faults, origins_faults}
@@ -10,7 +9,7 @@ use Rattle.studies.specs.declared.fault.StudyFault.{StudyFault}
 use Rattle.studies.specs.declared.fault.StudyFault.TheVariants as fault
 use Rattle.studies.specs.declared.parts.Tables.{Tables}
 use Rattle.studies.specs.Inputs.{InputFiles, inputs_of}
-use Rattle.studies.specs.Parts.{own_faults}
+use Rattle.studies.specs.Parts.{point_faults}
 use Rattle.studies.specs.Stages.{AreTables, TellsTables}
 use Rattle.studies.proofs.FewOrigins.{few_origins}
 use Rattle.studies.proofs.Firsts.{none_of_both, tells_left, tells_right}
@@ -18,32 +17,13 @@ use Rattle.studies.proofs.StudyFacts.{err_by}
 use Rattle.studies.proofs.tables.read_tables.Goals as goal
 
 module _ (i : InputFiles) (feed : FeedData) where
-  -- the faults after those of the origins, and after those of the footpaths
+  -- the faults after those of the origins
   abbrev after_origins : List FeedFault
   after_origins = opportunities_faults i.opportunities feed ++ destinations_faults i.destinations feed
 
-  abbrev after_footpaths : List FeedFault
-  after_footpaths = origins_faults i.origins feed ++ after_origins
-
-  past_footpaths : (e : FeedFault) → direct_faults feed i.footpaths ≡ [] → Tells e after_footpaths →
-      Tells e (own_faults i feed)
-  past_footpaths e none h = tells_right e (direct_faults feed i.footpaths) after_footpaths none h
-
-  past_origins : (e : FeedFault) → direct_faults feed i.footpaths ≡ [] → origins_faults i.origins feed ≡ [] →
-      Tells e after_origins → Tells e (own_faults i feed)
-  past_origins e no_walks none h =
-      past_footpaths e no_walks (tells_right e (origins_faults i.origins feed) after_origins none h)
-
-pub direct-requires : goal.direct-requires
-direct-requires c = c.requires.footpaths
-
-pub returns-in_err-direct-clause-fault : goal.returns-in_err-direct-clause-fault
-returns-in_err-direct-clause-fault c =
-    let i = inputs_of c.args.inputs.now in
-    let feed = c.args.feed.now in
-    let e = c.in_err-direct.field-0.0 in
-    err_by (λ (e : StudyFault). TellsTables e i feed) c.from_residual.result (fault.Feed e) c.from_residual.ensures.1
-    (tells_left e (direct_faults feed i.footpaths) (after_footpaths i feed) c.in_err-direct.ensures.fault)
+  past_origins : (e : FeedFault) → origins_faults i.origins feed ≡ [] → Tells e after_origins →
+      Tells e (point_faults i feed)
+  past_origins e none h = tells_right e (origins_faults i.origins feed) after_origins none h
 
 pub read_origins-requires : goal.read_origins-requires
 read_origins-requires c = c.requires.origins
@@ -53,10 +33,9 @@ returns-in_err-origins-clause-fault c =
     let i = inputs_of c.args.inputs.now in
     let feed = c.args.feed.now in
     let e = c.in_err-origins.field-0.0 in
-    err_by (λ (e : StudyFault). TellsTables e i feed) c.from_residual-in_err-origins.result (fault.Feed e)
-    c.from_residual-in_err-origins.ensures.1
-    (past_footpaths i feed e c.in_ok-direct.ensures.good.0
-    (tells_left e (origins_faults i.origins feed) (after_origins i feed) c.in_err-origins.ensures.fault))
+    err_by (λ (e : StudyFault). TellsTables e i feed) c.from_residual.result (fault.Feed e)
+    c.from_residual.ensures.1
+    (tells_left e (origins_faults i.origins feed) (after_origins i feed) c.in_err-origins.ensures.fault)
 
 pub read_opportunities-requires : goal.read_opportunities-requires
 read_opportunities-requires c = c.requires.opportunities
@@ -68,7 +47,7 @@ returns-in_err-opportunities-clause-fault c =
     let e = c.in_err-opportunities.field-0.0 in
     err_by (λ (e : StudyFault). TellsTables e i feed) c.from_residual-in_err-opportunities.result (fault.Feed e)
     c.from_residual-in_err-opportunities.ensures.1
-    (past_origins i feed e c.in_ok-direct.ensures.good.0 c.in_ok-origins.ensures.good.0
+    (past_origins i feed e c.in_ok-origins.ensures.good.0
     (tells_left e (opportunities_faults i.opportunities feed) (destinations_faults i.destinations feed)
     c.in_err-opportunities.ensures.fault))
 
@@ -82,7 +61,7 @@ returns-in_err-destinations-clause-fault c =
     let e = c.in_err-destinations.field-0.0 in
     err_by (λ (e : StudyFault). TellsTables e i feed) c.from_residual-in_err-destinations.result (fault.Feed e)
     c.from_residual-in_err-destinations.ensures.1
-    (past_origins i feed e c.in_ok-direct.ensures.good.0 c.in_ok-origins.ensures.good.0
+    (past_origins i feed e c.in_ok-origins.ensures.good.0
     (tells_right e (opportunities_faults i.opportunities feed) (destinations_faults i.destinations feed)
     c.in_ok-opportunities.ensures.good.0 c.in_err-destinations.ensures.fault))
 
@@ -90,23 +69,20 @@ pub returns-clause-good : goal.returns-clause-good
 returns-clause-good c =
     let i = inputs_of c.args.inputs.now in
     let feed = c.args.feed.now in
-    none_of_both (direct_faults feed i.footpaths) (after_footpaths i feed) c.in_ok-direct.ensures.good.0
-    (none_of_both (origins_faults i.origins feed) (after_origins i feed) c.in_ok-origins.ensures.good.0
+    none_of_both (origins_faults i.origins feed) (after_origins i feed) c.in_ok-origins.ensures.good.0
     (none_of_both (opportunities_faults i.opportunities feed) (destinations_faults i.destinations feed)
-    c.in_ok-opportunities.ensures.good.0 c.in_ok-destinations.ensures.good.0))
+    c.in_ok-opportunities.ensures.good.0 c.in_ok-destinations.ensures.good.0)
 
 pub returns-clause-tables : goal.returns-clause-tables
 returns-clause-tables c =
     let i = inputs_of c.args.inputs.now in
     let feed = c.args.feed.now in
     let made : Tables = record {
-      direct = c.in_ok-direct.direct;
       origins = c.in_ok-origins.origins;
       opportunities = c.in_ok-opportunities.opportunities;
       destinations = c.in_ok-destinations.destinations;
     } in
     let are : AreTables i feed made = record {
-      direct_is = c.in_ok-direct.ensures.good.1;
       origins_are = c.in_ok-origins.ensures.good.1;
       opportunities_are = c.in_ok-opportunities.ensures.good.1;
       in_range = c.in_ok-origins.ensures.stops;
