@@ -24,9 +24,12 @@ and Leaflet from Debian's libjs-leaflet. Memory: that of a run of ttm, and 400 b
 
 
 def describe(parser: argparse.ArgumentParser) -> None:
-    parser.add_argument("feed", metavar="FEED", help="the folder of an unpacked feed that ttm takes")
-    told = "the day of the departures, YYYYMMDD or YYYY-MM-DD (needed)"
-    parser.add_argument("--date", metavar="DATE", type=day, required=True, help=told)
+    told = (
+        "the folder of an unpacked feed that ttm takes; or a study's file, whose feed, day, window and plan are taken"
+    )
+    parser.add_argument("feed", metavar="FEED", help=told)
+    told = "the day of the departures, YYYYMMDD or YYYY-MM-DD (needed for a feed)"
+    parser.add_argument("--date", metavar="DATE", type=day, help=told)
     for name, told, at in (("--from", "first", "07:30"), ("--to", "last", "08:29")):
         help = f"the {told} departure at first, one each minute (default {at})"
         parser.add_argument(name, dest=told, metavar="HH:MM", type=clock, default=at, help=help)
@@ -49,13 +52,21 @@ def describe(parser: argparse.ArgumentParser) -> None:
 
 def wish_of(words: argparse.Namespace) -> "Wish":
     """What these arguments ask for."""
+    from datetime import date
+
+    from ..explore.of_study import wish_of_study
     from ..explore.wish import Wish
     from ..faults import WrongWords
 
     if words.last < words.first:
         raise WrongWords("--to is before --from")
-    names = [name for name in Wish.__dataclass_fields__ if name not in ("window", "shares")]
-    return Wish(window=(words.first, words.last), **{name: getattr(words, name) for name in names})
+    is_study = words.feed.endswith(".toml")
+    if words.date is None and not is_study:
+        raise WrongWords("--date is needed where no study is named")
+    names = [name for name in Wish.__dataclass_fields__ if name not in ("window", "shares", "date")]
+    known = {name: getattr(words, name) for name in names}
+    made = Wish(window=(words.first, words.last), date=words.date or date.min, **known)
+    return wish_of_study(words.feed, made) if is_study else made
 
 
 def run(words: argparse.Namespace) -> int:

@@ -11,7 +11,7 @@ from ..views.page.content import Content
 from .exploration import Exploration
 
 ASSETS = Path(__file__).resolve().parent / "assets"
-LIVE = ("live.js", "isochrones.js", "journey.js", "routes.js", "keep.js")  # in place of the page's cells
+LIVE = ("live.js", "isochrones.js", "journey.js", "routes.js", "beside.js", "keep.js")  # in place of the page's cells
 MINUTES = 30  # at which the slider stands first
 
 

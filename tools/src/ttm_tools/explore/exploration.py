@@ -10,6 +10,8 @@ from ..feed import Stops, read_stops
 from ..measures.opportunities import Counts, read_counts
 from ..plans.base import Base, read_base
 from ..plans.plan_file import read_plan
+from ..points.shown import points_in, with_points
+from ..points.table import read_points
 from ..views.page.content import Ground
 from ..views.page.lines import Lines, page_lines
 from ..views.page.places import places_of
@@ -38,9 +40,8 @@ class Exploration:
         self.wish, self.room = wish, room
         self.turnstile, self.changing, self.reading = Turnstile(), threading.Lock(), threading.RLock()
         self.plan_text = Path(wish.plan).read_text(encoding="utf-8") if wish.plan is not None else ""
-        self.standing = self.begun(1, self.planned(1, [], wish.walk))
-        self.stops: Stops = read_stops(self.standing.plan.folder)
-        self.ground = ground_of(self.stops)
+        self.standing = self.begun(1, self.planned([], wish.walk))
+        self.ground = ground_of(stops_of(self.standing.plan.folder, points_in(wish.feed)))
         self.counts: Counts = read_counts(wish.opportunities, self.ground.places.identifiers, "stop of the feed")
 
     @property
@@ -78,14 +79,14 @@ class Exploration:
         stops = read_stops(folder)
         return [name for name, kind in zip(stops.identifiers, stops.kinds.tolist()) if kind == 0][:1]
 
-    def planned(self, version: int, actions: list[Values], walk: int) -> Plan:
+    def planned(self, actions: list[Values], walk: int) -> Plan:
         """The feed with the plan and a person's changes, written into a folder of its own."""
         if not actions and not self.plan_text:
             return Plan(self.wish.feed, [], walk, actions, "", [], None)
         with self.reading:
             named = [Namer(self.ground.columns, self.of_routes).action(it) for it in actions]
             text = planning.text_of(self.plan_text, named)
-            return planning.written(self.base, text, self.room / f"plan{version}", walk, actions)
+            return planning.written(self.base, text, self.room, walk, actions)
 
     def times(self, question: Question) -> Times:
         """Travel times from a place; `Overtaken` where a later question of the same tab came meanwhile."""
@@ -98,7 +99,7 @@ class Exploration:
         """Begins another network, which answers from the moment on at which it can."""
         with self.changing:
             version = self.standing.version + 1
-            made = self.begun(version, self.planned(version, actions, walk))
+            made = self.begun(version, self.planned(actions, walk))
             with self.turnstile.passing:
                 before, self.standing = self.standing, made
             before.close()
@@ -143,6 +144,12 @@ class Exploration:
 
 def is_of(path: str, scenario: str) -> bool:
     return Path(path).name == f"{scenario}.csv"
+
+
+def stops_of(folder: str, points: str | None) -> Stops:
+    """The stops of a feed; those that `ttm-tools points` made of points with their widths."""
+    stops = read_stops(folder)
+    return stops if points is None else with_points(stops, read_points(points))
 
 
 def ground_of(stops: Stops) -> Ground:

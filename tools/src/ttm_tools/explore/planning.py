@@ -1,10 +1,12 @@
 """A plan of what somebody changes, carried out on a feed that was read once."""
 
 import os
+import tempfile
 from pathlib import Path
-from typing import Any, Sequence
+from typing import Sequence
 
 from ..faults import BadInput
+from ..files import remove
 from ..plans.base import Base
 from ..plans.carrying_out import carried_out
 from ..plans.limits import refuse_limits
@@ -28,9 +30,19 @@ def text_of(plan: str, actions: Sequence[Values]) -> str:
     return (f"{plan.rstrip()}\n\n" if plan else "") + scenario_text(name_among(names), actions)
 
 
-def written(base: Base, text: str, room: Path, walk: int, actions: list[dict[str, Any]]) -> Plan:
-    """Writes the feed of all scenarios of a plan, with their files, into a new folder."""
-    room.mkdir()
+def written(base: Base, text: str, room: Path, walk: int, actions: list[Values]) -> Plan:
+    """Writes the feed of all scenarios of a plan, with their files, into a new folder of a room; none stays where that
+    fails.
+    """
+    own = Path(tempfile.mkdtemp(prefix="plan.", dir=room))
+    try:
+        return carried(base, text, own, walk, actions)
+    except BaseException:
+        remove(own)
+        raise
+
+
+def carried(base: Base, text: str, room: Path, walk: int, actions: list[Values]) -> Plan:
     path = room / PLAN
     try:
         path.write_text(text, encoding="utf-8")

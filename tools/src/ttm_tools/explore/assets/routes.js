@@ -158,17 +158,16 @@ const routes = {
   async changed(wanted) {
     document.body.dataset.busy = "1";
     element("changing").textContent = "A network with this change begins; until then the one before answers.";
-    try {
-      const found = await (await answerOf("changes", {}, wanted)).json();
-      tellFault(null);
-      this.take(wanted, found);
-    } catch (fault) {
-      tellFault(fault);
-    }
+    const found = await answerOf("changes", {}, wanted).then((it) => it.json()).catch((fault) => tellFault(fault));
     document.body.dataset.busy = "0";
     element("changing").textContent = "";
+    if (found !== undefined) {
+      tellFault(null);
+      this.take(wanted, found);
+      await show();
+    }
     element("walk").value = live.walk;
-    await show();
+    sliders.tellValues(live.walk);
   },
 
   take(wanted, { version, scenarios, told: lines, lines: drawn }) {

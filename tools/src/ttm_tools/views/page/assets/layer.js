@@ -69,14 +69,14 @@ const Drawing = L.Layer.extend({
 
 /** The map of the page. `draw()` shows what `shown` says; `chosen(place)` is called where one is clicked on. */
 class PageMap {
-  constructor(chosen, tipOf) {
+  constructor(chosen, tipOf, identifier = "map") {
     this.points = onWorld(numbers.places);
     this.areas = new Areas();
     this.lines = {};
     this.under = []; // what additions paint below the places, and
     this.over = []; // above them
     this.shown = { classes: null, marks: [UNKNOWN], faint: null, place: -1, scenario: 0 };
-    this.map = L.map("map", { zoomControl: true, zoomSnap: 0.25, wheelPxPerZoomLevel: 90, zoomAnimation: false,
+    this.map = L.map(identifier, { zoomControl: true, zoomSnap: 0.25, wheelPxPerZoomLevel: 90, zoomAnimation: false,
       fadeAnimation: false, attributionControl: head.tiles !== null, maxZoom: 19, minZoom: 2, finest: 1 });
     L.control.scale({ imperial: false }).addTo(this.map);
     this.addNorth();

@@ -174,7 +174,9 @@ function spanOf(measure) {
 
 /** Takes a place as the one from which travel times are shown, where no addition takes it for something else. */
 function choose(place, event) {
-  page.bring(place);
+  if (event === undefined) {
+    page.bring(place); // what is clicked on is in the picture
+  }
   return additions.some((addition) => addition.takes(place, event)) ? show() : set({ place });
 }
 

@@ -1,0 +1,36 @@
+"""The words of a study as those of an exploration."""
+
+from dataclasses import replace
+
+from ..dates import day_of
+from ..faults import BadInput
+from ..study.study_file import read_study
+from .wish import Wish
+
+
+def wish_of_study(path: str, wish: Wish) -> Wish:
+    """What a study's file says, in place of the words of the command; a feed that has to be made first is refused."""
+    study = read_study(path)
+    run, walks = study.run, study.walks
+    if not study.feed.ready or study.points.all:
+        told = "its feed has to be prepared first: explore the folder of a feed, as the study's own folder has it"
+        raise BadInput(path, told, column="ready", allowed="true, and no [points]")
+    if walks.table is None and not walks.none:
+        told = "its walks have to be made first: ttm-tools walks, then table of [walks]"
+        raise BadInput(path, told, column="walks", allowed="table, or none = true")
+    table, plan = (None if it is None else study.at(it) for it in (walks.table, study.scenarios.plan))
+    return replace(
+        wish,
+        feed=study.at(study.feed.files[0]),
+        date=day_of(run.date),
+        window=(run.first, run.last),
+        trips=run.trips,
+        walk=run.walk,
+        shares=run.shares,
+        plan=plan,
+        opportunities=[study.at(it) for it in study.opportunities.files],
+        footpaths=table,
+        back=run.back,
+        ahead=run.ahead,
+        title=study.title,
+    )
