@@ -272,3 +272,34 @@ def test_a_network_of_a_folder_and_its_extent(room: Room, cache: None) -> None:
     extent = r5py.TransportNetwork(room.path("streets.osm")).extent
     low, high = degrees((0.0, -500.0)), degrees((2000.0, 2500.0))
     assert np.allclose(extent.bounds, (low.x, low.y, high.x, high.y))
+
+
+def test_more_walks_than_ttm_takes_are_named(network: r5py.TransportNetwork, monkeypatch: pytest.MonkeyPatch) -> None:
+    monkeypatch.setattr("ttm_tools.walks.counting.MOST_PAIRS", 1)
+    with pytest.raises(r5py.NotAvailable, match="^max_time_walking: 0:15:00 gives more than the .* walks") as told:
+        from_home(network)
+    assert told.value.argument == "max_time_walking"
+    monkeypatch.setattr("ttm_tools.walks.counting.MOST_PAIRS", 2)  # home to A, and C to the clinic
+    assert minutes(from_home(network)) == [41]
+
+
+def test_more_places_than_ttm_takes_are_named(network: r5py.TransportNetwork, monkeypatch: pytest.MonkeyPatch) -> None:
+    monkeypatch.setattr("ttm_tools.points.study.MOST_STOPS", 4)
+    with pytest.raises(
+        r5py.NotAvailable, match="^destinations: 3 locations of the feed and 2 points are more than the 4"
+    ):
+        from_home(network)
+    with pytest.raises(r5py.NotAvailable, match="^point_grid_resolution: 3 locations .*; ask for a larger one$"):
+        r5py.Isochrones(network, degrees((0.0, 0.0)), departure=SEVEN_45, **QUARTER)
+
+
+def test_what_a_killed_run_left_in_the_cache_is_removed(room: Room, cache: None) -> None:
+    left = room.folder / "cache" / "streets"
+    for number in range(2):
+        write_streets(room)
+        r5py.TransportNetwork(room.path("streets.osm"))
+        entry = next(path for path in left.iterdir())
+        dead = left / f".part.99999999.{entry.name}"
+        if number == 0:
+            entry.rename(dead)
+    assert [path.name for path in left.iterdir()] == [entry.name]

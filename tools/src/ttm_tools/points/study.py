@@ -21,6 +21,7 @@ from ..opening.paths import inside
 from ..parts import write_stops
 from ..records import Rounded, places_of, records, shown, write_rows
 from ..walks import Walks, told as what_is_told
+from ..walks.counting import TooManyWalks
 from .areas import AREAS_FILE, write_areas
 from .table import Points, plain
 
@@ -31,6 +32,10 @@ HELPS, HELPS_AFTER = "--leave-out leaves out points without a stop in reach; or 
 PLACE = ("stop_name", "stop_lat", "stop_lon")
 Walker = Callable[[Stops, int | None], Walks]  # of the first so many stops with all alone, where it is said
 Flags = npt.NDArray[np.bool_]
+
+
+class TooManyPlaces(BadInput):
+    """More stops and points than `ttm` takes."""
 
 
 @dataclass(frozen=True)
@@ -157,14 +162,14 @@ def refuse_places(stops: int, study: Study, helps: str) -> None:
     count = len(study.file)
     if stops + count > MOST_STOPS:
         told = f"{stops:,} locations of the feed and {count:,} points are more than the {MOST_STOPS:,} that ttm takes"
-        raise BadInput(study.points.path, f"{told}: {helps}")
+        raise TooManyPlaces(study.points.path, f"{told}: {helps}")
 
 
 def refuse_pairs(walks: Walks, study: Study, helps: str) -> None:
     """Tells more walks than `ttm` takes."""
     if len(walks.seconds) > MOST_PAIRS:
         told = f"{len(walks.seconds):,} walks are more than the {MOST_PAIRS:,} that ttm takes"
-        raise BadInput(study.points.path, f"{told}: a shorter --limit, or fewer points; {helps}")
+        raise TooManyWalks(study.points.path, f"{told}: a shorter --limit, or fewer points; {helps}")
 
 
 def told_prefixes(files: Sequence[Points], prefixes: Sequence[str]) -> Iterator[str]:

@@ -6,15 +6,16 @@ name is the checksum of all that it was made from. It may be removed at any time
 
 import hashlib
 import os
-import tempfile
+import threading
 from pathlib import Path
 from typing import Callable, Iterable
 
 from .. import __version__
-from ..files import remove, remove_leavings, sum_of
+from ..files import aside_name, remove, remove_leavings, sum_of
 from ..opening.paths import regular
 
 FORM = "1"  # changes where what is kept has another form
+MAKING = threading.RLock()  # one entry of this process at a time
 
 
 def cache_folder() -> Path:
@@ -49,15 +50,24 @@ def kept(kind: str, key: str, make: Callable[[Path], None]) -> Path:
     if entry.is_dir():
         return entry
     room.mkdir(parents=True, exist_ok=True)
-    remove_leavings(entry)
-    aside = Path(tempfile.mkdtemp(prefix=f".part.{os.getpid()}.", dir=room))
-    try:
-        make(aside)
+    with MAKING:
+        remove_leavings(entry)
+        aside = aside_name(entry)
         try:
-            os.replace(aside, entry)
-        except OSError:
-            if not entry.is_dir():  # else another process has made it meanwhile
-                raise
-    finally:
-        remove(aside)
+            remove(aside)
+            aside.mkdir()
+            make(aside)
+            if not entry.is_dir():
+                rename(aside, entry)
+        finally:
+            remove(aside)
     return entry
+
+
+def rename(aside: Path, entry: Path) -> None:
+    """Gives a folder its name, unless another process has made it meanwhile."""
+    try:
+        os.replace(aside, entry)
+    except OSError:
+        if not entry.is_dir():
+            raise

@@ -1,9 +1,11 @@
 """From door to door: travel times in seconds between places, by `ttm` where vehicles are taken, else along streets."""
 
+import contextlib
 import csv
+import datetime
 from dataclasses import dataclass
 from pathlib import Path
-from typing import Sequence
+from typing import Iterator, Sequence
 
 import numpy as np
 import numpy.typing as npt
@@ -13,11 +15,13 @@ from ..network import Network
 from ..points import study
 from ..threads import processors
 from ..walks import Walks, points_of
+from ..walks.counting import TooManyWalks
 from ..walks.streets import Ends, street_walks
 from ..walks.ways import Ways
 from .cache import kept, key_of
 from .network import Prepared, TransportNetwork
-from .places import Places
+from .places import GRID, Places
+from .refusals import NotAvailable
 from .task import NEAR, RegionalTask
 
 Seconds = npt.NDArray[np.float64]  # NaN where a place isn't reached
@@ -104,9 +108,25 @@ def doors_of(
             ends = None if same else ends_of(stops, len(stops.identifiers) - count, first)
             return street_walks(stops, pace, network.streets, NEAR, only, ends)
 
-        study.make(asked, walker)
+        with named_limits(task, files[-1]):
+            study.make(asked, walker)
 
     return Doors(kept("doors", key, make) / "doors", key, int(pace.limit))
+
+
+@contextlib.contextmanager
+def named_limits(task: RegionalTask, places: Places) -> Iterator[None]:
+    """Names the argument where there are more walks or places than `ttm` takes."""
+    try:
+        yield
+    except TooManyWalks:
+        limit = datetime.timedelta(seconds=task.pace().limit)
+        told = f"{limit} gives more than the {study.MOST_PAIRS:,} walks that ttm takes"
+        raise NotAvailable("max_time_walking", told, "ask for less, such as 20 minutes, or for fewer places") from None
+    except study.TooManyPlaces as fault:
+        argument = "point_grid_resolution" if places.name == GRID else places.name
+        instead = "ask for a larger one" if places.name == GRID else "ask for some of them at a time"
+        raise NotAvailable(argument, fault.what.partition(":")[0], instead) from None
 
 
 def ends_of(stops: Stops, own: int, origins: int) -> Ends:

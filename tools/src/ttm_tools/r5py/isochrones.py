@@ -14,7 +14,7 @@ from ..walks.osm import Streets
 from .doors import seconds_between
 from .matrix import ends_of
 from .network import network_from
-from .places import DEGREES, Places, moved
+from .places import DEGREES, GRID, Places, moved
 from .refusals import NotAvailable
 from .task import RegionalTask
 
@@ -42,7 +42,7 @@ class Grid:
     def places(self) -> Places:
         """The middles as destinations."""
         return Places(
-            "grid", list(range(len(self.cells))), *moved(self.crs, DEGREES, *((self.cells + 0.5) * self.side).T)
+            GRID, list(range(len(self.cells))), *moved(self.crs, DEGREES, *((self.cells + 0.5) * self.side).T)
         )
 
     def area(self, reached: npt.NDArray[np.bool_]) -> Any:

@@ -11,6 +11,7 @@ from ..feed import Floats
 from ..points.table import Points
 
 DEGREES = "EPSG:4326"
+GRID = "grid"  # the name of places that no frame has: those of an isochrone
 
 
 @dataclass(frozen=True)

@@ -13,6 +13,10 @@ MOST_PAIRS = 4_000_000  # walks that `ttm` takes
 Ways = tuple[Places, Places, Floats]  # from where, to where, metres
 
 
+class TooManyWalks(BadInput):
+    """More walks than `ttm` takes."""
+
+
 class Found:
     """Ways as they are found, of which several may be between two places."""
 
@@ -37,5 +41,5 @@ class Found:
         self.ways, self.count = [made], len(made[0])
         if self.count * self.directions > MOST_PAIRS:
             told = f"more than the {MOST_PAIRS:,} walks that ttm takes: a shorter --limit, or fewer places"
-            raise BadInput(self.path, told)
+            raise TooManyWalks(self.path, told)
         return made
