@@ -258,3 +258,20 @@ def test_of_questions_that_wait_in_a_tab_the_server_answers_the_latest(tmp_path:
     assert statuses[-1] == 200 and set(statuses) == {200, 204}
     assert len((feed / "questions").read_text().split()) == statuses.count(200) < 10
     assert os.path.exists(feed / "questions")
+
+
+def test_a_study_stands_in_place_of_the_feed(tmp_path: Path) -> None:
+    village(tmp_path)
+    tables = (
+        '[feed]\nfiles = ["village"]\nready = true\n[run]\ndate = 2026-05-04\nfrom = "08:05"\nto = "08:20"\ntrips = 2\n'
+    )
+    path = tmp_path / "study.toml"
+    path.write_text(tables + "[walks]\nnone = true\n")
+    with explored(path, canned(tmp_path)) as served:
+        assert served.status(TIMES.replace("08:00", "08:05")) == 200
+    path.write_text(tables)
+    ran = launched("explore", str(path), "--no-browser", "--program", canned(tmp_path))
+    assert ran.returncode == 1 and ran.stderr.decode().count("\n") == 1
+    assert "its walks have to be made first: ttm-tools walks" in ran.stderr.decode()
+    ran = launched("explore", str(tmp_path / "village"), "--no-browser")
+    assert (ran.returncode, ran.stderr) == (2, b"ttm-tools explore: --date is needed where no study is named\n")

@@ -8,6 +8,7 @@ import numpy as np
 import numpy.typing as npt
 
 from ..plans.base import Base
+from ..plans.choice import runs_along
 from ..prepare.days import texts
 from ..records import shown
 from ..timetable import services_on
@@ -35,12 +36,13 @@ class Routes:
     identifiers: list[str]
     names: list[str]  # for people
     ways: list[list[Way]]
+    hours: list[list[int]]  # departures of each in each hour of the day, the way that most of its trips run
     pairs: list[list[int]]  # two numbers of places for each piece of its lines
 
     def as_json(self) -> list[dict[str, Any]]:
-        ways = [[{"stops": way.stops, "count": way.count, "hours": way.hours} for way in some] for some in self.ways]
-        rows = zip(self.identifiers, self.names, ways, self.pairs)
-        return [{"id": shown(own), "name": name, "ways": some, "pairs": pairs} for own, name, some, pairs in rows]
+        ways = [[{"stops": way.stops, "count": way.count} for way in some] for some in self.ways]
+        rows = zip(map(shown, self.identifiers), self.names, ways, self.hours, self.pairs)
+        return [dict(zip(("id", "name", "ways", "hours", "pairs"), row)) for row in rows]
 
 
 def routes_of(base: Base, date: datetime.date, numbers: Mapping[str, int]) -> Routes:
@@ -50,7 +52,8 @@ def routes_of(base: Base, date: datetime.date, numbers: Mapping[str, int]) -> Ro
     found = {own: trips for own, trips in base.by_route.items() if base.lengths[trips].sum() > 0}
     names = names_of(base)
     ways = [ways_of(base, trips[base.lengths[trips] > 1], place, running) for trips in found.values()]
-    return Routes(list(found), [names[own] for own in found], ways, pairs_of(base, list(found), place))
+    shown_ways, hours = [some[:MOST_WAYS] for some in ways], [hours_of(some) for some in ways]
+    return Routes(list(found), [names[own] for own in found], shown_ways, hours, pairs_of(base, list(found), place))
 
 
 def names_of(base: Base) -> dict[str, str]:
@@ -65,13 +68,22 @@ def names_of(base: Base) -> dict[str, str]:
 
 
 def ways_of(base: Base, trips: Whole, place: Whole, running: set[str]) -> list[Way]:
-    """The ways of a route with the most departures on the day, and one that has none where it runs on no such day."""
+    """The ways of a route, those with the most departures on the day first."""
     states = all(base.directions[trip].strip() in ("0", "1") for trip in trips.tolist())
     groups: dict[bytes, list[int]] = {}
     for trip in trips.tolist():
         groups.setdefault(place[base.begins[trip] : base.begins[trip + 1]].tobytes(), []).append(trip)
     made = [way_of(base, some, place, running, states) for some in groups.values()]
-    return sorted(made, key=lambda way: -way.count)[:MOST_WAYS]
+    return sorted(made, key=lambda way: -way.count)
+
+
+def hours_of(ways: list[Way]) -> list[int]:
+    """The departures in each hour of all ways that run along the one with the most of them."""
+    made = [0] * HOURS
+    for way in ways:
+        if way.direction == ways[0].direction and (way.direction is not None or runs_along(way.stops, ways[0].stops)):
+            made = [one + other for one, other in zip(made, way.hours)]
+    return made
 
 
 def way_of(base: Base, trips: list[int], place: Whole, running: set[str], states: bool) -> Way:

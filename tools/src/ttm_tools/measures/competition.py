@@ -1,7 +1,7 @@
 """Access where people compete for what is there: floating catchments, balanced ones, and spatial availability.
 
 Each destination with a supply is shared out among the people who reach it, by the weights of travel times; each origin
-adds up its shares. Sums go over origins with a demand and destinations with a supply. docs/reference/measures.md has the
+adds up its shares. Sums go over origins with a demand and destinations with a supply. docs/reference/measures.md has
 formulas.
 """
 

@@ -66,7 +66,7 @@ const beside = {
     this.other.map.getContainer().hidden = !shown;
     document.querySelectorAll(".side").forEach((it) => it.remove());
     [this.page, this.other].forEach((it) => it.map.invalidateSize({ animate: false }));
-    this.follow(this.page, this.other);
+    [this.other, this.page].filter((it) => !it.map.getContainer().hidden).forEach((it) => it.fit());
   },
 
   follow(one, two) {

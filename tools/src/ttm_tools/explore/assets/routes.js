@@ -13,7 +13,8 @@ const routes = {
 
   async begin(map) {
     this.page = map;
-    map.over.push((pen, view) => this.paint(pen, view));
+    map.under.push((pen, view) => this.paintLines(pen, view, this.chosen < 0 ? [] : this.all[this.chosen].pairs, "#a21328"));
+    map.over.push((pen, view) => this.paintStops(pen, view));
     map.map.on("click", (event) => this.clicked(event));
     this.addControls();
     this.tellChanges(asked.told);
@@ -50,10 +51,10 @@ const routes = {
     on("redo", () => this.redone());
   },
 
-  /** Half the seconds between departures of the way with the most of them, in the hours of the period. */
+  /** Half the seconds between departures one way, in the hours of the period. */
   halfOf() {
     const [begin, end] = ["headway-from", "headway-to"].map((name) => minutesOfClock(element(name).value));
-    const { hours } = this.all[this.chosen].ways[0];
+    const { hours } = this.all[this.chosen];
     const count = hours.reduce((sum, it, hour) => sum + (60 * hour >= begin && 60 * hour < end ? it : 0), 0);
     return Math.max(60, Math.round((60 * (end - begin)) / Math.max(1, 2 * count)));
   },
@@ -205,22 +206,24 @@ const routes = {
     }[action.do]();
   },
 
-  paint(pen, view) {
-    const lines = (pairs, colour, width) => {
+  /** Pieces between places, with an edge that lies on other lines. */
+  paintLines(pen, view, pairs, colour) {
+    for (const [width, own] of [[7, "#ffffff"], [4, colour]]) {
       pen.beginPath();
       for (let at = 0; at < pairs.length; at += 2) {
         pen.moveTo(...this.page.at(pairs[at], view));
         pen.lineTo(...this.page.at(pairs[at + 1], view));
       }
       pen.lineWidth = width;
-      pen.strokeStyle = colour;
+      pen.strokeStyle = own;
       pen.stroke();
-    };
-    const news = this.stops.slice(1).flatMap((place, at) => [this.stops[at], place]);
-    for (const pairs of [this.chosen < 0 ? [] : this.all[this.chosen].pairs, news]) {
-      lines(pairs, "#ffffff", 7);
-      lines(pairs, pairs === news ? "#117733" : "#a21328", 4);
     }
+  },
+
+  /** The stops that are chosen for a line. */
+  paintStops(pen, view) {
+    const pairs = this.stops.slice(1).flatMap((place, at) => [this.stops[at], place]);
+    this.paintLines(pen, view, pairs, "#117733");
     this.stops.forEach((place) => paintMark(pen, { colour: "#117733", shape: "circle" }, ...this.page.at(place, view), 6));
   },
 };
