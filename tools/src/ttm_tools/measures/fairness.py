@@ -1,6 +1,6 @@
 """Further measures of how access is spread: Theil's T, the concentration index, and poverty of access.
 
-docs/MEASURES.md has the formulas and their sources.
+docs/reference/measures.md has the formulas and their sources.
 """
 
 from dataclasses import dataclass
