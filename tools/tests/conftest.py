@@ -8,7 +8,6 @@ from pathlib import Path
 
 import pytest
 
-from asking import keeps_networks, stand_in
 from helpers import Room, Town
 
 LONGEST = ("test_page.py", "test_pages.py", "test_study.py")
@@ -22,7 +21,7 @@ def pytest_collection_modifyitems(items: list[pytest.Item]) -> None:
     """Marks the tests that run the program, and those in a browser; the files whose tests take longest come first."""
     for item in items:
         fixtures = getattr(item, "fixturenames", ())
-        if {"program", "asked_program"} & set(fixtures):
+        if "program" in fixtures:
             item.add_marker("program")
         if "browser" in fixtures:
             item.add_marker(pytest.mark.xdist_group("browser"))
@@ -45,9 +44,3 @@ def room(tmp_path: Path, capsysbinary: pytest.CaptureFixture[bytes]) -> Room:
 @pytest.fixture
 def town(tmp_path: Path, capsysbinary: pytest.CaptureFixture[bytes]) -> Town:
     return Town(tmp_path, capsysbinary)
-
-
-@pytest.fixture
-def asked_program(program: str, tmp_path_factory: pytest.TempPathFactory) -> str:
-    """A program that has --ask: the built one, or one that stands in for it and runs it."""
-    return program if keeps_networks(program) else stand_in(tmp_path_factory.mktemp("program") / "ttm", program)

@@ -17,10 +17,10 @@ from ttm_tools.faults import Lacking, WrongWords
 PAGE = Path(__file__).resolve().parents[2] / "docs" / "howto" / "python.md"
 
 
-def test_each_block_of_the_page_runs(room: Room, asked_program: str, monkeypatch: pytest.MonkeyPatch) -> None:
+def test_each_block_of_the_page_runs(room: Room, program: str, monkeypatch: pytest.MonkeyPatch) -> None:
     if not PAGE.is_file():
         pytest.skip("docs/howto/python.md is missing")
-    monkeypatch.setenv("TTM_PROGRAM", asked_program)
+    monkeypatch.setenv("TTM_PROGRAM", program)
     blocks = re.findall(r"^```python\n(.*?)^```$", PAGE.read_text(), re.MULTILINE | re.DOTALL)
     assert len(blocks) == 10
     names: dict[str, object] = {}

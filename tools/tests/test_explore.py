@@ -9,7 +9,6 @@ from typing import Iterator
 
 import pytest
 
-from asking import keeps_networks, stand_in
 from browser import Browser
 from exploring import Explored, explored, village
 from helpers import LAUNCHER
@@ -37,13 +36,12 @@ def browser() -> Iterator[Browser]:
 
 
 @pytest.fixture(scope="module")
-def asked_program(request: pytest.FixtureRequest, tmp_path_factory: pytest.TempPathFactory) -> str:
-    """The program that is named, or one that stands in for it where it has no --ask."""
+def program(request: pytest.FixtureRequest) -> str:
+    """The built program, for all tests of this file."""
     path = request.config.getoption("--program")
     if path is None:
         pytest.skip("without the program")
-    program = str(Path(str(path)).resolve())
-    return program if keeps_networks(program) else stand_in(tmp_path_factory.mktemp("program") / "ttm", program)
+    return str(Path(str(path)).resolve())
 
 
 @pytest.fixture(scope="module")
@@ -52,10 +50,10 @@ def room(tmp_path_factory: pytest.TempPathFactory) -> Path:
 
 
 @pytest.fixture(scope="module")
-def server(asked_program: str, room: Path) -> Iterator[Explored]:
+def server(program: str, room: Path) -> Iterator[Explored]:
     """A server for all tests of this file."""
     words = ["--opportunities", str(room / "jobs.csv"), "--out", str(room / "saved"), "--to", "08:09"]
-    with explored(village(room), asked_program, *words) as made:
+    with explored(village(room), program, *words) as made:
         yield made
 
 
@@ -279,11 +277,11 @@ def test_a_fault_of_a_change_is_told_and_nothing_changes(served: Explored, brows
     assert browser.text("fault") == "" and minutes(browser)["B"] == 8
 
 
-def test_the_longest_walk_begins_another_network(asked_program: str, tmp_path: Path, browser: Browser) -> None:
+def test_the_longest_walk_begins_another_network(program: str, tmp_path: Path, browser: Browser) -> None:
     feed = village(tmp_path)
     walks = tmp_path / "walks.csv"
     walks.write_text("from_stop_id,to_stop_id,seconds\nC,D,540\n")
-    with explored(feed, asked_program, "--footpaths", str(walks)) as served:
+    with explored(feed, program, "--footpaths", str(walks)) as served:
         browser.visit(served.address)
         browser.click("A")
         assert minutes(browser)["D"] == 19
@@ -293,11 +291,11 @@ def test_the_longest_walk_begins_another_network(asked_program: str, tmp_path: P
 
 
 def test_a_plan_is_compared_with_today_and_a_change_comes_beside_it(
-    asked_program: str, tmp_path: Path, browser: Browser
+    program: str, tmp_path: Path, browser: Browser
 ) -> None:
     feed = village(tmp_path)
     (tmp_path / "plan.toml").write_text(PLAN)
-    with explored(feed, asked_program, "--plan", str(tmp_path / "plan.toml")) as served:
+    with explored(feed, program, "--plan", str(tmp_path / "plan.toml")) as served:
         browser.visit(served.address, "from=A")
         assert browser.run("return head.scenarios") == ["today", "no route 2"]
         assert browser.text("told").startswith("no route 2 beside today: of 4 places 1 are cut off")
@@ -329,9 +327,7 @@ def test_an_address_holds_the_view_with_its_changes(served: Explored, browser: B
     assert browser.run("return [live.last, live.trips, sliders.step]") == ["08:05", 3, 15]
 
 
-def test_a_saved_study_computes_the_same_numbers(
-    served: Explored, browser: Browser, asked_program: str, room: Path
-) -> None:
+def test_a_saved_study_computes_the_same_numbers(served: Explored, browser: Browser, program: str, room: Path) -> None:
     from ttm_tools.matrices import open_matrix
 
     browser.click("A")
@@ -342,7 +338,7 @@ def test_a_saved_study_computes_the_same_numbers(
     wait_for(browser, "return document.getElementById('kept').textContent !== ''")
     path = room / "saved" / "1" / "study.toml"
     assert browser.text("kept").endswith(f"ttm-tools study {path}")
-    how = {**os.environ, "TTM_PROGRAM": asked_program}
+    how = {**os.environ, "TTM_PROGRAM": program}
     ran = subprocess.run([sys.executable, LAUNCHER, "study", str(path)], env=how, capture_output=True, text=True)
     assert ran.returncode == 0, ran.stderr
     matrix = open_matrix(str(path.with_suffix("") / "matrix.omx"))

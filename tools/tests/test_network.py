@@ -223,13 +223,13 @@ QUESTIONS: list[dict[str, Any]] = [
 FAULTS: list[dict[str, Any]] = [{"origins": ["X"]}, {"origins": "nothing.csv"}, {"trips": 9}, {"shares": (50, 25)}]
 
 
-def test_each_answer_is_that_of_a_run(room: Room, asked_program: str) -> None:
+def test_each_answer_is_that_of_a_run(room: Room, program: str) -> None:
     write_town(room)
     common: dict[str, Any] = {"walk": 300, "footpaths": [("C", "B", 119.5)], "scenarios": [room.path("cut.csv")]}
-    with ttm_tools.Network(room.folder, "2026-05-04", program=asked_program, **common) as network:
+    with ttm_tools.Network(room.folder, "2026-05-04", program=program, **common) as network:
         for number, question in enumerate(QUESTIONS):
             mine = network.matrix(**question)
-            whole = ttm_tools.matrix(room.folder, "20260504", program=asked_program, **common, **question)
+            whole = ttm_tools.matrix(room.folder, "20260504", program=program, **common, **question)
             assert (mine.origins, mine.stops, mine.scenarios) == (whole.origins, whole.stops, ["base", "cut"])
             assert (mine.shares, mine.limits, mine.rounded) == (whole.shares, whole.limits, whole.rounded)
             for key, seconds in whole.seconds.items():
@@ -238,23 +238,23 @@ def test_each_answer_is_that_of_a_run(room: Room, asked_program: str) -> None:
         assert network.matrix(EIGHT).times("base").loc["A"].tolist() == [0, 600, 1800]
 
 
-def test_faults_of_questions_are_those_of_runs(room: Room, asked_program: str) -> None:
+def test_faults_of_questions_are_those_of_runs(room: Room, program: str) -> None:
     write_town(room)
-    with ttm_tools.Network(room.folder, "20260504", program=asked_program) as network:
+    with ttm_tools.Network(room.folder, "20260504", program=program) as network:
         for faulty in FAULTS:
             faulty = {name: room.path(value) if value == "nothing.csv" else value for name, value in faulty.items()}
             with pytest.raises(ttm_tools.EngineFault) as run:
-                ttm_tools.matrix(room.folder, "20260504", EIGHT, program=asked_program, **faulty)
+                ttm_tools.matrix(room.folder, "20260504", EIGHT, program=program, **faulty)
             with pytest.raises(ttm_tools.EngineFault) as asked:
                 network.matrix(EIGHT, **faulty)
             assert (asked.value.line, asked.value.ended) == (run.value.line, run.value.ended)
             assert network.matrix(EIGHT, origins=["A"]).array().tolist() == [[0, 600, 1800]]
 
 
-def test_a_feed_that_is_refused_is_told_as_by_a_run(room: Room, asked_program: str) -> None:
+def test_a_feed_that_is_refused_is_told_as_by_a_run(room: Room, program: str) -> None:
     write_town(room)
     room.write("trips.txt", "route_id,service_id,trip_id", [["R9", "M", "T1"]])
-    with ttm_tools.Network(room.folder, "20260504", program=asked_program) as network:
+    with ttm_tools.Network(room.folder, "20260504", program=program) as network:
         with pytest.raises(ttm_tools.EngineFault) as told:
             network.matrix(EIGHT)
     assert (told.value.file, told.value.record, told.value.ended) == ("trips.txt", 2, 2)

@@ -37,8 +37,8 @@ def walking(room: Room, cache: None) -> r5py.TransportNetwork:
 
 
 @pytest.fixture
-def network(room: Room, cache: None, asked_program: str) -> Iterator[r5py.TransportNetwork]:
-    with r5py.TransportNetwork(write_streets(room), [write_feed(room)], program=asked_program) as made:
+def network(room: Room, cache: None, program: str) -> Iterator[r5py.TransportNetwork]:
+    with r5py.TransportNetwork(write_streets(room), [write_feed(room)], program=program) as made:
         yield made
 
 
@@ -154,8 +154,8 @@ def test_places_are_snapped_to_streets_where_that_is_asked_for(walking: r5py.Tra
     assert walking.snap_to_network(places.geometry, radius=59)[0].is_empty
 
 
-def test_a_network_may_be_a_tuple_of_what_it_is_made_from(room: Room, cache: None, asked_program: str) -> None:
-    given = write_streets(room), [write_feed(room)], {"program": asked_program}
+def test_a_network_may_be_a_tuple_of_what_it_is_made_from(room: Room, cache: None, program: str) -> None:
+    given = write_streets(room), [write_feed(room)], {"program": program}
     assert minutes(from_home(given)) == [41]
 
 
@@ -236,18 +236,18 @@ def damage_feed(room: Room) -> str:
     return feed
 
 
-def test_a_feed_with_errors_is_mended_with_a_warning(room: Room, cache: None, asked_program: str) -> None:
+def test_a_feed_with_errors_is_mended_with_a_warning(room: Room, cache: None, program: str) -> None:
     given = write_streets(room), damage_feed(room)
     for _ in range(2):  # the second time it is in the cache
         with pytest.warns(UserWarning, match="time: stop_times.txt: 2 times mended"):
-            with r5py.TransportNetwork(*given, program=asked_program) as network:
+            with r5py.TransportNetwork(*given, program=program) as network:
                 assert minutes(from_home(network)) == [41]
     with pytest.raises(BadInput, match="2 faults, first stop_times.txt: record 3: bad time"):
         r5py.TransportNetwork(*given, repair=False)
 
 
 def test_streets_feeds_and_walks_are_kept(
-    room: Room, network: r5py.TransportNetwork, asked_program: str, monkeypatch: pytest.MonkeyPatch
+    room: Room, network: r5py.TransportNetwork, program: str, monkeypatch: pytest.MonkeyPatch
 ) -> None:
     assert minutes(from_home(network)) == [41]
     entries = sorted(
@@ -259,7 +259,7 @@ def test_streets_feeds_and_walks_are_kept(
     monkeypatch.setattr("ttm_tools.r5py.doors.street_walks", None)
     with warnings.catch_warnings():
         warnings.simplefilter("error")
-        with r5py.TransportNetwork(room.path("streets.osm"), room.path("feed"), program=asked_program) as again:
+        with r5py.TransportNetwork(room.path("streets.osm"), room.path("feed"), program=program) as again:
             assert minutes(from_home(again)) == [41]
             with pytest.raises(TypeError):  # a longer walk needs other walks
                 from_home(again, max_time_walking=16 * MINUTE)

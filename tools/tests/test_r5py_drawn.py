@@ -107,17 +107,17 @@ def listed(column: Any) -> list[float | None]:
 
 @pytest.mark.parametrize("seed", range(6))
 def test_each_minute_and_each_percentile_are_those_of_ttm(
-    room: Room, asked_program: str, monkeypatch: pytest.MonkeyPatch, seed: int
+    room: Room, program: str, monkeypatch: pytest.MonkeyPatch, seed: int
 ) -> None:
     monkeypatch.setenv("TTM_CACHE", room.path("cache"))
     drawn = random.Random(seed)
     streets, feed = draw_streets(room, drawn), draw_feed(room, drawn)
     places = [draw_place(drawn) for _ in range(5)], [draw_place(drawn) for _ in range(6)]
     files = write_points(room, "o", places[0]), write_points(room, "d", places[1])
-    expected = minute_by_minute(room, asked_program, feed, streets, files)
+    expected = minute_by_minute(room, program, feed, streets, files)
     ends: Any = {"origins": frame(places[0], range(5)), "destinations": frame(places[1], range(6))}
     more: Any = {"max_time_walking": datetime.timedelta(seconds=LIMIT), "max_public_transport_rides": 4}
-    with r5py.TransportNetwork(streets, feed, program=asked_program) as network:
+    with r5py.TransportNetwork(streets, feed, program=program) as network:
         window: Any = {"departure": BEGIN, "departure_time_window": MINUTES * MINUTE, "percentiles": PERCENTILES}
         whole = r5py.TravelTimeMatrix(network, **ends, **more, **window)
         for minute in range(MINUTES):

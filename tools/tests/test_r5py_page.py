@@ -28,11 +28,11 @@ def blocks() -> list[str]:
 
 
 def test_each_block_of_the_page_runs(
-    room: Room, asked_program: str, blocks: list[str], monkeypatch: pytest.MonkeyPatch
+    room: Room, program: str, blocks: list[str], monkeypatch: pytest.MonkeyPatch
 ) -> None:
     if not all((ROOT / "bench" / name).is_file() for name in MAKERS):
         pytest.skip("without the makers of the town")
-    monkeypatch.setenv("TTM_PROGRAM", asked_program)
+    monkeypatch.setenv("TTM_PROGRAM", program)
     monkeypatch.setenv("TTM_CACHE", room.path("cache"))
     commands = re.findall(r"^    python3 (bench/.*)$", PAGE.read_text(), re.MULTILINE)
     assert [command.split()[0] for command in commands] == [f"bench/{name}" for name in MAKERS]

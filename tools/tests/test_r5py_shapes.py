@@ -33,9 +33,9 @@ def walking(room: Room, monkeypatch: pytest.MonkeyPatch) -> r5py.TransportNetwor
 
 
 @pytest.fixture
-def network(room: Room, monkeypatch: pytest.MonkeyPatch, asked_program: str) -> Iterator[r5py.TransportNetwork]:
+def network(room: Room, monkeypatch: pytest.MonkeyPatch, program: str) -> Iterator[r5py.TransportNetwork]:
     monkeypatch.setenv("TTM_CACHE", room.path("cache"))
-    with r5py.TransportNetwork(write_streets(room), [write_feed(room)], program=asked_program) as made:
+    with r5py.TransportNetwork(write_streets(room), [write_feed(room)], program=program) as made:
         yield made
 
 

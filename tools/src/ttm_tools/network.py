@@ -4,6 +4,8 @@ import contextlib
 import datetime
 import os
 import queue
+import subprocess
+import sys
 import tempfile
 import threading
 import weakref
@@ -31,6 +33,14 @@ from .matrices import open_matrix
 from .records import Rounded
 
 MIDNIGHT = ("00:00", "00:00")  # the window of the words that are kept; each question names its own
+
+
+def command_of(program: str, words: Sequence[str]) -> list[str]:
+    """The command that answers questions: `ttm --ask`, or a script that runs a `ttm` without --ask for each of them."""
+    usage = subprocess.run([program, "--help"], stdin=subprocess.DEVNULL, capture_output=True).stdout
+    if b"--ask" in usage:
+        return [program, *words, "--report", "--ask"]
+    return [sys.executable, str(Path(__file__).with_name("answering.py")), program, *words]
 
 
 class Processes:
@@ -85,7 +95,9 @@ class Processes:
 
 
 class Network:
-    """The network of a feed on a date, read once by `ttm --ask` and kept: `matrix(..)` asks it a question.
+    """The network of a feed on a date, which `matrix(..)` asks questions.
+
+    A `ttm` that has --ask reads the feed once and keeps the network; one that has not runs for each question.
 
     Feed, date, walk, scenarios, footpaths, back and ahead are as for `ttm_tools.matrix`; the first question raises what
     is wrong with them. `workers` is how many processes keep the network, and so how many threads are answered at once.
@@ -115,7 +127,7 @@ class Network:
                 files["footpaths"] = absolute(footpaths_file(self.folder, footpaths, self.rounded))
             paths = [absolute(path) for path in scenarios]
             kept = Run(absolute(feed), date, MIDNIGHT, 4, walk, scenarios=paths, back=back, ahead=ahead, files=files)
-            self.processes = Processes([named, *kept.words(), "--report", "--ask"], workers)
+            self.processes = Processes(command_of(named, kept.words()), workers)
         except BaseException:
             remove(self.folder)
             raise
