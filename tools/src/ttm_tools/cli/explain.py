@@ -36,7 +36,7 @@ def describe(parser: argparse.ArgumentParser) -> None:
     told = "scenario files, each compared with the feed as it is"
     parser.add_argument("scenarios", metavar="SCENARIO", nargs="*", help=told)
     for name, told in (("--origin", "where the journey begins"), ("--destination", "and where it ends")):
-        parser.add_argument(name, metavar="STOP", help=f"the stop {told} (needed without --pairs)")
+        parser.add_argument(name, metavar="STOP", help=f"the stop {told} (without it, --pairs is needed)")
     told = "many of these, a file with the columns origin and destination: a table of their journeys as CSV"
     add_text(parser, "--pairs", "FILE", told, without="one is told leg by leg")
     told = "the day of the departures, YYYYMMDD or YYYY-MM-DD, of the years 1 to 9999 (needed)"

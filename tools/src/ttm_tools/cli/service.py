@@ -40,9 +40,9 @@ def describe(parser: argparse.ArgumentParser) -> None:
     parser.add_argument("feed", metavar="FEED", help="the folder of an unpacked feed")
     told = "scenario files, each told beside the feed as it is; of a plan its own where none is named"
     parser.add_argument("scenarios", metavar="SCENARIO", nargs="*", help=told)
-    told = "the service day, YYYYMMDD or YYYY-MM-DD (needed)"
+    told = "the service day, YYYYMMDD or YYYY-MM-DD, of the years 1 to 9999 (needed)"
     parser.add_argument("--date", metavar="DATE", type=day, required=True, help=told)
-    told = "where periods begin, and the last one ends, HH:MM between commas (default 00:00,48:00)"
+    told = "where periods begin, and the last one ends: 00:00 to 168:00 between commas (default 00:00,48:00)"
     parser.add_argument("--periods", metavar="TIMES", type=times, default=[0, 48 * 3600], help=told)
     told = "what a line tells of (default direction)"
     parser.add_argument("--by", choices=("direction", "route", "all", "stop"), default="direction", help=told)
