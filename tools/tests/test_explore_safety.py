@@ -145,9 +145,10 @@ def test_bad_changes_are_told_and_change_nothing(served: Explored, asked: object
     assert served.children() == before
 
 
-def test_a_long_body_is_refused(served: Explored) -> None:
-    body = b'{"actions": [], "walk": 600, "x": "' + b"x" * (1 << 20) + b'"}'
-    assert served.status("changes", body, Origin=served.origin, Content_Type="application/json") == 413
+def test_a_long_body_is_refused_before_it_is_read(served: Explored) -> None:
+    how = {"Origin": served.origin, "Content_Type": "application/json"}
+    assert served.status("changes", b"{}", Content_Length=str((1 << 20) + 1), **how) == 413
+    assert served.status("changes", b"{}", Transfer_Encoding="chunked", **how) == 411
 
 
 def test_it_listens_on_this_machine_alone(served: Explored) -> None:
