@@ -276,3 +276,24 @@ def test_a_study_stands_in_place_of_the_feed(tmp_path: Path) -> None:
     assert "its walks have to be made first: ttm-tools walks" in ran.stderr.decode()
     ran = launched("explore", str(tmp_path / "village"), "--no-browser")
     assert (ran.returncode, ran.stderr) == (2, b"ttm-tools explore: --date is needed where no study is named\n")
+
+
+def test_faults_at_the_start_are_one_line_and_leave_no_process(tmp_path: Path) -> None:
+    feed, words = village(tmp_path), ["--date", "20260504", "--no-browser", "--program", canned(tmp_path)]
+    (tmp_path / "bad.csv").write_text("stop_id,jobs\nZ,1\n")
+    ran = launched("explore", str(feed), *words, "--opportunities", str(tmp_path / "bad.csv"))
+    told = f"ttm-tools explore: {tmp_path}/bad.csv: record 2: Z is no stop of the feed\n"
+    assert (ran.returncode, ran.stdout, ran.stderr.decode()) == (1, b"", told)
+    (feed / "stops.txt").write_text("stop_id,stop_lat,stop_lon\nA,,\nB,,\nC,,\nD,,\n")
+    ran = launched("explore", str(feed), *words)
+    told = f"ttm-tools explore: {feed}/stops.txt: none of the stops has a place, so there is nothing to show\n"
+    assert (ran.returncode, ran.stdout, ran.stderr.decode()) == (1, b"", told)
+    left = [path.name for path in Path("/proc").glob("[0-9]*") if str(feed).encode() in cmdline(path)]
+    assert left == []
+
+
+def cmdline(process: Path) -> bytes:
+    try:
+        return (process / "cmdline").read_bytes()
+    except OSError:
+        return b""
