@@ -145,9 +145,10 @@ def test_bad_changes_are_told_and_change_nothing(served: Explored, asked: object
     assert served.children() == before
 
 
-def test_a_long_body_is_refused(served: Explored) -> None:
-    body = b'{"actions": [], "walk": 600, "x": "' + b"x" * (1 << 20) + b'"}'
-    assert served.status("changes", body, Origin=served.origin, Content_Type="application/json") == 413
+def test_a_long_body_is_refused_before_it_is_read(served: Explored) -> None:
+    how = {"Origin": served.origin, "Content_Type": "application/json"}
+    assert served.status("changes", b"{}", Content_Length=str((1 << 20) + 1), **how) == 413
+    assert served.status("changes", b"{}", Transfer_Encoding="chunked", **how) == 411
 
 
 def test_it_listens_on_this_machine_alone(served: Explored) -> None:
@@ -275,3 +276,24 @@ def test_a_study_stands_in_place_of_the_feed(tmp_path: Path) -> None:
     assert "its walks have to be made first: ttm-tools walks" in ran.stderr.decode()
     ran = launched("explore", str(tmp_path / "village"), "--no-browser")
     assert (ran.returncode, ran.stderr) == (2, b"ttm-tools explore: --date is needed where no study is named\n")
+
+
+def test_faults_at_the_start_are_one_line_and_leave_no_process(tmp_path: Path) -> None:
+    feed, words = village(tmp_path), ["--date", "20260504", "--no-browser", "--program", canned(tmp_path)]
+    (tmp_path / "bad.csv").write_text("stop_id,jobs\nZ,1\n")
+    ran = launched("explore", str(feed), *words, "--opportunities", str(tmp_path / "bad.csv"))
+    told = f"ttm-tools explore: {tmp_path}/bad.csv: record 2: Z is no stop of the feed\n"
+    assert (ran.returncode, ran.stdout, ran.stderr.decode()) == (1, b"", told)
+    (feed / "stops.txt").write_text("stop_id,stop_lat,stop_lon\nA,,\nB,,\nC,,\nD,,\n")
+    ran = launched("explore", str(feed), *words)
+    told = f"ttm-tools explore: {feed}/stops.txt: none of the stops has a place, so there is nothing to show\n"
+    assert (ran.returncode, ran.stdout, ran.stderr.decode()) == (1, b"", told)
+    left = [path.name for path in Path("/proc").glob("[0-9]*") if str(feed).encode() in cmdline(path)]
+    assert left == []
+
+
+def cmdline(process: Path) -> bytes:
+    try:
+        return (process / "cmdline").read_bytes()
+    except OSError:
+        return b""

@@ -28,10 +28,10 @@ def describe(parser: argparse.ArgumentParser) -> None:
         "the folder of an unpacked feed that ttm takes; or a study's file, whose feed, day, window and plan are taken"
     )
     parser.add_argument("feed", metavar="FEED", help=told)
-    told = "the day of the departures, YYYYMMDD or YYYY-MM-DD (needed for a feed)"
+    told = "the day of the departures, YYYYMMDD or YYYY-MM-DD, of the years 1 to 9999 (without it, that of the study)"
     parser.add_argument("--date", metavar="DATE", type=day, help=told)
     for name, told, at in (("--from", "first", "07:30"), ("--to", "last", "08:29")):
-        help = f"the {told} departure at first, one each minute (default {at})"
+        help = f"the {told} departure at first, one each minute, 00:00 to 23:59 (default {at})"
         parser.add_argument(name, dest=told, metavar="HH:MM", type=clock, default=at, help=help)
     add_number(parser, "--trips", "the most vehicles of a journey at first", "", (1, 8), default=4)
     add_number(parser, "--walk", "the longest walk at first", "seconds", (0, 7200), default=600)
@@ -44,7 +44,8 @@ def describe(parser: argparse.ArgumentParser) -> None:
     add_text(parser, "--title", "TEXT", "what stands above the page", without="the feed's name")
     add_text(parser, "--out", "FOLDER", "where studies are saved", default="explored")
     add_number(parser, "--port", "where the page is served; 0 takes a free one", "", (0, 65535), default=0)
-    parser.add_argument("--no-browser", action="store_true", help="print the address, and open no browser")
+    told = "print the address alone (without it, a browser opens it)"
+    parser.add_argument("--no-browser", action="store_true", help=told)
     told = "the program ttm"
     add_text(parser, "--program", "PATH", told, without="TTM_PROGRAM, or that on the path, or the one built here")
     add_text(parser, "--leaflet", "FOLDER", "where Leaflet lies", default="/usr/share/javascript/leaflet")

@@ -6,6 +6,7 @@ from functools import cached_property
 from pathlib import Path
 from typing import Any
 
+from ..faults import BadInput
 from ..feed import Stops, read_stops
 from ..measures.opportunities import Counts, read_counts
 from ..plans.base import Base, read_base
@@ -154,6 +155,8 @@ def stops_of(folder: str, points: str | None) -> Stops:
 
 def ground_of(stops: Stops) -> Ground:
     """All stops at which vehicles may call, each of which is an origin and a destination."""
+    if not stops.placed.any():
+        raise BadInput(stops.path, "none of the stops has a place, so there is nothing to show")
     names = [name for name, kind in zip(stops.identifiers, stops.kinds.tolist()) if kind == 0]
     places = places_of(stops, names).in_order()
     return Ground(places, places.identifiers, places.identifiers, places.identifiers)
