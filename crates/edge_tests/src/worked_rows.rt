@@ -33,11 +33,11 @@ T2,08:30:00,08:30:00,C,2\r
 const MARKED_ORIGINS: &[u8] = b"\xef\xbb\xbfstop_id\r\nA\r\n";
 
 /// Whether the study of a Monday at 8, without footpaths, has this text.
-fn has_text<R: Threads + Wait + Sync>(
+fn has_text<'a, R: Threads + Wait + Sync>(
     rt: &R,
     alloc: Global,
-    feed: FeedBytes<'_>,
-    origins: &[u8],
+    feed: FeedBytes<'a>,
+    origins: &'a [u8],
     text: &[u8],
 ) -> bool {
     let Some(settings) = settings_of(alloc, MONDAY) else {
