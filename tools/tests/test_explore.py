@@ -182,7 +182,7 @@ def test_a_route_is_taken_out_undone_and_redone_by_clicks(served: Explored, brow
     changed(browser)
     assert browser.run("return head.scenarios") == ["today", "changed"]
     assert browser.text("told") == (
-        "changed beside today: of 4 places 1 are cut off, 0 slower by 2 minutes or more, 0 faster, 0 new."
+        "changed compared with today: of 4 places 1 are cut off, 0 slower by 2 minutes or more, 0 faster, 0 new."
     )
     assert browser.text("within-picture").startswith("Within the picture: of 4 places 1 are cut off")
     assert browser.text("changes") == "take out route 2 (Q)"
@@ -298,7 +298,7 @@ def test_a_plan_is_compared_with_today_and_a_change_comes_beside_it(
     with explored(feed, program, "--plan", str(tmp_path / "plan.toml")) as served:
         browser.visit(served.address, "from=A")
         assert browser.run("return head.scenarios") == ["today", "no route 2"]
-        assert browser.text("told").startswith("no route 2 beside today: of 4 places 1 are cut off")
+        assert browser.text("told").startswith("no route 2 compared with today: of 4 places 1 are cut off")
         browser.awaited("await routes.read_; await routes.add({ do: 'remove_route', route: 0 });")
         assert browser.run("return head.scenarios") == ["today", "no route 2", "changed"]
         assert minutes(browser) == {"A": 0, "B": 255, "C": 255, "D": 255}

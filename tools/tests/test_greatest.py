@@ -18,7 +18,8 @@ def test_compare_counts_longer_pairs_as_not_reached(town: Town) -> None:
     lines = ["A,C,cut off,900,,", "D,B,new,,1700,", "D,A,faster,1500,1400,-100"]
     assert out.splitlines()[1:] == lines
     assert (
-        told == f"cut beside base: of 8 pairs 1 cut off, 0 slower, 1 new, 1 faster (by more than 60 seconds; {END})\n"
+        told
+        == f"cut compared with base: of 8 pairs 1 cut off, 0 slower, 1 new, 1 faster (by more than 60 seconds; {END})\n"
     )
 
 

@@ -437,7 +437,7 @@ FAULTS = [
     ),
     (
         'do = "headway"\nroute = "R"\nevery = 600\ntimes = 2\nfrom = "08:00"\nto = "09:00"',
-        "line 7: times is there beside every; allowed: one of every, times",
+        "line 7: times is there together with every; allowed: one of every, times",
     ),
     (
         'do = "headway"\nroute = "R"\nevery = 600\nfrom = "9:60"\nto = "10:00"',

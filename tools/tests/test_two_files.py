@@ -30,7 +30,7 @@ def test_pairs_are_those_of_two_scenarios_of_one_file(two: Town) -> None:
     out, told, status = two.ran("compare", "--base", two.path("old.csv"), two.file)
     assert (out.splitlines()[1:], status) == (PAIRS, 0)
     counts = "of 8 pairs 1 cut off, 1 slower, 1 new, 1 faster (by more than 60 seconds)"
-    assert told.splitlines() == [heading(two), f"new beside old: {counts}"]
+    assert told.splitlines() == [heading(two), f"new compared with old: {counts}"]
     words = ["compare", "--by", "origin", "--base", two.path("old.csv")]
     assert two.ran(*words, two.file)[0].splitlines()[1:] == ["A,3,2,-1,-33.3,1,1,0,0", "D,3,4,1,33.3,0,0,1,1"]
 
@@ -93,7 +93,10 @@ def test_map_page_and_isochrones_take_a_base_too(two: Town, monkeypatch: pytest.
         patched.setattr(Figure, "savefig", lambda figure, *_, **__: figures.append(figure))
         assert two.ran("map", "difference", *old, "--origin", "A", "--out", two.path("m.png"), two.file)[2] == 0
     texts = [text.get_text().replace("\n", " ") for text in figures[0].texts]
-    assert texts[:2] == ["Travel time from Alpha (A): new beside old", "Of 4 stops 1 are cut off, 2 slower, 0 faster"]
+    assert texts[:2] == [
+        "Travel time from Alpha (A): new compared with old",
+        "Of 4 stops 1 are cut off, 2 slower, 0 faster",
+    ]
     assert two.ran("page", *old, "--out", two.path("p.html"), two.file)[2] == 0
     page = Path(two.path("p.html")).read_text()
     assert '"scenarios":["old","new"]' in page and "Matrix: old.csv" in page

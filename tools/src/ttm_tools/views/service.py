@@ -163,7 +163,7 @@ def costs_told(day: Day) -> list[str]:
     for name, service in others:
         pairs = zip(numbers_of(first), numbers_of(service))
         parts = [f"{what} {before} to {after}" for (what, before), (_, after) in pairs]
-        lines.append(f"{shown(name)} beside {shown(base)}: {', '.join(parts)}")
+        lines.append(f"{shown(name)} compared with {shown(base)}: {', '.join(parts)}")
     return lines
 
 
