@@ -40,9 +40,11 @@ fn is_walk_refused(alloc: Global) -> Result<bool, AllocError> {
     let times = Vec::from_slice(alloc, &[0, 300])?;
     match Feet::new(alloc, 2, walk_to(alloc, 2)?, times) {
         Ok(_) => Ok(false),
-        Err((fault, lists, changes)) => Ok(fault == NetFault::StopRange
-            && are_walks_to(&lists, 2)
-            && changes.as_slice() == [0, 300].as_slice()),
+        Err((fault, lists, changes)) => Ok(
+            fault == NetFault::StopRange
+                && are_walks_to(&lists, 2)
+                && changes.as_slice() == [0, 300].as_slice(),
+        ),
     }
 }
 
