@@ -92,13 +92,31 @@ fn walks(rt: HostRuntime) {
     }
 }
 
+/// The network of a scenario on a Monday; out of memory stands for a feed without runs, too.
+fn made_of(
+    alloc: Global,
+    feed: &Feed,
+    scenario: &Scenario,
+    feet: &Feet,
+) -> Result<Network, NetFault> {
+    if feet.stops() != feed.stop_count() {
+        return Err(NetFault::Memory);
+    }
+    let Some(monday) = read_date(b"20260504") else {
+        return Err(NetFault::Memory);
+    };
+    match active(alloc, feed, monday, 0, 0) {
+        Ok(list) => network_of(alloc, feed, scenario, &list, feet),
+        Err(_) => Err(NetFault::Memory),
+    }
+}
+
 /// How many trips the network of a scenario has on a Monday, and when the first leaves.
 fn first_departure(alloc: Global, feed: &Feed, scenario: &Scenario) -> Option<(usize, u32)> {
-    let list = runs_of(alloc, feed)?;
     let direct = direct_of(alloc, feed)?;
     let feet = feet_of(alloc, &direct)?;
     drop(direct);
-    let made: Result<Network, NetFault> = network_of(alloc, feed, scenario, &list, &feet);
+    let made: Result<Network, NetFault> = made_of(alloc, feed, scenario, &feet);
     match made {
         Ok(network) => {
             let trips = network.trips();

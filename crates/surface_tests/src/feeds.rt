@@ -11,14 +11,6 @@ use std::alloc::Global;
 use std::test::Fail;
 use timetable::{Event, StopNo};
 
-/// Whether something holds of the feed.
-fn holds(alloc: Global, test: fn(&Feed) -> bool) -> bool {
-    match feed(alloc) {
-        Some(feed) => test(&feed),
-        None => false,
-    }
-}
-
 /// Whether each name has its number, and each number its name.
 fn has_its_numbers(feed: &Feed) -> bool {
     if feed.stop_count() != 3 || feed.trip_count() != 2 {
@@ -35,7 +27,11 @@ fn has_its_numbers(feed: &Feed) -> bool {
 /// `Feed::stop_count`, `stop_id`, `stop_no`, `trip_count`, `trip_no`, `route_no`, `service_no`.
 #[test]
 fn numbers(rt: HostRuntime) {
-    assert!(rt; holds(rt.alloc(), has_its_numbers));
+    let is_right = match feed(rt.alloc()) {
+        Some(feed) => has_its_numbers(feed.as_ref()),
+        None => false,
+    };
+    assert!(rt; is_right);
 }
 
 /// Whether the first trip is that of the feed, and the other is set aside.
@@ -59,7 +55,11 @@ fn has_its_trips(feed: &Feed) -> bool {
 /// `Feed::trip`, `aside`.
 #[test]
 fn trips(rt: HostRuntime) {
-    assert!(rt; holds(rt.alloc(), has_its_trips));
+    let is_right = match feed(rt.alloc()) {
+        Some(feed) => has_its_trips(feed.as_ref()),
+        None => false,
+    };
+    assert!(rt; is_right);
 }
 
 /// Whether the row is that of the Mondays of May.
@@ -94,7 +94,11 @@ fn has_its_calendars(feed: &Feed) -> bool {
 /// `Feed::calendar`, `exceptions`; `read_date`.
 #[test]
 fn calendars(rt: HostRuntime) {
-    assert!(rt; holds(rt.alloc(), has_its_calendars));
+    let is_right = match feed(rt.alloc()) {
+        Some(feed) => has_its_calendars(feed.as_ref()),
+        None => false,
+    };
+    assert!(rt; is_right);
 }
 
 /// The first row of the transfers, and the second, which gives a stop a change time.
@@ -133,7 +137,11 @@ fn has_its_places(feed: &Feed) -> bool {
 /// `Feed::place`, `children`, `links`, `unused_transfers`.
 #[test]
 fn places(rt: HostRuntime) {
-    assert!(rt; holds(rt.alloc(), has_its_places));
+    let is_right = match feed(rt.alloc()) {
+        Some(feed) => has_its_places(feed.as_ref()),
+        None => false,
+    };
+    assert!(rt; is_right);
 }
 
 /// `read_feed`.

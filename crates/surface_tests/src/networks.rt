@@ -1,11 +1,11 @@
 //! `timetable`, `trip_lanes`, `rounds` and `shares`: a trip between two stops, and a footpath back.
 
-use crate::small_studies::{feet_of, network_of, trip_of};
+use crate::small_studies::{at, feet_of, network_of, trip_of};
 use rounds::{Durations, Window, durations, one_minute};
 use shares::{access, cell, cells, cells_of};
 use std::alloc::{AllocError, Global};
 use std::test::Fail;
-use timetable::{Event, Feet, NEVER, NetFault, Network, StopNo, Trip};
+use timetable::{Event, Events, Feet, NEVER, NetFault, Network, StopNo, Trip};
 use trip_lanes::{Lanes, carry_trip, transfer, walk};
 
 /// No lane reaches the stop.
@@ -90,7 +90,11 @@ fn refused_networks(rt: HostRuntime) -> Result<(), Fail> {
 /// `carry_trip`.
 #[test]
 fn carried(rt: HostRuntime) -> Result<(), Fail> {
-    let trip = trip_of(rt.alloc(), 1)?;
+    let trip = Trip {
+        route: 3,
+        name: 5,
+        events: Events::new(vec![in rt.alloc(); at(0, 100), at(1, 400)]?),
+    };
     let ready: [Lanes; 2] = [[100; 16], UNREACHED];
     let mut ride: [Lanes; 2] = [UNREACHED; 2];
     let mut marked = [false; 2];

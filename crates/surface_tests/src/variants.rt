@@ -84,7 +84,7 @@ fn number_of_run(fault: RunFault) -> u32 {
     match fault {
         RunFault::Memory => 1,
         RunFault::Spawn => 2,
-        RunFault::Unfinished { scenario, origin } => 3 + scenario + origin,
+        RunFault::Unfinished { .. } => 3,
     }
 }
 
