@@ -2,7 +2,7 @@
 //! the crate that has it (docs/explanation/decisions.md has a table of the calls of `ttm`). A name that is gone, or that
 //! wants other parameters, doesn't compile here.
 //!
-//! - `networks`: `timetable`, `trip_lanes`, `rounds`, `shares`.
+//! - `networks`: `timetable`, `trip_lanes` (`carry_trip` is called in `matrix_tests`), `rounds`, `shares`.
 //! - `feeds`, `days`: `gtfs_tables`; `service_days`, `footpaths` and `scenarios`. `small_feeds` has their feed.
 //! - `books`, `rows`: `work_book` and `collector`; `workers` and `matrix_text`. `small_studies` has their study.
 //! - `whole_studies`: the calls of `ttm`, in `studies` and `command_line`.

@@ -1,12 +1,12 @@
 //! `timetable`, `trip_lanes`, `rounds` and `shares`: a trip between two stops, and a footpath back.
 
-use crate::small_studies::{at, feet_of, network_of, trip_of};
+use crate::small_studies::{feet_of, network_of, trip_of};
 use rounds::{Durations, Window, durations, one_minute};
 use shares::{access, cell, cells, cells_of};
 use std::alloc::{AllocError, Global};
 use std::test::Fail;
-use timetable::{Event, Events, Feet, NEVER, NetFault, Network, StopNo, Trip};
-use trip_lanes::{Lanes, carry_trip, transfer, walk};
+use timetable::{Event, Feet, NEVER, NetFault, Network, StopNo, Trip};
+use trip_lanes::{Lanes, transfer, walk};
 
 /// No lane reaches the stop.
 const UNREACHED: Lanes = [NEVER; 16];
@@ -84,23 +84,6 @@ fn refused_networks(rt: HostRuntime) -> Result<(), Fail> {
     let back = trips_back(rt.alloc(), &feet)?;
     drop(feet);
     assert!(rt; back == Some((NetFault::StopRange, 1)));
-    Ok(())
-}
-
-/// `carry_trip`.
-#[test]
-fn carried(rt: HostRuntime) -> Result<(), Fail> {
-    let trip = Trip {
-        route: 3,
-        name: 5,
-        events: Events::new(vec![in rt.alloc(); at(0, 100), at(1, 400)]?),
-    };
-    let ready: [Lanes; 2] = [[100; 16], UNREACHED];
-    let mut ride: [Lanes; 2] = [UNREACHED; 2];
-    let mut marked = [false; 2];
-    carry_trip(&trip, &ready, &mut ride, &mut marked);
-    assert!(rt; ride[1] == [400; 16] && ride[0] == UNREACHED);
-    assert!(rt; marked == [false, true]);
     Ok(())
 }
 

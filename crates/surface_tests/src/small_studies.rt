@@ -4,7 +4,7 @@ use std::alloc::{AllocError, Global};
 use timetable::{Event, Events, Feet, Network, StopNo, Trip};
 
 /// A vehicle at a stop, where all may board and alight.
-pub(crate) fn at(stop: u32, time: u32) -> Event {
+fn at(stop: u32, time: u32) -> Event {
     Event {
         stop: StopNo(stop),
         arrive: time,
