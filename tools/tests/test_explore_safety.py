@@ -242,7 +242,7 @@ def test_a_hundred_clicks_do_not_queue_up_and_the_latest_wins(tmp_path: Path, br
         last = browser.run("return head.identifiers[3]")
         assert browser.run("return [head.identifiers[state.place], current.now !== null]") == [last, True]
     questions = (feed / "questions").read_text().split()
-    assert questions[-1] == last and 2 <= len(questions) <= 10 * seconds[0] + 3 < 50
+    assert questions[-1] == last and 2 <= len(questions) <= 10 * seconds[0] + 3
     assert seconds[1] < 1
 
 

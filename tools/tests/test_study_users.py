@@ -235,6 +235,8 @@ def slow_parts(room: Room, monkeypatch: pytest.MonkeyPatch, seconds: int) -> lis
 
 
 def interrupt_in(*seconds: float) -> None:
+    """Sends Ctrl-C to this process after some seconds, which a shell lets its background jobs ignore."""
+    signal.signal(signal.SIGINT, signal.default_int_handler)
     for it in seconds:
         threading.Timer(it, os.kill, (os.getpid(), signal.SIGINT)).start()
 
