@@ -5,10 +5,10 @@
     .ci/run --quick               a first answer in some five minutes; proves nothing
     .ci/run --planted [CRATE ..]  tries the bugs in crates/CRATE/planted, of these crates or of all
 
-`rt ci` proves every crate and its tests, tries every must-fail edit, and runs every test and program. What needs no
-built program runs beside it at the lowest priority: the layout, types and tests of the Python, and the checks of the
-pages. The exit status is 0 where `rt ci` and each script passed. The last line is
-'N passed, M failed, K skipped': skipped is what can't be run on this machine, and each is named above.
+`rt ci` proves every crate and its tests, tries every must-fail edit, and runs every test and program. Then the scripts
+run, one after another, since some of their tests go by the clock: the layout, types and tests of the Python, the checks
+of the pages, and what is tried on the built program. The exit status is 0 where `rt ci` and each script passed. The
+last line is 'N passed, M failed, K skipped': skipped is what can't be run on this machine, and each is named above.
 """
 
 from __future__ import annotations
@@ -34,7 +34,7 @@ CLOSING = re.compile(r"(\d+) passed, (\d+) failed(?:, (\d+) skipped)?")
 CLOSING_OF_TESTS = re.compile(r"test result: \w+\. (\d+) passed; (\d+) failed()\b.*")
 WITHOUT_PROGRAM = [[".ci/tools_checks.py"], [".ci/names.py"], [".ci/same.py"], [".ci/lemmas.py"]]
 PROGRAM, TRIALS = "crates/ttm/out/ttm", "crates/growth_trials/out/growth_trials"
-ON_PROGRAM = [  # the longest first
+ON_PROGRAM = [
     [".ci/tools_checks.py", PROGRAM],
     [".ci/packaging_checks.py", PROGRAM],
     ["bench/hostile.py", PROGRAM, TRIALS],
@@ -104,23 +104,20 @@ def time_of_commit(folder: Path) -> str:
     return log.stdout.strip() or "0"
 
 
-def run_scripts(root: Path, scripts: list[list[str]], at_once: int, prefix: list[str]) -> Count:
-    """Runs those of the scripts that are there, so many `at_once`."""
-
-    def run_script(script: list[str]) -> Count:
-        paths = [str(root / word) if word in (PROGRAM, TRIALS) else word for word in script]
-        return counted(*lines_of([*prefix, sys.executable, *paths], root, script[0]))
-
-    with ThreadPoolExecutor(at_once) as pool:
-        return sum(pool.map(run_script, [it for it in scripts if (root / it[0]).is_file()]), Count())
+def run_scripts(root: Path, scripts: list[list[str]]) -> Count:
+    """Runs those of the scripts that are there, one after another."""
+    count = Count()
+    for script in scripts:
+        if (root / script[0]).is_file():
+            paths = [str(root / word) if word in (PROGRAM, TRIALS) else word for word in script]
+            count += counted(*lines_of([sys.executable, *paths], root, script[0]))
+    return count
 
 
 def gate(root: Path) -> Count:
     """Proves, tries and tests the whole repository."""
-    with ThreadPoolExecutor(1) as pool:
-        beside = pool.submit(run_scripts, root, WITHOUT_PROGRAM, 1, ["nice", "-n", "19"])
-        proved = counted(*lines_of(["rt", "ci"], root, "rt ci", at_once=True))
-        return proved + beside.result() + run_scripts(root, ON_PROGRAM, jobs(), [])
+    proved = counted(*lines_of(["rt", "ci"], root, "rt ci", at_once=True))
+    return proved + run_scripts(root, [*WITHOUT_PROGRAM, *ON_PROGRAM])
 
 
 def quick(root: Path) -> Count:
@@ -129,7 +126,7 @@ def quick(root: Path) -> Count:
     scripts = [[".ci/tools_checks.py", "--no-browser"], [".ci/names.py"], [".ci/same.py"], [".ci/lemmas.py"]]
     with ThreadPoolExecutor(jobs()) as pool:
         tested = pool.map(lambda name: try_crate(root, name), trials)
-        checked = pool.map(lambda script: run_scripts(root, [script], 1, []), scripts)
+        checked = pool.map(lambda script: run_scripts(root, [script]), scripts)
         return sum([*tested, *checked], Count())
 
 
