@@ -1,4 +1,4 @@
-"""The names of r5py, argument by argument, as its documentation of version 1.0 has them (`breakdown` is of 0.1)."""
+"""The names of r5py, argument by argument, from memory of version 1.0 (`breakdown` is of 0.1), not compared with it."""
 
 import datetime
 import inspect
