@@ -46,7 +46,8 @@ class Conversation:
     def __init__(self, words: Sequence[str]) -> None:
         self.owner = os.getpid()
         pipe = subprocess.PIPE
-        self.process = subprocess.Popen(words, stdin=pipe, stdout=pipe, stderr=pipe)
+        # a session of its own, so that Ctrl-C reaches this process alone, which decides what becomes of the question
+        self.process = subprocess.Popen(words, stdin=pipe, stdout=pipe, stderr=pipe, start_new_session=True)
         self.lines: deque[bytes] = deque(maxlen=LAST_LINES)
         self.listener = threading.Thread(target=listen, args=(self.process.stderr, self.lines), daemon=True)
         self.listener.start()

@@ -49,13 +49,15 @@ def check_stops(study: Study, feed: str) -> None:
     check_map_origins(study, origins)
 
 
-def check_runs(study: Study, folder: str, day: datetime.date) -> None:
-    """Ends where no trip of a feed that is ready runs on the day; what is wrong with the feed itself, `ttm` says."""
-    if study.feed.allow_loss:
+def check_runs(study: Study, folder: str, days: Sequence[datetime.date]) -> None:
+    """Ends where no trip of a feed that is ready runs on one of the days; what is wrong with the feed itself, `ttm`
+    says.
+    """
+    if study.feed.allow_loss or not days:
         return
     with room() as made:
         feed = read_feed(folder, made)
-        if not check(feed):
+        for day in days if not check(feed) else ():
             refuse_day(study.at(study.feed.files[0]), feed, day)
 
 

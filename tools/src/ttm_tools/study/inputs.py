@@ -207,16 +207,16 @@ def run_of(study: Study, feed: str, files: dict[str, str], scenarios: Sequence[s
     )
 
 
-def date_of(study: Study) -> datetime.date:
-    """The day of the departures."""
-    return datetime.datetime.strptime(study.run.date, "%Y%m%d").date()
+def dates_of(study: Study) -> list[datetime.date]:
+    """The days of the departures, of which there may be several."""
+    named = study.run.dates or (study.run.date,)
+    return [datetime.datetime.strptime(it, "%Y%m%d").date() for it in named]
 
 
 def days_of(study: Study) -> list[datetime.date]:
-    """The days of a run, where services that run on others are left out."""
-    day = date_of(study)
+    """The days of the runs, where services that run on others are left out."""
     span = range(-study.run.back, study.run.ahead + 1) if study.feed.only_days else range(0)
-    return [day + datetime.timedelta(number) for number in span]
+    return sorted({day + datetime.timedelta(number) for day in dates_of(study) for number in span})
 
 
 def feed_stage(maker: Maker) -> Stage:
@@ -225,21 +225,23 @@ def feed_stage(maker: Maker) -> Stage:
     sources = maker.reads(*wish.files, wish.area)
     paths = [study.at(path) for path in wish.files]
     area = study.at(wish.area) if wish.area else None
-    days = days_of(study)
+    dates, days = dates_of(study), days_of(study)
     clip = Clip(wish.box, area, wish.routes, wish.agencies, days)
 
     def make() -> list[str]:
         if wish.ready:
             told = taken(paths[0])
-            check_runs(study, FEED, date_of(study))
+            check_runs(study, FEED, dates)
             return told
         from ..prepare.make import Asked, make as make_ready
 
         with room() as made:
-            asked = Asked(paths, FEED, wish.repair, clip, wish.allow_loss, date_of(study), wish.same_clock)
-            return make_ready(asked, made)
+            asked = Asked(paths, FEED, wish.repair, clip, wish.allow_loss, dates[0], wish.same_clock)
+            told = make_ready(asked, made)
+        check_runs(study, FEED, dates[1:])
+        return told
 
-    depends = {"wish": facts_of(wish), "days": [str(day) for day in [date_of(study), *days]], "inputs": sources.sums}
+    depends = {"wish": facts_of(wish), "days": [str(day) for day in [*dates, *days]], "inputs": sources.sums}
     return Stage("feed", depends, [FEED], make, refuse_changed=sources.refuse_changed)
 
 

@@ -68,7 +68,12 @@ def refuse_changed(parts: Sequence[Part], threads: int) -> None:
 
 
 def join_parts(
-    parts: Sequence[Part], with_csv: bool, shown_as: Mapping[str, str], shown: Sequence[str], threads: int
+    parts: Sequence[Part],
+    with_csv: bool,
+    shown_as: Mapping[str, str],
+    shown: Sequence[str],
+    threads: int,
+    path: str = MATRIX,
 ) -> list[str]:
     """Writes the matrix of all parts, which are looked at once more, with the scenarios that are shown, and those
     columns alone that are to be shown, where there are any.
@@ -76,8 +81,8 @@ def join_parts(
     refuse_changed(parts, threads)
     joined = Joined(parts, shown_as)
     matrix = Chosen(joined, shown) if shown else joined
-    write_open_matrix(matrix, MATRIX, threads)
-    told = [f"{MATRIX}: {joined.begins[-1]:,} origins, {len(matrix.stops):,} {'points' if shown else 'stops'}"]
+    write_open_matrix(matrix, path, threads)
+    told = [f"{path}: {joined.begins[-1]:,} origins, {len(matrix.stops):,} {'points' if shown else 'stops'}"]
     if with_csv:
         with output(CSV) as file:
             write_whole([CsvPart(str(part.matrix)) for part in parts], file)

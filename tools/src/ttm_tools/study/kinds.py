@@ -10,6 +10,8 @@ from ..dates import as_ttm_reads, day_of
 from ..plans.plan_file import Entry
 
 CLOCK = re.compile(r"([01][0-9]|2[0-3]):[0-5][0-9]")
+WINDOW_NAME = re.compile(r"[\w-]{1,40}")
+MOST_DATES, MOST_WINDOWS = 31, 96
 
 
 @dataclass(frozen=True)
@@ -20,9 +22,20 @@ class Kind:
     read: Callable[[Entry, str], Any]
 
 
-def told(kind: Kind, what: str, example: str, default: Any = MISSING) -> Any:
-    """A field of a table: its kind, what it says, and how the template writes it; without a default it is needed."""
-    metadata = {"kind": kind, "told": what, "example": example}
+@dataclass(frozen=True)
+class Window:
+    """Departures of a day, one each minute, and what they are called."""
+
+    name: str
+    first: str  # HH:MM
+    last: str
+
+
+def told(kind: Kind, what: str, example: str, default: Any = MISSING, instead: str | None = None) -> Any:
+    """A field of a table: its kind, what it says, and how the template writes it; without a default it is needed, where
+    another field doesn't stand for it.
+    """
+    metadata = {"kind": kind, "told": what, "example": example, "instead": instead}
     return field(metadata=metadata) if default is MISSING else field(default=default, metadata=metadata)
 
 
@@ -32,11 +45,39 @@ def read_texts(entry: Entry, key: str) -> tuple[str, ...]:
 
 def read_date(entry: Entry, key: str) -> str:
     """A day as `ttm` takes it, from a date of TOML or a text."""
-    made = entry.get(key)
+    return day_in(entry, key, entry.get(key))
+
+
+def day_in(entry: Entry, key: str, made: Any) -> str:
     try:
         return as_ttm_reads(day_of(made if type(made) is datetime.date else str(made)))
     except ValueError:
         raise entry.fault("is no date", key, str(made), DATE.allowed) from None
+
+
+def read_dates(entry: Entry, key: str) -> tuple[str, ...]:
+    """Days, each after the one before it."""
+    made = entry.get(key)
+    days = [day_in(entry, key, it) for it in made] if isinstance(made, list) else []
+    if not 1 <= len(days) <= MOST_DATES or any(one >= other for one, other in zip(days, days[1:])):
+        raise entry.fault("isn't that", key, written(made) if isinstance(made, list) else str(made), DATES.allowed)
+    return tuple(days)
+
+
+def read_windows(entry: Entry, key: str) -> tuple[Window, ...]:
+    """Windows of a day, no two called alike."""
+    made = list[Window]()
+    for inner in entry.inner(key):
+        inner.only(("name", "from", "to"))
+        name, first, last = inner.text("name"), read_clock(inner, "from"), read_clock(inner, "to")
+        if not WINDOW_NAME.fullmatch(name) or name.casefold() in [it.name.casefold() for it in made]:
+            raise inner.fault("can't be a window's name", "name", name, "up to 40 letters, digits, _ and -, each once")
+        if last < first:
+            raise inner.fault("is before from", "to", last)
+        made.append(Window(name, first, last))
+    if len(made) > MOST_WINDOWS:
+        raise entry.fault(f"names {len(made)} windows", key, allowed=WINDOWS.allowed)
+    return tuple(made)
 
 
 def read_clock(entry: Entry, key: str) -> str:
@@ -115,5 +156,7 @@ FILES = Kind("paths between brackets, from the folder of this file", read_texts)
 TEXTS = Kind("texts between brackets", read_texts)
 FLAG = Kind("true or false", lambda entry, key: entry.flag(key, False))
 DATE = Kind("YYYY-MM-DD, or YYYYMMDD between quotes", read_date)
+DATES = Kind(f"1 to {MOST_DATES} dates between brackets, ascending", read_dates)
+WINDOWS = Kind(f"1 to {MOST_WINDOWS} tables of name, from and to between brackets", read_windows)
 TIME = Kind("HH:MM between quotes, 00:00 to 23:59", read_clock)
 BOX = Kind("[west, south, east, north] in degrees", read_box)

@@ -14,6 +14,7 @@ from ..opening.texts import read_json
 from .results import Whole
 from .stages import Record, as_text, logged, sum_of_tools, write_settled
 from .ttm import Version, facts_of
+from .windows import asked_of, matrix_of
 
 NOTES, FORM = "study.json", 1
 PACKAGES = ("numpy", "pandas", "h5py", "matplotlib", "scipy", "osmium", "jinja2")
@@ -46,6 +47,7 @@ def write_notes(whole: Whole, records: dict[str, Record], version: Version, part
         "words": inputs.run.words(),
         "run": facts_of(inputs.run),
         "shown_as": inputs.shown_as,
+        "windows": {matrix_of(it): facts_of(asked_of(inputs, it).run) for it in study.questions[1:]},
         "parts": parts,
         "stages": {name: {"key": it.key, "told": it.lines, "files": it.outputs} for name, it in made.items()},
         "versions": versions(version.lines, version.sum),

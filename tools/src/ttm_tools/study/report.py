@@ -14,6 +14,8 @@ from .maps import Drawn, maps_of
 from .page import PAGE
 from .results import ACCESS_TABLE, EQUITY_TABLE, Whole
 from .stages import Record, Stage
+from .window_report import write_windows
+from .wishes import Study
 
 MARKDOWN, HTML, TOLD = "report.md", "report.html", "inputs/told.txt"
 FEW = 10  # origins that lose, and that gain most, which the report names
@@ -66,16 +68,28 @@ def report_of(whole: Whole, records: dict[str, Record], version: Sequence[str]) 
     made.items(f"{name}: {line}" for name, record in inputs.records.items() for line in record.lines)
     made.paragraph("Words of the run, in the study's folder; parts of the origins took its place:")
     made.code(["ttm " + " ".join(inputs.run.words())])
-    made.paragraph("What ttm reported about days, trips and walks:")
-    told = Path(TOLD).read_text(encoding="utf-8").splitlines()
-    made.code(told)
-    warnings = [line for line in told if line.startswith("warning")]
+    warnings = list[str]()
+    for path in told_files(study):
+        day = f" for {Path(path).stem.removeprefix('told_')}" if path != TOLD else ""
+        made.paragraph(f"What ttm reported about days, trips and walks{day}:")
+        told = Path(path).read_text(encoding="utf-8").splitlines()
+        made.code(told)
+        warnings += [line for line in told if line.startswith("warning") and line not in warnings]
     made.paragraph("Warnings: " + ("; ".join(warnings) if warnings else "none."))
     made.heading("What is proved, and what isn't")
     for text in PROVED:
         made.paragraph(text)
     made.code(list(version))
     return made
+
+
+def told_files(study: Study) -> list[str]:
+    """What `ttm` reported of each day, that of the first one first."""
+    return [TOLD, *(told_of_day(date) for date in study.run.dates[1:])]
+
+
+def told_of_day(date: str) -> str:
+    return TOLD.replace(".txt", f"_{date}.txt")
 
 
 def write_figures(made: Document, whole: Whole, records: dict[str, Record]) -> None:
@@ -98,6 +112,7 @@ def write_figures(made: Document, whole: Whole, records: dict[str, Record]) -> N
         if name in records:
             header, *lines = all_rows(f"{name}.csv")
             made.table(f"{caption} ({name}.csv)", [as_words(it) for it in header], lines)
+    write_windows(made, whole, records)
     if "page" in records:
         made.link("To look at in a browser:", PAGE)
     if AREAS in records:

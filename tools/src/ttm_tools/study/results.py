@@ -1,6 +1,6 @@
 """What is made of the matrix: tables of access, of winners and losers, and of equity. Each is a stage of its own."""
 
-from dataclasses import dataclass
+from dataclasses import dataclass, field
 from typing import Any, Sequence
 
 import numpy as np
@@ -39,6 +39,7 @@ class Whole:
     inputs: Inputs
     sum: str  # of the matrix' file
     scenarios: list[str]
+    windows: dict[str, str] = field(default_factory=dict)  # the matrices of the other windows, with their sums
 
     @property
     def others(self) -> dict[str, str]:
@@ -61,6 +62,11 @@ class Whole:
     def whole(self) -> Matrix:
         """The matrix, up to the greatest travel time that the study names."""
         return capped(open_matrix(MATRIX), self.study.results.max_minutes)
+
+    def shown_in(self, path: str) -> Matrix:
+        """The matrix of another window, as far as it is shown."""
+        made, _ = shown_of(capped(open_matrix(path), self.study.results.max_minutes), self.inputs.feed, None)
+        return made
 
     def counts(self, matrix: Matrix) -> Counts:
         """What is counted at its stops: each as one where nothing is named."""

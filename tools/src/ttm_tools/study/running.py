@@ -8,7 +8,7 @@ import threading
 import time
 from dataclasses import dataclass
 from types import FrameType
-from typing import Generator, Iterator, Sequence
+from typing import Generator, Iterator, Protocol, Sequence
 
 from .. import progress
 from ..engine import Run
@@ -34,9 +34,7 @@ def run_parts(run: Run, parts: Sequence[Part], at_once: int, threads: int) -> li
     """Computes the parts that aren't done; one that fails is told at once, and the others go on. The first Ctrl-C has
     no more parts begin, and keeps those that run.
     """
-    missing = [part for part in parts if not part.is_done()]
-    if len(parts) > len(missing) > 0:
-        say(f"parts: {len(parts) - len(missing)} of {len(parts)} are there already")
+    missing = missing_of(parts)
     failed, pool = list[Failed](), Pool(run, missing, at_once, threads)
     with ends_gently(pool), contextlib.closing(ends_of(pool)) as ended:
         for it in shown(ended, len(missing)):
@@ -46,6 +44,26 @@ def run_parts(run: Run, parts: Sequence[Part], at_once: int, threads: int) -> li
     if pool.is_ending:
         raise Interrupted(signal.SIGINT)
     return failed
+
+
+def missing_of(parts: Sequence[Part]) -> list[Part]:
+    """The parts that aren't done; where some are, this is told."""
+    missing = [part for part in parts if not part.is_done()]
+    if len(parts) > len(missing) > 0:
+        say(f"parts: {len(parts) - len(missing)} of {len(parts)} are there already")
+    return missing
+
+
+def tell_ending(count: int) -> None:
+    """Says what becomes of the parts that run when somebody presses Ctrl-C."""
+    if count:
+        say(f"interrupted: {count} parts that run are waited for and kept; Ctrl-C again ends them")
+
+
+class Gentle(Protocol):
+    """Work whose parts end one by one."""
+
+    is_ending: bool  # whether no more parts begin, since somebody pressed Ctrl-C
 
 
 class Pool:
@@ -70,7 +88,7 @@ class Pool:
             self.running[part.number] = (part, begun(self.run, part, self.threads))
         if self.is_ending and self.running and not self.has_said_so:
             self.has_said_so = True
-            say(f"interrupted: {len(self.running)} parts that run are waited for and kept; Ctrl-C again ends them")
+            tell_ending(len(self.running))
 
     def over(self) -> list[tuple[Part, Running]]:
         """The runs that are over, after a while."""
@@ -94,7 +112,7 @@ class Pool:
 
 
 @contextlib.contextmanager
-def ends_gently(pool: Pool) -> Iterator[None]:
+def ends_gently(pool: Gentle) -> Iterator[None]:
     """Has the first Ctrl-C begin no more parts, and the second one do what it does elsewhere."""
     before = signal.getsignal(signal.SIGINT)
     if threading.current_thread() is not threading.main_thread() or before is signal.SIG_IGN:

@@ -45,7 +45,7 @@ def read_study(path: str) -> Study:
             raise top.fault(f"no table [{name}], which is needed")
     about = Entry(path, 1, {key: it for key, it in values.items() if key not in TABLES}, top.lines)
     read: dict[str, Any] = {name: wish_of(TABLES[name], entry) for name, entry in entries.items()}
-    study = in_seconds(Study(Path(os.path.abspath(path)), wish_of(About, about), **read, text=text))
+    study = with_first(in_seconds(Study(Path(os.path.abspath(path)), wish_of(About, about), **read, text=text)))
     for name, entry in entries.items():
         tell_lost_files(study, TABLES[name], entry)
     agree(study, {name: entries.get(name, Entry(path, 1, {}, {})) for name in TABLES})
@@ -60,6 +60,16 @@ def in_seconds(study: Study) -> Study:
     if results.cutoff is not None:
         results = replace(results, within=round(60 * results.cutoff))
     return replace(study, run=run, results=results)
+
+
+def with_first(study: Study) -> Study:
+    """The same whose date and window are the first of several."""
+    run = study.run
+    if run.dates:
+        run = replace(run, date=run.dates[0])
+    if run.windows:
+        run = replace(run, first=run.windows[0].first, last=run.windows[0].last)
+    return replace(study, run=run)
 
 
 def names_of(kind: type[Any]) -> list[str]:
@@ -82,8 +92,10 @@ def wish_of(kind: type[Wish], entry: Entry) -> Wish:
         key = NAMES.get(it.name, it.name)
         if entry.has(key):
             made[it.name] = it.metadata["kind"].read(entry, key)
-        elif it.default is MISSING:
+        elif it.default is MISSING and not entry.has(it.metadata["instead"] or ""):
             raise entry.fault("is needed", key, allowed=it.metadata["kind"].allowed)
+        elif it.default is MISSING:
+            made[it.name] = ""
     return kind(**made)
 
 
@@ -107,6 +119,8 @@ def refuse_both(entry: Entry, *keys: str) -> None:
 def agree(study: Study, entries: dict[str, Entry]) -> None:
     """Tells fields that don't go together."""
     feed, run, walks, points = (entries[name] for name in ("feed", "run", "walks", "points"))
+    for key, several in (("date", "dates"), ("from", "windows"), ("to", "windows")):
+        refuse_both(run, key, several)
     if study.run.last < study.run.first:
         raise run.fault("is before from", "to", study.run.last)
     if not study.feed.files:

@@ -15,7 +15,7 @@ HEAD = """\
 def default_of(it: "Field[Any]") -> str:
     """The default of a field, as the file says it."""
     if it.default is MISSING:
-        return "needed"
+        return f"needed, or {it.metadata['instead']}" if it.metadata["instead"] else "needed"
     value = list(it.default) if isinstance(it.default, tuple) else it.default
     if value is None or value == [] or value == "":
         return "" if "without it" in it.metadata["told"] else "without it, none"

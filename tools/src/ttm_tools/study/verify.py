@@ -48,9 +48,11 @@ def verify(folder: Path, seed: int | None, workers: int) -> None:
         count = -(-len(origins) // OF_ALL)
         places = sorted(random.Random(seed).sample(range(len(origins)), count))
         drawn = [origins[place] for place in places]
-        kept = [open_matrix(MATRIX), *([CsvMatrix(CSV)] if CSV in files else [])]
-        for few in parts_of(drawn, -(-count * notes["parts"] // len(origins))):
-            compare_again(replace(run, workers=workers), few, kept, notes.get("shown_as") or {})
+        kept = [(run, [open_matrix(MATRIX), *([CsvMatrix(CSV)] if CSV in files else [])])]
+        kept += [(Run(**it), [open_matrix(path)]) for path, it in (notes.get("windows") or {}).items()]
+        few_at_once = parts_of(drawn, -(-count * notes["parts"] // len(origins)))
+        for (own_run, matrices), few in itertools.product(kept, few_at_once):
+            compare_again(replace(own_run, workers=workers), few, matrices, notes.get("shown_as") or {})
         say(f"rows: those of {count:,} of {len(origins):,} origins, drawn by --seed {seed}, have the same bytes")
 
 

@@ -6,7 +6,24 @@ from dataclasses import dataclass, field
 from pathlib import Path
 from typing import Any
 
-from .kinds import BOX, DATE, FILE, FILES, FLAG, TEXT, TEXTS, TIME, ascending, number, one_of, told, whole
+from .kinds import (
+    BOX,
+    DATE,
+    DATES,
+    FILE,
+    FILES,
+    FLAG,
+    TEXT,
+    TEXTS,
+    TIME,
+    WINDOWS,
+    Window,
+    ascending,
+    number,
+    told,
+    whole,
+)
+from .result_wish import ResultWish
 
 
 @dataclass(frozen=True)
@@ -46,9 +63,18 @@ class FeedWish:
 class RunWish:
     """The arguments of ttm: docs/reference/options.md."""
 
-    date: str = told(DATE, "the day of the departures", "2026-05-04")
-    first: str = told(TIME, "the first departure of the window", '"07:30"')
-    last: str = told(TIME, "the last departure: there is one each minute", '"08:29"')
+    date: str = told(DATE, "the day of the departures", "2026-05-04", instead="dates")
+    first: str = told(TIME, "the first departure of the window", '"07:30"', instead="windows")
+    last: str = told(TIME, "the last departure: there is one each minute", '"08:29"', instead="windows")
+    dates: tuple[str, ...] = told(
+        DATES, "several days, instead of date: a matrix for each", "[2026-05-04, 2026-05-09]", ()
+    )
+    windows: tuple[Window, ...] = told(
+        WINDOWS,
+        "several windows, instead of from and to: a matrix for each",
+        '[{ name = "peak", from = "07:00", to = "08:59" }]',
+        (),
+    )
     trips: int = told(whole(1, 8), "the maximum number of vehicles of a journey", "4", 4)
     walk: int = told(whole(0, 7200, "seconds"), "the longest walk; 0 for none", "600", 600)
     shares: tuple[int, ...] = told(
@@ -140,78 +166,6 @@ class ScenarioWish:
 
 
 @dataclass(frozen=True)
-class ResultWish:
-    """Which results are written. matrix.omx, report.md, report.html and study.json always are."""
-
-    csv: bool = told(FLAG, "also matrix.csv, byte for byte that of one run of ttm", "true", False)
-    access: bool = told(FLAG, "access.csv, and equity.csv if people are named", "false", True)
-    cutoffs: tuple[float, ...] | None = told(
-        ascending(0, 10000, "minutes", False), "limits of access.csv; without it, limits of [run]", "[15, 30, 45]", None
-    )
-    decay: str = told(
-        one_of("step", "linear", "exponential", "logistic"), "how weights fall: ttm-tools access", '"logistic"', "step"
-    )
-    decay_value: float | None = told(
-        number(0, 10000, "minutes"), "the parameter of linear and logistic; without it, none", "10", None
-    )
-    nearest: tuple[float, ...] = told(
-        ascending(0.000001, 1e15, "opportunities", False),
-        "nearest.csv: the time within which this number is reached; equity_nearest.csv if people are named; and a map",
-        "[1, 3]",
-        (),
-    )
-    bands: tuple[float, ...] = told(
-        ascending(0, 1e15, "opportunities", False),
-        "bands.csv: how many people have at least this number; needs people",
-        "[1000, 10000]",
-        (),
-    )
-    nearest_bands: tuple[float, ...] = told(
-        ascending(0, 10000, "minutes", False),
-        "bands_nearest.csv: how many people have the nearest within these minutes; needs people and nearest",
-        "[10, 20, 30]",
-        (),
-    )
-    max_minutes: float | None = told(
-        number(0, 10000, "minutes"), "beyond which a pair counts as not reached; without it, each counts", "90", None
-    )
-    compare: bool = told(FLAG, "winners and losers by origin, for each scenario", "false", True)
-    pairs: bool = told(FLAG, "winners and losers by pair, for each scenario", "true", False)
-    differs: int = told(whole(0, 604800, "seconds"), "a change of travel time counts above this", "60", 60)
-    maps: bool = told(FLAG, "pictures of access and of each scenario's difference", "false", True)
-    map_origins: tuple[str, ...] = told(TEXTS, "stops whose travel times are drawn too", '["B00170S"]', ())
-    isochrones: tuple[str, ...] = told(
-        TEXTS,
-        "stops or points from which areas are written, as isochrones/STOP.geojson; needs shapely",
-        '["B00170S"]',
-        (),
-    )
-    isochrone_bands: tuple[float, ...] = told(
-        ascending(1, 10000, "minutes", False),
-        "within which these areas are reached",
-        "[15, 30]",
-        (15.0, 30.0, 45.0, 60.0),
-    )
-    unit: str | None = told(
-        TEXT, "what access counts, in a reader's word; without it, the name of the column", '"jobs"', None
-    )
-    share: int | None = told(
-        whole(1, 100, "percent"),
-        "the percentile of tables, maps and page; without it, the median or the first",
-        "50",
-        None,
-    )
-    within: int | None = told(
-        whole(0, 4294967295, "seconds"),
-        "the limit of tables, maps and page; without it, the last of [run]",
-        "1800",
-        None,
-    )
-    cutoff: float | None = told(number(0, 10000, "minutes"), "the same in minutes, instead of within", "30", None)
-    page: bool = told(FLAG, "page.html, to view and to send", "false", True)
-
-
-@dataclass(frozen=True)
 class PartWish:
     """How the run is cut into parts. The results are the same."""
 
@@ -224,6 +178,28 @@ class PartWish:
         None,
     )
     keep: bool = told(FLAG, "keep the parts' matrices after joining", "true", False)
+
+
+@dataclass(frozen=True)
+class Question:
+    """A window of a day, which has a matrix of its own."""
+
+    date: str  # YYYYMMDD
+    window: Window
+
+    @property
+    def name(self) -> str:
+        """What its files are called."""
+        return f"{self.date}_{self.window.name}"
+
+    @property
+    def day(self) -> str:
+        """The day as people write it."""
+        return f"{self.date[:4]}-{self.date[4:6]}-{self.date[6:]}"
+
+    @property
+    def told(self) -> str:
+        return f"{self.day}, {self.window.name} ({self.window.first} to {self.window.last})"
 
 
 @dataclass(frozen=True)
@@ -250,6 +226,15 @@ class Study:
     @property
     def title(self) -> str:
         return self.about.title or self.path.stem
+
+    @property
+    def questions(self) -> list[Question]:
+        """The windows of all days, where several are named; the first one's matrix is that of maps and page."""
+        run = self.run
+        if not run.dates and not run.windows:
+            return []
+        windows = run.windows or (Window(f"{run.first}-{run.last}".replace(":", ""), run.first, run.last),)
+        return [Question(date, window) for date in run.dates or (run.date,) for window in windows]
 
     @property
     def share(self) -> int:

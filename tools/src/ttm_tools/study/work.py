@@ -5,6 +5,7 @@ import functools
 import os
 import re
 import shutil
+from dataclasses import replace
 from pathlib import Path
 from typing import Iterator
 
@@ -24,12 +25,14 @@ from .joining import CSV, MATRIX, join_parts
 from .maps import make_maps
 from .notes import write_notes
 from .page import make_page
-from .report import TOLD, report_stage
+from .report import TOLD, report_stage, told_of_day
 from .results import Whole, make_tables, names_of_scenarios
 from .running import refuse_failed, run_parts
 from .sources import refuse_other_sums
 from .stages import RECORDS, Folder, Record, Stage, held, log, refuse_folder, room
 from .ttm import Version, version_of
+from .window_results import make_window_results
+from .windows import Machine, make_windows
 from .wishes import Study
 
 FORM = 1  # of how the parts are joined: the rows are ttm's, so other tools don't change them
@@ -52,12 +55,15 @@ def make_study(study: Study, out: Path, means: Means) -> None:
         refuse_wishes(study, inputs)
         say(*told_names(names_of_scenarios(list(inputs.edits), inputs.base)))
         key = study_key(inputs, version.lines)
-        records = {"days": folder.do(told_stage(inputs, key))}
+        records = days_told(study, inputs, folder, version)
         records["matrix"] = folder.do(matrix_stage(study, inputs, key, version, means))
+        windows = make_windows(study, inputs, folder, Machine(version, means))
+        records |= windows
         if not study.parts.keep:
             remove_parts()
         sum_of_matrix = records["matrix"].outputs[MATRIX]
-        whole = Whole(study, inputs, sum_of_matrix, open_matrix(MATRIX).scenarios)
+        sums = {name: was for it in windows.values() for name, was in it.outputs.items()}
+        whole = Whole(study, inputs, sum_of_matrix, open_matrix(MATRIX).scenarios, sums)
         records |= make_results(whole, folder, records, version.lines)
         write_notes(whole, records, version, parts_noted())
         sweep(Path("."), inside_parts=True)
@@ -92,6 +98,7 @@ def refuse_wishes(study: Study, inputs: Inputs) -> None:
 def make_results(whole: Whole, folder: Folder, records: dict[str, Record], version: list[str]) -> dict[str, Record]:
     """Does all stages behind the matrix."""
     made = make_tables(whole, folder)
+    made |= make_window_results(whole, folder)
     made |= make_areas(whole, folder)
     maps = make_maps(whole, folder)
     made |= {"maps": maps} if maps else {}
@@ -114,17 +121,27 @@ def found_program() -> Iterator[None]:
             os.environ["TTM_PROGRAM"] = before
 
 
-def told_stage(inputs: Inputs, key: str) -> Stage:
-    """What `ttm` tells of the feed, its days and its scenarios: the report of a run of one origin."""
+def days_told(study: Study, inputs: Inputs, folder: Folder, version: Version) -> dict[str, Record]:
+    """What `ttm` tells of each day of the study: that of the first one first."""
+    made = {"days": folder.do(told_stage(inputs, study_key(inputs, version.lines), "days", TOLD))}
+    for date in study.run.dates[1:]:
+        own = replace(inputs, run=replace(inputs.run, date=date))
+        stage = told_stage(own, study_key(own, version.lines), f"days_{date}", told_of_day(date))
+        made[stage.name] = folder.do(stage)
+    return made
+
+
+def told_stage(inputs: Inputs, key: str, name: str, path: str) -> Stage:
+    """What `ttm` tells of the feed, a day and its scenarios: the report of a run of one origin."""
 
     def make() -> list[str]:
         with room() as made:
             _, report = trial(inputs, origins_in(str(inputs.run.files["origins"]))[:1], made)
         lines = beside_today(inputs, [line for line in report.facts if not line.startswith(OF_ONE_ORIGIN)])
-        Path(TOLD).write_text("".join(line + "\n" for line in lines), encoding="utf-8")
+        Path(path).write_text("".join(line + "\n" for line in lines), encoding="utf-8")
         return [line for line in lines if line.startswith(("runs in scenario", "warning"))]
 
-    return Stage("days", {"study": key}, [TOLD], make)
+    return Stage(name, {"study": key}, [path], make)
 
 
 def beside_today(inputs: Inputs, lines: list[str]) -> list[str]:

@@ -1,7 +1,7 @@
 """What is shown of equity: a table, as CSV or Markdown, and a picture of Lorenz curves and of changes by tenths."""
 
 from dataclasses import astuple, dataclass
-from typing import Any, BinaryIO, Callable, Iterator, Sequence
+from typing import Any, BinaryIO, Callable, Iterable, Iterator, Sequence
 
 import numpy as np
 
@@ -76,13 +76,19 @@ def told(number: float) -> str:
     return "" if np.isnan(number) else f"{number:.4f}".rstrip("0").rstrip(".")
 
 
-def write_equity(out: BinaryIO, lines: Iterator[tuple[Kind, str, str, Equity | Nearness]], form: str) -> None:
-    """Writes a line for each kind, group and scenario."""
+def rows_of(lines: Iterable[tuple[Kind, str, str, Equity | Nearness]]) -> list[list[str]]:
+    """The header, and a row for each kind, group and scenario."""
     found = list(lines)
-    made = [[*astuple(kind), group, scenario, *map(told, astuple(of))] for kind, group, scenario, of in found]
     header = [*HEADS, *MEASURES]
     if any(isinstance(of, Nearness) for *_, of in found):
         header = [*HEADS[:2], "nearest", *HEADS[3:5], *OF_TIMES]
+    made = [[*astuple(kind), group, scenario, *map(told, astuple(of))] for kind, group, scenario, of in found]
+    return [header, *made]
+
+
+def write_equity(out: BinaryIO, lines: Iterator[tuple[Kind, str, str, Equity | Nearness]], form: str) -> None:
+    """Writes a line for each kind, group and scenario."""
+    header, *made = rows_of(lines)
     if form == CSV:
         write_rows(out, header, made)
         return

@@ -1,0 +1,128 @@
+"""The parts of windows, asked of a network that is kept: the feed of a day is read once by a `ttm` that has --ask."""
+
+import os
+import signal
+import time
+from concurrent.futures import FIRST_COMPLETED, Future, ThreadPoolExecutor, wait
+from dataclasses import dataclass
+from types import TracebackType
+from typing import Iterator, Sequence
+
+from ..conversation import Answer
+from ..engine import EngineFault, Run, program_at
+from ..faults import say
+from ..files import Interrupted
+from ..network import MIDNIGHT, Processes, command_of
+from .cutting import Part, Shape
+from .running import SECONDS_BETWEEN_LOOKS, Failed, ends_gently, missing_of, shown, tell_ending
+from .stages import log, settle
+from .ttm import aside_of, fault_of, with_origins
+
+OF_THE_NETWORK = ("footpaths",)  # files that `ttm` reads once; the others are of a question
+
+
+def kept_words(run: Run) -> list[str]:
+    """The words of the network, which all questions of its day share."""
+    files = {name: path for name, path in run.files.items() if name in OF_THE_NETWORK}
+    back, ahead, paths = run.back, run.ahead, run.scenarios
+    kept = Run(run.feed, run.date, MIDNIGHT, 4, run.walk, scenarios=paths, back=back, ahead=ahead, files=files)
+    return kept.words()
+
+
+def question_of(run: Run) -> list[str]:
+    """The words of a question."""
+    numbers = {"trips": run.trips, "workers": run.workers, "tries": run.tries}
+    lists = {"share": ",".join(map(str, run.shares)), "within": ",".join(map(str, run.limits))}
+    files = {name: path for name, path in run.files.items() if name not in OF_THE_NETWORK}
+    named: dict[str, object] = {"from": run.window[0], "to": run.window[1], **numbers, **lists, **files}
+    return [word for name, value in named.items() for word in (f"--{name}", str(value))]
+
+
+@dataclass(frozen=True)
+class Asked:
+    """A part that is asked for, and its words."""
+
+    part: Part
+    words: list[str]
+
+
+class Kept:
+    """The network of a day: its processes begin with the first question, and end with the block."""
+
+    def __init__(self, run: Run, at_once: int) -> None:
+        self.run, self.at_once = run, at_once
+        self.processes: Processes | None = None
+        self.seconds: dict[str, float] = {}  # that the part of a matrix took
+        self.is_ending = False  # whether no more parts begin, since somebody pressed Ctrl-C
+
+    def __enter__(self) -> "Kept":
+        return self
+
+    def __exit__(
+        self, kind: type[BaseException] | None, fault: BaseException | None, trace: TracebackType | None
+    ) -> None:
+        if self.processes is not None:
+            self.processes.close()
+
+    def ask(self, asked: Asked) -> Answer:
+        """What the network answers; nothing is asked any more once somebody pressed Ctrl-C."""
+        if self.is_ending or self.processes is None:
+            raise Interrupted(signal.SIGINT)
+        begin = time.monotonic()
+        answer = self.processes.ask(asked.words)
+        self.seconds[str(asked.part.matrix)] = time.monotonic() - begin
+        return answer
+
+    def run_parts(self, run: Run, parts: Sequence[Part], shape: Shape) -> list[Failed]:
+        """Asks for the parts of a window that aren't done; one that fails is told at once, and the others go on."""
+        missing = missing_of(parts)
+        if missing and self.processes is None:
+            self.processes = Processes(command_of(program_at(None), kept_words(self.run)), self.at_once)
+        asked = [Asked(it, question_of(with_origins(run, str(it.origins_file), shape.threads))) for it in missing]
+        with ends_gently(self):
+            failed = [it for it in shown(self.answered(asked), len(missing)) if it is not None]
+        if self.is_ending:
+            raise Interrupted(signal.SIGINT)
+        return failed
+
+    def answered(self, asked: Sequence[Asked]) -> Iterator[Failed | None]:
+        """What became of each part, as answers come; all processes end where this is left."""
+        for it in asked:
+            it.part.begin()
+        with ThreadPoolExecutor(self.at_once) as pool:
+            begun = {pool.submit(self.ask, it): it.part for it in asked}
+            waiting, told = set(begun), False
+            try:
+                while waiting:
+                    over, waiting = wait(waiting, SECONDS_BETWEEN_LOOKS, FIRST_COMPLETED)
+                    if self.is_ending and not told:
+                        told = True
+                        tell_ending(sum(it.running() for it in waiting))
+                    yield from (self.ended(begun[it], it) for it in over if not is_left(it))
+            except BaseException:
+                pool.shutdown(wait=False, cancel_futures=True)
+                self.__exit__(None, None, None)
+                raise
+
+    def ended(self, part: Part, future: "Future[Answer]") -> Failed | None:
+        """Notes a part that has its answer."""
+        try:
+            answer = future.result()
+        except EngineFault as fault:
+            answer = Answer(fault.ended, fault.line.encode("utf-8", "replace"))
+        if answer.status != 0:
+            told = fault_of(answer.body, answer.status)
+            say(f"part {part.number}: {told}")
+            return Failed(part, told)
+        made = aside_of(part.matrix)
+        made.write_bytes(answer.body)
+        settle(made)
+        os.replace(made, part.matrix)
+        part.finish()
+        log("part", part.folder.name, round(self.seconds[str(part.matrix)], 3))
+        return None
+
+
+def is_left(future: "Future[Answer]") -> bool:
+    """Whether a part was never asked for."""
+    return isinstance(future.exception(), Interrupted)

@@ -1,0 +1,202 @@
+"""What is made of the matrices of all windows and days: access and its spread over people by window, and pictures of
+them by time of day.
+"""
+
+from dataclasses import dataclass
+from pathlib import Path
+from typing import Any, BinaryIO, Callable, Iterator, Sequence
+
+import numpy as np
+
+from ..feed import Floats
+from ..files import many_written_aside, output
+from ..matrices import Matrix, Share
+from ..measures.access import Decay, access, nearest
+from ..measures.access_table import AccessTable, Kind
+from ..measures.opportunities import Counts, columns_of, read_counts
+from ..naming import file_names
+from ..records import shown, write_rows
+from ..views import equity
+from ..views.access import ACCESS, NEAREST, Measured, long_rows, measured, told
+from ..views.windows import Column, Told, figure_by_time, figure_of_heat, figure_of_maps
+from .counted import COUNTED, PEOPLE
+from .joining import MATRIX
+from .results import LOSE, POINTS, STOPS, Whole
+from .stages import Folder, Record, Stage
+from .windows import WINDOWS, matrix_of
+from .wishes import Question
+
+HEADS = ["date", "window", "from", "to"]
+EACH = "origins"  # whom the means count where no people are named: each origin once
+PICTURES, KINDS = f"{WINDOWS}/pictures", ("time", "heat", "maps")
+DECIMALS = 6
+
+
+@dataclass(frozen=True)
+class Of:
+    """What is measured of all windows."""
+
+    kind: str  # access or nearest
+    heads: tuple[str, str]
+    limits: Sequence[float]
+    measure: Callable[[Matrix, str, Share, Counts], Floats]
+
+    @property
+    def files(self) -> tuple[str, str]:
+        """The table by origin, and that by people."""
+        end = "" if self.heads == ACCESS else f"_{self.kind}"
+        return f"{WINDOWS}/{self.kind}.csv", f"{WINDOWS}/equity{end}.csv"
+
+
+def make_window_results(whole: Whole, folder: Folder) -> dict[str, Record]:
+    """Writes the tables and pictures, where several windows or days are named."""
+    wish, made = whole.study.results, dict[str, Record]()
+    kinds = [*([of_access(whole)] if wish.access else []), *([of_nearest(whole)] if wish.nearest else [])]
+    for of in kinds if whole.study.questions else ():
+        made[f"windows_{of.kind}"] = folder.do(tables_stage(whole, of))
+    return made
+
+
+def of_access(whole: Whole) -> Of:
+    wish, cutoffs = whole.study.results, whole.study.cutoffs
+    decay = Decay(wish.decay, wish.decay_value)
+
+    def measure(matrix: Matrix, scenario: str, share: Share, counts: Counts) -> Floats:
+        return access(matrix, scenario, share, counts.numbers, decay, cutoffs)
+
+    return Of("access", ACCESS, cutoffs, measure)
+
+
+def of_nearest(whole: Whole) -> Of:
+    limits = whole.study.results.nearest
+
+    def measure(matrix: Matrix, scenario: str, share: Share, counts: Counts) -> Floats:
+        return nearest(matrix, scenario, share, counts.numbers, limits)
+
+    return Of("nearest", NEAREST, limits, measure)
+
+
+def path_of(whole: Whole, question: Question) -> str:
+    """The matrix of a window."""
+    return MATRIX if question == whole.study.questions[0] else matrix_of(question)
+
+
+def head_of(question: Question) -> list[object]:
+    """What stands in front of each line of a window."""
+    return [question.day, question.window.name, question.window.first, question.window.last]
+
+
+def tables_stage(whole: Whole, of: Of) -> Stage:
+    """The table by origin, and that by people; of access the pictures, too."""
+    study, records = whole.study, whole.inputs.records
+    by_origin, by_people = of.files
+    pictures = [PICTURES] if study.results.maps and of.heads == ACCESS else []
+
+    def make() -> list[str]:
+        made = dict[Question, AccessTable]()
+        header = [*HEADS, "scenario", "id", "opportunity", "percentile", *of.heads]
+        with output(by_origin) as file:
+            write_rows(file, header, lines_of(whole, of, made))
+        with output(by_people) as file:
+            write_spread(file, made, whole)
+        for _ in pictures:
+            draw_all(whole, made)
+        return [f"{', '.join([by_origin, by_people, *pictures])}: {len(made)} windows"]
+
+    wish = study.results
+    words = [wish.decay, wish.decay_value, list(of.limits), wish.unit, [it.told for it in study.questions]]
+    sums = {name: records[name].outputs for name in ("counted", "people") if name in records}
+    facts: dict[str, Any] = {**whole.depends, "words": words, "windows": whole.windows, "sums": sums}
+    return Stage(f"windows_{of.kind}", facts, [by_origin, by_people, *pictures], make)
+
+
+def lines_of(whole: Whole, of: Of, tables: dict[Question, AccessTable]) -> Iterator[list[object]]:
+    """The lines of the table by origin, window by window; each window's numbers are kept for the table by people."""
+    for question in whole.study.questions:
+        path = path_of(whole, question)
+        matrix = whole.shown_in(path)
+        counts = whole.counts(matrix)
+
+        def measure(scenario: str, share: Share) -> Floats:
+            return of.measure(matrix, scenario, share, counts)
+
+        found = [measured(matrix, scenario, matrix.shares, measure) for scenario in matrix.scenarios]
+        tables[question] = table_of(path, found, counts, of)
+        texts = [told(limit) for limit in of.limits]
+        yield from ([*head_of(question), *line] for line in long_rows(found, counts.names, texts, True))
+
+
+def table_of(path: str, found: Sequence[Measured], counts: Counts, of: Of) -> AccessTable:
+    """The same numbers as `read_access` gives them, with the decimals that a table has."""
+    shares = ["" if share is None else str(share) for share in found[0].shares]
+    kinds = [Kind(name, share, told(limit)) for name in counts.names for share in shares for limit in of.limits]
+    by_kind = [it.numbers.transpose(2, 0, 3, 1).reshape(len(kinds), -1) for it in found]
+    numbers = np.round(np.stack(by_kind), DECIMALS)
+    return AccessTable(path, [it.scenario for it in found], kinds, found[0].origins, numbers, of.heads == NEAREST)
+
+
+def people_of(whole: Whole, origins: Sequence[str]) -> Counts:
+    """Who lives at the origins; where no people are named, one at each."""
+    if "people" in whole.inputs.records:
+        return read_counts([PEOPLE], origins, "origin of the study")
+    return Counts([EACH], np.ones((len(origins), 1)))
+
+
+def write_spread(out: BinaryIO, tables: dict[Question, AccessTable], whole: Whole) -> None:
+    """How what is measured is spread over people, window by window."""
+    lines, header = list[list[object]](), list[str]()
+    for question, table in tables.items():
+        asked = equity.Asked(whole.inputs.base, LOSE, table.kinds)
+        header, *rows = equity.rows_of(equity.measured(table, people_of(whole, table.origins), asked))
+        lines += [[*head_of(question), *row] for row in rows]
+    write_rows(out, [*HEADS, *header], lines)
+
+
+def kinds_drawn(whole: Whole) -> list[Kind]:
+    """What is drawn of each thing that is counted."""
+    cutoffs = [told(it) for it in whole.study.cutoffs]
+    share = next(iter(whole.whole().shares))
+    percentile = "" if share is None else str(whole.study.share)
+    return [kind_drawn(whole, [Kind(name, percentile, it) for it in cutoffs], name) for name in pictures_of(whole)]
+
+
+def kind_drawn(whole: Whole, kinds: Sequence[Kind], opportunity: str) -> Kind:
+    """What is drawn of an opportunity: the percentile of maps, and their limit, or the last one where there isn't
+    any.
+    """
+    own = [it for it in kinds if it.opportunity == opportunity and it.percentile in ("", str(whole.study.share))]
+    return next((it for it in own if it.cutoff == told(whole.study.within / 60)), own[-1])
+
+
+def pictures_of(whole: Whole) -> dict[str, list[str]]:
+    """The pictures of each thing that is counted: by time, the heat map, and the maps."""
+    names = columns_of(COUNTED) if "counted" in whole.inputs.records else [STOPS]
+    called = file_names(names, [f"_{kind}" for kind in KINDS])
+    return {name: [f"{PICTURES}/{file}_{kind}.png" for kind in KINDS] for name, file in called.items()}
+
+
+def draw_all(whole: Whole, tables: dict[Question, AccessTable]) -> None:
+    """Draws the pictures of each thing that is counted, for the first group of people."""
+    first = next(iter(tables.values()))
+    people = people_of(whole, first.origins)
+    places, base = POINTS if whole.study.points.all else STOPS, first.scenario(whole.inputs.base)
+    _, stops = whole.open()
+    with many_written_aside(PICTURES) as folder:
+        for name, paths in pictures_of(whole).items():
+            kind = kind_drawn(whole, first.kinds, name)
+            number = first.kinds.index(kind)
+            columns = [column_of(question, table.numbers[:, number]) for question, table in tables.items()]
+            words = Told(kind.told, shown(name), shown(people.names[0]), places)
+            figures = [
+                figure_by_time(columns, first.scenarios, people.numbers[:, 0], words),
+                figure_of_heat(columns, base, words),
+                figure_of_maps(columns, base, stops.of(first.origins), words),
+            ]
+            for path, figure in zip(paths, figures):
+                with output(str(folder / Path(path).name)) as file:
+                    figure.savefig(file, format="png", dpi="figure")
+
+
+def column_of(question: Question, numbers: Floats) -> Column:
+    window = question.window
+    return Column(question.day, window.name, window.first, window.last, numbers)

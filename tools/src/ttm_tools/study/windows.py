@@ -1,0 +1,86 @@
+"""The windows and days of a study: a matrix for each. That of the first is the study's own; the others are asked of a
+network that is kept for each day.
+"""
+
+import functools
+import itertools
+import os
+from dataclasses import dataclass, replace
+
+from .asking import Kept
+from .cutting import cut_of, parts_for, study_key
+from .elsewhere import Means, run_elsewhere
+from .inputs import Inputs
+from .joining import join_parts
+from .running import refuse_failed
+from .sources import refuse_other_sums
+from .stages import Folder, Record, Stage, room
+from .ttm import Version
+from .wishes import Question, Study
+
+WINDOWS = "windows"  # their folder
+FORM = 1  # of how the parts are joined
+
+
+def matrix_of(question: Question) -> str:
+    """Where the matrix of a window lies that isn't the first."""
+    return f"{WINDOWS}/{question.name}.omx"
+
+
+def asked_of(inputs: Inputs, question: Question) -> Inputs:
+    """The same inputs for a window and its day."""
+    window = (question.window.first, question.window.last)
+    return replace(inputs, run=replace(inputs.run, date=question.date, window=window))
+
+
+@dataclass(frozen=True)
+class Machine:
+    """What computes the matrices of a study: the version of `ttm`, and by which means it runs."""
+
+    version: Version
+    means: Means
+
+
+def make_windows(study: Study, inputs: Inputs, folder: Folder, machine: Machine) -> dict[str, Record]:
+    """Does the matrices of all windows but the first, day by day."""
+    made = dict[str, Record]()
+    for _, questions in itertools.groupby(study.questions[1:], lambda it: it.date):
+        own = list(questions)
+        with Kept(asked_of(inputs, own[0]).run, machine.means.at_once) as network:
+            for question in own:
+                stage = window_stage(study, inputs, question, machine, network)
+                made[stage.name] = folder.do(stage)
+    return made
+
+
+def window_stage(study: Study, inputs: Inputs, question: Question, machine: Machine, network: Kept) -> Stage:
+    """The matrix of a window, by as many parts of the origins as that of the first."""
+    version, means = machine.version, machine.means
+    asked = asked_of(inputs, question)
+    key = study_key(asked, version.lines)
+
+    def make() -> list[str]:
+        with room() as made:
+            first, shape = cut_of(study.parts, inputs, study_key(inputs, version.lines), means.at_once, made)
+        parts = parts_for([origin for part in first for origin in part.origins], len(first), key)
+        if means.is_elsewhere:
+            failed = run_elsewhere(asked.run, parts, key, version.lines, means)
+        else:
+            failed = network.run_parts(asked.run, parts, shape)
+        refuse_failed(failed, len(parts))
+        path = matrix_of(question)
+        return join_parts(parts, False, inputs.shown_as, inputs.destinations, means.threads, path)
+
+    depends = {"study": key, "origins": inputs.records["origins"].outputs, "form": FORM}
+    depends |= {"shown": inputs.destinations, "shown_as": inputs.shown_as}
+    known = {**inputs.sums, os.environ["TTM_PROGRAM"]: version.sum}
+    same = functools.partial(refuse_other_sums, known)
+    return Stage(
+        f"matrix_{question.name}",
+        depends,
+        [matrix_of(question)],
+        make,
+        of_tools=False,
+        keeps_task=True,
+        refuse_changed=same,
+    )

@@ -1,0 +1,244 @@
+"""Several windows and days in a study, by hand on nine stops.
+
+The stops lie 435 seconds of walking apart, and the stop Sk has 100 k + 0.4 jobs and k + 1 people. A bus leaves S0 at
+08:00 and takes three minutes to each next stop; another one leaves S8 at 08:30 and takes a minute back to each stop.
+"""
+
+import json
+import os
+import random
+from pathlib import Path
+
+import numpy as np
+import pytest
+
+from asking import canned, script, standing_in
+from helpers import CALENDAR, read
+from test_study import STUDY, Place, bare, killed_after, place  # noqa: F401
+from ttm_tools.engine import Run
+from ttm_tools.matrices import open_matrix
+from ttm_tools.study.asking import Kept, kept_words, question_of
+from ttm_tools.study.cutting import Shape, parts_for
+from ttm_tools.study.elsewhere import Means
+from ttm_tools.study.study_file import read_study
+from ttm_tools.study.work import make_study
+from ttm_tools.views.windows import Column, Told, figure_by_time, figure_of_heat, levels
+
+WINDOWS = (
+    'windows = [{ name = "early", from = "08:00", to = "08:00" }, { name = "night", from = "21:00", to = "21:01" }]'
+)
+ONE = 'date = 2026-05-04\nfrom = "08:00"\nto = "08:04"\nshares = [25, 50]\nlimits = [600, 1800]\n'
+SEVERAL = f"dates = [2026-05-04, 2026-05-05]\n{WINDOWS}\nlimits = [600, 1800]\n"
+DAY = STUDY.replace(ONE, SEVERAL).replace("csv = true", "compare = false\nmaps = false")
+NIGHT = (100.8 + 50400 + 42 + 9 * 1500.8) / 45  # everyone reaches the own stop and its neighbours
+EARLY = NIGHT + (500.8 + 2 * 300.4) / 45  # from S0 and from S1 one gets to S3 by bus, too
+
+
+def laid_out(place: Place, study: str = DAY) -> str:  # noqa: F811
+    """The nine stops, where the bus along doesn't run on the second day."""
+    path = place.lay_out(study)
+    place.write("published/calendar.txt", CALENDAR[0], [*CALENDAR[1], ["N", *[1] * 7, 20260504, 20260531]])
+    place.write("published/calendar_dates.txt", "service_id,date,exception_type", [["M", 20260505, 2]])
+    place.write("published/trips.txt", "route_id,service_id,trip_id", [["R", "M", "T"], ["Q", "N", "U"]])
+    return path
+
+
+def table(place: Place, name: str) -> list[dict[str, str]]:  # noqa: F811
+    return read(Path(place.path(f"nine/windows/{name}")).read_text())
+
+
+def test_access_and_its_spread_by_window_and_day_by_hand(place: Place) -> None:  # noqa: F811
+    assert place.ran("study", laid_out(place))[2] == 0
+    kind = {"opportunity": "jobs", "cutoff": "10", "scenario": "base"}
+    lines = [it for it in table(place, "equity.csv") if kind.items() <= it.items()]
+    assert [(it["date"], it["window"], it["from"], it["to"]) for it in lines] == [
+        ("2026-05-04", "early", "08:00", "08:00"),
+        ("2026-05-04", "night", "21:00", "21:01"),
+        ("2026-05-05", "early", "08:00", "08:00"),
+        ("2026-05-05", "night", "21:00", "21:01"),
+    ]
+    assert [it["mean"] for it in lines] == [f"{it:.4f}" for it in (EARLY, NIGHT, NIGHT, NIGHT)]
+    # the least tenth are 4.5 people: in the morning 3 of S2 and 1.5 of S0 and S1, at night 1 of S0, 2 of S1, 1.5 of S2
+    morning, night = (3 * 601.2 + 1.5 * 601.6) / 4.5, (100.8 + 2 * 301.2 + 1.5 * 601.2) / 4.5
+    assert [it["least_tenth"] for it in lines[:2]] == [f"{morning:.4f}", f"{night:.4f}"]
+    kind = {**kind, "id": "S0", "date": "2026-05-04"}
+    found = [it["accessibility"] for it in table(place, "access.csv") if kind.items() <= it.items()]
+    assert found == ["601.6", "100.8"]
+    report = Path(place.path("nine/report.md")).read_text()
+    assert "windows/20260505\\_night.omx" in report and "early (08:00 to 08:00)" in report
+    assert "What ttm reported about days, trips and walks for 20260505:" in report
+
+
+def test_the_matrix_of_a_window_is_that_of_a_study_of_its_own(place: Place) -> None:  # noqa: F811
+    assert place.ran("study", laid_out(place))[2] == 0
+    one = 'date = 2026-05-05\nfrom = "08:00"\nto = "08:00"\nlimits = [600, 1800]\n'
+    place.say(STUDY.replace(ONE, one).replace("csv = true", "compare = false\nmaps = false"))
+    assert place.ran("study", place.path("nine.toml"), "--out", place.path("own"))[2] == 0
+    same_matrix(place, "nine/windows/20260505_early.omx", "own/matrix.omx")
+
+
+def same_matrix(place: Place, one: str, other: str) -> None:  # noqa: F811
+    first, second = (open_matrix(place.path(name)) for name in (one, other))
+    assert first.scenarios == second.scenarios == ["base", "cut"]
+    for name in first.scenarios:
+        assert first.rows(name, 50, 0, 9).tobytes() == second.rows(name, 50, 0, 9).tobytes()
+        assert first.access(name, 50).tolist() == second.access(name, 50).tolist()
+
+
+def test_a_ttm_that_keeps_its_network_gives_the_same_bytes(
+    place: Place, program: str, monkeypatch: pytest.MonkeyPatch  # noqa: F811
+) -> None:
+    path = laid_out(place)
+    assert place.ran("study", path)[2] == 0
+    answering = Path(__file__).resolve().parents[1] / "src/ttm_tools/answering.py"
+    said = place.path("asked.txt")
+    text = (
+        f'#!/bin/bash\ncase "$*" in *--help*) echo --ask; exit ;;\n'
+        f'*--ask*) echo "$*" >> {said}; exec /usr/bin/python3 {answering} {program} "${{@:1:$#-2}}" ;; esac\n'
+        f'exec {program} "$@"\n'
+    )
+    monkeypatch.setenv("TTM_PROGRAM", script(place.folder / "asks", text))
+    assert place.ran("study", path, "--workers", "2", "--out", place.path("kept"))[2] == 0
+    asked = Path(said).read_text().splitlines()
+    assert {it.split("--date ")[1].split()[0] for it in asked} == {"20260504", "20260505"} and len(asked) <= 4
+    for name in ("20260504_night", "20260505_early", "20260505_night"):
+        same_matrix(place, f"nine/windows/{name}.omx", f"kept/windows/{name}.omx")
+
+
+def test_a_study_of_windows_killed_at_drawn_moments_has_the_same_bytes(place: Place) -> None:  # noqa: F811
+    study = read_study(laid_out(place))
+    make_study(study, place.folder / "nine", Means(2))
+    wanted, drawn = place.made(), random.Random(7)
+    kills = 0
+    while not killed_after(drawn.uniform(0, 6), lambda: make_study(study, place.folder / "killed", Means(2))):
+        kills += 1
+    found = place.made("killed")
+    assert sorted(found) == sorted(wanted)
+    assert [name for name in wanted if found[name] != wanted[name]] == []
+    assert not [path for path in (place.folder / "killed").rglob(".part.*")]
+
+
+def test_what_is_done_of_windows_is_not_done_again(place: Place) -> None:  # noqa: F811
+    path = laid_out(place)
+
+    def stages() -> list[str]:
+        _, told, status = place.ran("study", path)
+        assert status == 0, told
+        return [line.removesuffix(" ..") for line in told.splitlines() if line.endswith(" ..")]
+
+    assert {"matrix_20260504_night", "days_20260505", "windows_access"} < set(stages())
+    assert stages() == []
+    place.say(DAY.replace("21:01", "21:02"))
+    assert stages() == ["matrix_20260504_night", "matrix_20260505_night", "windows_access", "report"]
+    Path(place.path("nine/windows/20260505_early.omx")).unlink()
+    assert stages() == ["matrix_20260505_early"]
+
+
+def test_verification_computes_the_rows_of_all_windows_again(place: Place) -> None:  # noqa: F811
+    assert place.ran("study", laid_out(place))[2] == 0
+    assert place.ran("study", "--verify", place.path("nine"), "--seed", "7")[2] == 0
+    notes = json.loads(Path(place.path("nine/study.json")).read_text())
+    early, night = (Path(place.path(f"nine/windows/20260505_{it}.omx")) for it in ("early", "night"))
+    assert notes["windows"][f"windows/{night.name}"]["window"] == ["21:00", "21:01"]
+    early.write_bytes(Path(place.path("nine/matrix.omx")).read_bytes())
+    assert place.ran("study", "--verify", place.path("nine"))[2] == 1
+
+
+def test_pictures_show_each_thing_that_is_counted(place: Place) -> None:  # noqa: F811
+    assert place.ran("study", laid_out(place, DAY.replace("\nmaps = false", "")))[2] == 0
+    names = {it.name for it in Path(place.path("nine/windows/pictures")).iterdir()}
+    assert names == {f"{what}_{kind}.png" for what in ("jobs", "schools") for kind in ("time", "heat", "maps")}
+    assert "windows/pictures/jobs_time.png" in Path(place.path("nine/report.md")).read_text()
+
+
+def test_without_people_each_origin_counts_once_and_the_nearest_has_its_table(place: Place) -> None:  # noqa: F811
+    study = DAY.replace('people = "people.csv"\n', "").replace("maps = false", "maps = false\nnearest = [1]")
+    assert place.ran("study", laid_out(place, study))[2] == 0
+    kind = {"opportunity": "schools", "scenario": "base", "group": "origins", "window": "night"}
+    (line, _) = [it for it in table(place, "equity_nearest.csv") if kind.items() <= it.items()]
+    # five of nine stops walk 435 seconds to a school, four have one
+    assert (line["people"], line["mean_minutes"]) == ("9", f"{5 * 7.25 / 9:.4f}")
+
+
+def test_a_day_without_trips_is_refused(place: Place) -> None:  # noqa: F811
+    _, told, status = place.ran("study", laid_out(place, DAY.replace("2026-05-05]", "2027-05-05]")))
+    assert status == 1 and "no trip runs on 2027-05-05" in told
+
+
+@pytest.mark.parametrize(
+    "words, told",
+    [
+        (f'date = 2026-05-04\nfrom = "08:00"\n{WINDOWS}', "windows doesn't go with from"),
+        (f"date = 2026-05-04\ndates = [2026-05-04]\n{WINDOWS}", "dates doesn't go with date"),
+        (f"dates = [2026-05-05, 2026-05-04]\n{WINDOWS}", "dates '[2026-05-05, 2026-05-04]' isn't that"),
+        (f"dates = []\n{WINDOWS}", "allowed: 1 to 31 dates between brackets, ascending"),
+        ('date = 2026-05-04\nwindows = [{ name = "a b", from = "08:00", to = "08:00" }]', "can't be a window's name"),
+        ('date = 2026-05-04\nwindows = [{ name = "a", from = "08:01", to = "08:00" }]', "to '08:00' is before from"),
+        ('date = 2026-05-04\nwindows = [{ name = "a", from = "8", to = "08:00" }]', "from '8' is no time"),
+        ('date = 2026-05-04\nwindows = [{ name = "a", end = "8" }]', "end isn't known"),
+        ('date = 2026-05-04\nfrom = "08:00"', "to is needed"),
+        (f"{WINDOWS}", "date is needed"),
+    ],
+)
+def test_windows_that_do_not_fit_are_told_with_their_line(bare: Place, words: str, told: str) -> None:  # noqa: F811
+    path = bare.lay_out(STUDY.replace(ONE, f"{words}\n"))
+    out, said, status = bare.ran("study", path)
+    assert (out, status) == ("", 1) and told in said and "nine.toml: line " in said and said.count("\n") == 1, said
+
+
+def test_the_network_has_the_words_of_its_day_and_a_question_its_own() -> None:
+    files = {"footpaths": "f.csv", "origins": "o.csv", "opportunities": "p.csv"}
+    run = Run("feed", "20260504", ("08:00", "08:04"), 3, 500, (25,), (600,), ("cut.csv",), 2, 1, 0, 1, files)
+    kept = kept_words(run)
+    assert kept[-1] == "cut.csv" and "o.csv" not in kept and kept[kept.index("--footpaths") + 1] == "f.csv"
+    assert kept[kept.index("--back") + 1] == "0" and kept[kept.index("--walk") + 1] == "500"
+    asked = question_of(run)
+    assert dict(zip(asked[::2], asked[1::2])) == {
+        **{"--from": "08:00", "--to": "08:04", "--trips": "3", "--workers": "2", "--tries": "1"},
+        **{"--share": "25", "--within": "600", "--origins": "o.csv", "--opportunities": "p.csv"},
+    }
+
+
+def test_a_part_that_a_network_refuses_is_named_and_the_others_are_kept(
+    tmp_path: Path, monkeypatch: pytest.MonkeyPatch
+) -> None:
+    monkeypatch.setenv("TTM_PROGRAM", canned(tmp_path))
+    run = Run("feed", "20260504", ("00:05", "00:06"))
+    with standing_in(tmp_path), Kept(run, 2) as network:
+        os.mkdir("stages")
+        parts = parts_for(["A", "fault", "end", "B"], 4, "key")
+        failed = network.run_parts(run, parts, Shape(4, 2, 1))
+        assert sorted((it.part.number, it.told) for it in failed) == [
+            (2, "ttm: origins: record 2: unknown stop"),
+            (3, "ttm: out of memory"),
+        ]
+        assert [part.is_done() for part in parts] == [True, False, False, True]
+        assert parts[0].matrix.read_text() == "scenario,origin,share,access_1800,A\nbase,A,50,1,300\n"
+        assert len(network.run_parts(run, parts, Shape(4, 2, 1))) == 2
+
+
+def test_levels_are_the_mean_and_that_of_the_tenth_that_has_least() -> None:
+    # of 20 people two have least: one of the first place, and one of the 9 of the second
+    assert levels(np.array([10.0, 20.0, 50.0]), np.array([1.0, 9.0, 10.0])) == (34.5, 15.0)
+
+
+def test_pictures_name_days_windows_and_scenarios() -> None:
+    pytest.importorskip("matplotlib")
+    numbers = np.array([[1.0, 5.0], [2.0, 7.0]])
+    columns = [
+        Column(day, name, first, last, numbers)
+        for day in ("2026-05-04", "2026-05-09")
+        for name, first, last in (("peak", "07:00", "08:59"), ("night", "21:00", "21:59"))
+    ]
+    told = Told("jobs within 30 minutes", "jobs", "residents", "stops")
+    figure = figure_by_time(columns, ["base", "cut"], np.array([1.0, 1.0]), told)
+    shown = [axes for axes in figure.axes if axes.get_visible()]
+    assert [axes.get_title() for axes in shown] == ["2026-05-04", "2026-05-09"]
+    labels = [line.get_label() for line in shown[0].get_lines()]
+    assert labels == ["base", "base, tenth that has least", "cut", "cut, tenth that has least"]
+    assert [line.get_ydata().tolist() for line in shown[0].get_lines()][:2] == [[3.0, 3.0], [1.0, 1.0]]
+    assert shown[0].get_lines()[0].get_xdata().tolist() == [8.0, 21.5]
+    heat = figure_of_heat(columns, 0, told)
+    image = heat.axes[0].get_images()[0].get_array()
+    assert image.tolist() == [[5.0] * 4, [1.0] * 4]
+    assert [it.get_text() for it in heat.axes[0].get_xticklabels()] == ["peak", "night"] * 2
