@@ -2,12 +2,14 @@
 
 import csv
 import json
+import math
 from pathlib import Path
 from typing import Any
 
+import numpy as np
 import pytest
 
-from helpers import METRE, Room
+from helpers import METRE, Room, Town, town_matrix
 from test_points import PACE, feed, place
 
 NEAR = ["--limit", "300", *PACE]  # 300 metres
@@ -118,3 +120,20 @@ def test_negative_numbers_of_polygons_are_refused(room: Room) -> None:
     people = polygons(room, "people.geojson", ({"people": -1}, 0, 0, 10, 10))
     words = ["points", feed(room), "--out", room.path("doors"), *NEAR, "--grid", "250", "--people", people]
     room.refused(f"{people}: record 1: people '-1' is none; allowed: a number from 0 on", *words)
+
+
+def test_cells_are_squares_for_a_geographic_information_system(town: Town) -> None:
+    rows = [["A", 60, 7], ["B", 60.01, 7], ["C", 59.99, 7]]
+    town.write("stops.txt", "stop_id,stop_lat,stop_lon", [*rows, ["D", "", ""]])
+    sides = [[200, ""], [200, 100], ["", ""]]
+    town.write("points.csv", "id,lat,lon,width,height", [[*row, *side] for row, side in zip(rows, sides)])
+    town.matrix(town_matrix(False))
+    out = town.path("cells.geojson")
+    assert town.ran("gis", "--feed", town.feed, "--out", out, town.file)[2] == 0
+    square, oblong, point = [it["geometry"] for it in json.loads(Path(out).read_text())["features"]]
+    # 100 metres are 100 / 111,195 of a degree northwards; at 60 degrees twice as many to the east
+    up, right = 100 * METRE, 100 * METRE / math.cos(math.radians(60))
+    corners = np.array([[-1, -1], [1, -1], [1, 1], [-1, 1], [-1, -1]])
+    assert np.allclose(square["coordinates"], [corners * [right, up] + [7, 60]], rtol=0, atol=2e-7)
+    assert np.allclose(oblong["coordinates"], [corners * [right, up / 2] + [7, 60.01]], rtol=0, atol=2e-7)
+    assert point == {"type": "Point", "coordinates": [7.0, 59.99]}

@@ -6,12 +6,12 @@ from .options import add_matrix, add_numbers, add_points, add_share, add_text, o
 
 TOLD = "stops with access and travel times, for a geographic information system"
 HELP = """\
-Writes the stops of a matrix as points for a geographic information system, with their access, and with --origin their
-travel times from there: a column for each scenario, share and limit, such as base_50_access_1800 and base_50_seconds,
-empty where a stop is no origin or isn't reached. With --opportunities and --nearest there are the seconds within which
-so many are reached, such as base_50_schools_nearest_1. A name that ends in .geojson or .json writes GeoJSON, one in
-.gpkg a GeoPackage (needs geopandas). Points that are areas keep their polygons; in a GeoPackage all of these are of the
-kind MultiPolygon. Stops without coordinates are left out, and counted. Memory: some 100 MB."""
+Writes the stops of a matrix for a geographic information system, with their access, and with --origin their travel
+times from there: a column for each scenario, share and limit, such as base_50_access_1800 and base_50_seconds, empty
+where a stop is no origin or isn't reached. With --opportunities and --nearest there are the seconds within which so
+many are reached, such as base_50_schools_nearest_1. A name that ends in .geojson or .json writes GeoJSON, one in .gpkg
+a GeoPackage (needs geopandas). Stops are points. Cells are polygons: squares where their file says how wide they are,
+and areas where it has these; in a GeoPackage all polygons are of the kind MultiPolygon. Stops without coordinates are left out, and counted. Memory: some 100 MB."""
 
 
 def describe(parser: argparse.ArgumentParser) -> None:

@@ -12,7 +12,7 @@ def wish_of_study(path: str, wish: Wish) -> Wish:
     """What a study's file says, in place of the words of the command; a feed that has to be made first is refused."""
     study = read_study(path)
     run, walks = study.run, study.walks
-    if not study.feed.ready or study.points.all:
+    if not study.feed.ready or study.points.are_any:
         told = "its feed has to be prepared first: explore the folder of a feed, as the study's own folder has it"
         raise BadInput(path, told, column="ready", allowed="true, and no [points]")
     if walks.table is None and not walks.none:

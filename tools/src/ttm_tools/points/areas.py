@@ -9,7 +9,7 @@ from typing import Any, BinaryIO, Iterable, Mapping
 import numpy as np
 
 from ..faults import BadInput
-from ..feed import Area, Floats
+from ..feed import Area, Floats, Projection, Stops
 from ..opening.paths import as_one_line
 from ..opening.texts import read_json
 from ..records import shown
@@ -17,6 +17,7 @@ from ..records import shown
 AREAS_FILE = "areas.geojson"  # beside a feed's points
 DECIMALS = 7  # of degrees, about a hundredth of a metre
 KINDS = ("Polygon", "MultiPolygon")
+AROUND = np.array([[-1, -1], [1, -1], [1, 1], [-1, 1], [-1, -1]])  # the corners of a square, against the clock
 
 
 def area_of(shape: Any) -> Area:
@@ -36,6 +37,19 @@ def ring_of(corners: Any) -> Floats:
 def areas_of(identifiers: Iterable[str], shapes: Iterable[Any]) -> dict[str, Area]:
     """The areas of those shapes, in degrees, that are polygons."""
     return {name: area_of(shape) for name, shape in zip(identifiers, shapes) if shape.geom_type in KINDS}
+
+
+def squares_of(stops: Stops) -> dict[str, Area]:
+    """The squares, or oblongs, of those that say how wide they are, in degrees."""
+    halves = stops.sides() / 2000
+    cells = np.flatnonzero(stops.placed & ~np.isnan(halves[:, 0]))
+    if not len(cells):
+        return {}
+    projection = Projection(stops.latitudes, stops.longitudes)
+    east = projection.east(stops.longitudes)[cells, None] + halves[cells, :1] * AROUND[:, 0]
+    north = projection.north(stops.latitudes)[cells, None] + halves[cells, 1:] * AROUND[:, 1]
+    rings = np.stack([projection.longitudes(east), projection.latitudes(north)], axis=2).round(DECIMALS)
+    return {stops.identifiers[place]: [[ring]] for place, ring in zip(cells.tolist(), rings)}
 
 
 def geometry_of(area: Area) -> dict[str, Any]:

@@ -33,6 +33,7 @@ from .counted import (
     own_columns,
     people_stage,
 )
+from .gridding import grid_stage, with_grid
 from .sources import Sources
 from .stages import Folder, Record, Stage, room
 from .wishes import FeedWish, Study
@@ -93,11 +94,11 @@ class Maker:
     def reads(self, *given: str | None) -> Sources:
         """Files and folders that the study's file names, with their sums."""
         made = Sources(self.study.at, [path for path in given if path])
-        self.sources |= made.stated
+        self.sources |= {name: was for name, was in made.stated.items() if name not in self.study.made}
         return made
 
     def do(self, stage: Stage) -> Record:
-        self.sources |= stage.stated
+        self.sources |= {name: was for name, was in stage.stated.items() if name not in self.study.made}
         self.records[stage.name] = self.folder.do(stage)
         return self.records[stage.name]
 
@@ -121,6 +122,13 @@ class Maker:
         if self.study.scenarios.files:
             self.do(scenarios_stage(self))
         return [f"{SCENARIOS}/{Path(path).name}" for path in self.study.scenarios.files]
+
+    def grid(self) -> None:
+        """The cells of a grid, which are points from here on."""
+        if self.study.points.grid is not None:
+            self.do(grid_stage(self.study, self.feed, self.stops_sum, self.reads))
+            self.study = with_grid(self.study)
+            check_points(self.study)
 
     def walks(self) -> None:
         """Walks between stops, or between points and stops."""
@@ -158,9 +166,12 @@ class Maker:
 def make_inputs(study: Study, folder: Folder) -> Inputs:
     """Does all stages that come before the run."""
     maker = Maker(study, folder)
-    check_points(study)
+    if study.points.grid is None:
+        check_points(study)
     maker.do(feed_stage(maker))
     scenarios = maker.scenarios()
+    maker.grid()
+    study = maker.study
     if not study.points.all:
         check_stops(study, maker.feed)
     maker.walks()

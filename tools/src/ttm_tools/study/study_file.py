@@ -135,7 +135,10 @@ def agree(study: Study, entries: dict[str, Entry]) -> None:
     if study.walks.limit is not None and study.walks.limit > study.run.walk:
         told = f"is more than walk of [run], {study.run.walk}, so that ttm takes none of the longer walks"
         raise walks.fault(told, "limit", str(study.walks.limit), "at most walk of [run]")
-    if study.points.all:
+    for key in ("grid_area", "grid_people"):
+        if points.has(key) and study.points.grid is None:
+            raise points.fault("needs grid", key)
+    if study.points.are_any:
         agree_on_points(study, run, walks, points)
     refuse_both(entries["scenarios"], "files", "plan")
     agree_on_results(study, entries["results"], entries["opportunities"])
@@ -147,7 +150,10 @@ def agree_on_points(study: Study, run: Entry, walks: Entry, points: Entry) -> No
             raise walks.fault("doesn't go with [points], whose walks are made", key)
     if run.has("origins"):
         raise run.fault("doesn't go with [points], at which journeys begin", "origins")
-    if not study.points.files and not (study.points.origins and study.points.destinations):
+    both = study.points.origins and study.points.destinations
+    if study.points.grid is not None and both:
+        raise points.fault("goes with origins or with destinations: cells are the other end", "grid")
+    if not study.points.files and not both and study.points.grid is None:
         raise points.fault("needs files, or origins and destinations: journeys begin and end somewhere")
 
 
@@ -160,7 +166,7 @@ def agree_on_results(study: Study, results: Entry, opportunities: Entry) -> None
     if wish.max_minutes is not None and study.within > 60 * wish.max_minutes:
         allowed = f"at least {study.within / 60:g}"
         raise results.fault("ends before the limit of tables and maps", "max_minutes", str(wish.max_minutes), allowed)
-    if (wish.bands or wish.nearest_bands) and not (wish.access and study.opportunities.people):
+    if (wish.bands or wish.nearest_bands) and not (wish.access and study.counts_people):
         raise results.fault("needs access, and people of [opportunities]", "bands" if wish.bands else "nearest_bands")
     if wish.nearest_bands and not wish.nearest:
         raise results.fault("needs nearest", "nearest_bands")
@@ -171,5 +177,5 @@ def agree_on_results(study: Study, results: Entry, opportunities: Entry) -> None
         raise results.fault(f"goes with linear and logistic, not with {wish.decay}", "decay_value")
     if wish.decay == "exponential" and min(study.cutoffs) < 0.01:
         raise results.fault("needs cutoffs above 0: they are half-lives", "decay", wish.decay)
-    if study.opportunities.column and not study.opportunities.files and not study.points.all:
+    if study.opportunities.column and not study.opportunities.files and not study.points.are_any:
         raise opportunities.fault("is of no file: name it in files", "column", study.opportunities.column)

@@ -125,6 +125,26 @@ class PointWish:
     origins: tuple[str, ...] = told(FILES, "points at which journeys only begin", '["homes.csv"]', ())
     destinations: tuple[str, ...] = told(FILES, "points at which journeys only end", '["schools.csv"]', ())
     leave_out: bool = told(FLAG, "leave out points without a stop in reach", "true", False)
+    grid: float | None = told(
+        number(10, 100000, "metres"),
+        "the width of square cells, the points at those ends of journeys that no file names; without it, none",
+        "250",
+        None,
+    )
+    grid_area: str | None = told(
+        FILE,
+        "polygons over which the cells lie; without it, wherever a stop is within a walk",
+        '"region.geojson"',
+        None,
+    )
+    grid_people: tuple[str, ...] = told(
+        FILES, "points or polygons whose numbers are summed into the cells", '["addresses.csv"]', ()
+    )
+
+    @property
+    def are_any(self) -> bool:
+        """Whether journeys begin and end at points."""
+        return bool(self.all) or self.grid is not None
 
     @property
     def all(self) -> tuple[str, ...]:
@@ -218,10 +238,16 @@ class Study:
     parts: PartWish = field(default_factory=PartWish)
 
     text: str = field(default="", compare=False)  # of its file
+    made: tuple[str, ...] = ()  # files that it makes itself, by their paths in its folder
 
     def at(self, path: str) -> str:
         """A path of the file, as it is opened."""
-        return str(self.path.parent / path)
+        return path if path in self.made else str(self.path.parent / path)
+
+    @property
+    def counts_people(self) -> bool:
+        """Whether it says who lives where: in a file, or in the cells of its grid."""
+        return bool(self.opportunities.people or self.points.grid and self.opportunities.groups)
 
     @property
     def title(self) -> str:

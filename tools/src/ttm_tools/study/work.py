@@ -20,6 +20,7 @@ from ..views.page.document import LEAFLET, leaflet_files
 from .areas import make_areas
 from .cutting import PARTS, cut_of, parts_noted, remove_parts, study_key, trial
 from .elsewhere import Means, run_elsewhere
+from .gridding import with_grid
 from .inputs import Inputs, make_inputs
 from .joining import CSV, MATRIX, join_parts
 from .maps import make_maps
@@ -52,6 +53,7 @@ def make_study(study: Study, out: Path, means: Means) -> None:
         log("command", "began", 0.0)
         sweep(Path("."), inside_parts=False)
         inputs = make_inputs(study, folder)
+        study = with_grid(study)
         refuse_wishes(study, inputs)
         say(*told_names(names_of_scenarios(list(inputs.edits), inputs.base)))
         key = study_key(inputs, version.lines)
@@ -74,7 +76,9 @@ def packages_of(study: Study) -> list[str]:
     wish = study.results
     pictures = [*(["matplotlib"] if wish.maps else []), *(["jinja2"] if wish.page else [])]
     streets = ["osmium", "scipy"] if study.walks.streets else []
-    return ["h5py", *pictures, *(["shapely"] if study.feed.area or wish.isochrones else []), *streets]
+    points = study.points
+    shapes = ["shapely"] if study.feed.area or points.grid_area or wish.isochrones else []
+    return ["h5py", *pictures, *shapes, *(["geopandas"] if points.grid_area else []), *streets]
 
 
 def refuse_wishes(study: Study, inputs: Inputs) -> None:

@@ -1,5 +1,5 @@
-"""Stops with their access, and travel times from an origin, as points for a geographic information system: GeoJSON or
-GeoPackage. Points that are areas keep their shapes.
+"""Stops with their access, and travel times from an origin, for a geographic information system, as GeoJSON or
+GeoPackage: as points, or as the squares and areas that cells are.
 """
 
 import contextlib
@@ -7,7 +7,7 @@ import itertools
 import json
 import math
 import sqlite3
-from dataclasses import dataclass
+from dataclasses import dataclass, replace
 from pathlib import Path
 from typing import Any, BinaryIO, Sequence
 from urllib.parse import quote
@@ -21,7 +21,7 @@ from ..matrices import Matrix, Share
 from ..measures.access import nearest
 from ..measures.opportunities import Counts
 from ..opening.paths import as_one_line
-from ..points.areas import geometry_of
+from ..points.areas import geometry_of, squares_of
 from ..records import shown, with_gaps
 
 LAYER = "stops"
@@ -68,6 +68,7 @@ def features_of(
     found = stops.of(drawn)
     kept = np.flatnonzero(found.placed)
     there = found.of([found.identifiers[place] for place in kept.tolist()])
+    there = replace(there, areas={**squares_of(there), **there.areas})
     return Features(there, {name: numbers[kept] for name, numbers in columns.items()})
 
 
