@@ -5,9 +5,10 @@ import math
 from pathlib import Path
 from typing import Any
 
+import numpy as np
 import pytest
 
-from helpers import Town, town_matrix
+from helpers import METRE, Town, town_matrix
 
 pytest.importorskip("shapely")
 CORNERS = 48  # of a circle
@@ -93,3 +94,45 @@ def test_what_is_refused(town: Town) -> None:
     people = town.write("people.csv", "stop_id,people", [["Z", 1]])
     town.refused(f"{people}: record 2: Z is no column", *words, "A", "--people", people, town.file)
     assert town.ran(*words[:4], town.path("a.shp"), "--origin", "A", town.file)[2] == 2
+
+
+def crossroads(town: Town) -> str:
+    """Two streets that cross at A: 1,000 metres to each side; none is near B, C and D."""
+    from streets import write_osm
+
+    ends = {1: (0, -1000), 2: (0, 0), 3: (0, 1000), 4: (-1000, 0), 5: (1000, 0)}
+    moved = {node: (north, east + 8 / METRE) for node, (north, east) in ends.items()}
+    road = {"highway": "residential"}
+    return write_osm(town.folder / "streets.osm", moved, [([1, 2, 3], road), ([4, 2, 5], road)])
+
+
+def test_one_walks_on_along_streets(town: Town) -> None:
+    for package in ("osmium", "scipy"):
+        pytest.importorskip(package)
+    town.matrix(town_matrix(True))
+    (area,) = isochrones(town, "--scenario", "base", "--bands", "4", "--streets", crossroads(town))
+    # 240 m along each of four arms, 100 m wide: two strips of 480 m that overlap in a square, and four rounded ends
+    ends = 4 * math.pi * 50**2 / 2
+    assert area["properties"]["square_km"] == pytest.approx((2 * 480 * 100 - 100**2 + ends) / 1e6, rel=0.01)
+    (area,) = isochrones(town, "--scenario", "base", "--bands", "4", "--walk", "120", "--streets", crossroads(town))
+    assert area["properties"]["square_km"] == pytest.approx((2 * 240 * 100 - 100**2 + ends) / 1e6, rel=0.01)
+
+
+def test_from_the_place_where_most_is_left_one_comes_furthest() -> None:
+    pytest.importorskip("scipy")
+    from ttm_tools.walks.osm import Streets
+    from ttm_tools.walks.reach import reach_of
+    from ttm_tools.walks.straight import Pace
+
+    # a street of two pieces of 1,000 m along the equator, a way for both directions, with places at 0, 300 and 1,000 m
+    ways = (np.array([0, 1]), np.array([1, 2]), np.array([True, True]), np.array([True, True]))
+    streets = Streets("", np.zeros(3), np.array([0.0, 1000, 2000]) * METRE, *ways)
+    places = np.array([0.0, 300, 1000]) * METRE
+    reach = reach_of(streets, np.array([0.0, 0, 10 * METRE]), places, Pace(600, 1, 1), 100)
+    found = reach.pieces(np.array([400.0, 50, -1])) / METRE
+    # 400 m from the first; the second, of which 50 m were left, adds nothing, since the first leaves 100 m there
+    assert (found[:, [0, 2]].min(), round(found[:, [0, 2]].max(), 3)) == (0, 400)
+    found = reach.pieces(np.array([-1.0, 50, 260])) / METRE
+    # from the second 50 m both ways; from the third, 10 m beside the street, 250 m both ways
+    lengths = sorted({(round(min(it)), round(max(it))) for it in found[:, [0, 2]].tolist()})
+    assert lengths == [(250, 300), (300, 350), (750, 1000), (1000, 1250)]

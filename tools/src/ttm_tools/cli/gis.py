@@ -11,7 +11,8 @@ times from there: a column for each scenario, share and limit, such as base_50_a
 where a stop is no origin or isn't reached. With --opportunities and --nearest there are the seconds within which so
 many are reached, such as base_50_schools_nearest_1. A name that ends in .geojson or .json writes GeoJSON, one in .gpkg
 a GeoPackage (needs geopandas). Stops are points. Cells are polygons: squares where their file says how wide they are,
-and areas where it has these; in a GeoPackage all polygons are of the kind MultiPolygon. Stops without coordinates are left out, and counted. Memory: some 100 MB."""
+and areas where it has these; in a GeoPackage all polygons are of the kind MultiPolygon. Stops without coordinates are
+left out, and counted. Memory: some 100 MB."""
 
 
 def describe(parser: argparse.ArgumentParser) -> None:

@@ -20,9 +20,10 @@ HELP = """\
 Writes the areas that can be reached from an origin within some numbers of minutes: one shape for each band, scenario
 and percentile, as GeoJSON (.geojson, .json) or GeoPackage (.gpkg, needs geopandas). A point that has a shape, the
 square of its width or the polygon of its file, counts whole where its travel time is within the band. From any other
-point or stop you walk on for the time that is left, up to --walk, as the crow flies. Each shape has its area in square
-kilometres, how many stops or points are reached, and with --people the sums of the columns of a file over these. Needs
-shapely."""
+point or stop you walk on for the time that is left, up to --walk: as the crow flies, or with --streets along the ways
+of a file of OpenStreetMap, with 50 metres on both sides. Each shape has its area in square kilometres, how many stops
+or points are reached, and with --people the sums of the columns of a file over these. Needs shapely; with --streets
+scipy and osmium."""
 
 
 def describe(parser: argparse.ArgumentParser) -> None:
@@ -40,6 +41,9 @@ def describe(parser: argparse.ArgumentParser) -> None:
     add_number(parser, "--speed", "how fast you walk", "m/s", (0.01, 100), default=1.33, whole=False)
     about = "metres of way for a metre of straight line"
     add_number(parser, "--detour", about, "", (1, 100), default=1.3, whole=False)
+    add_text(parser, "--streets", "FILE", "a file of OpenStreetMap, along whose ways you walk on", without="circles")
+    told = "the greatest distance of a stop from a way"
+    add_number(parser, "--near", told, "metres", (0, 10000), default=100, whole=False)
     about = "numbers that are summed within each band, such as people: a column stop_id or id, and columns of numbers"
     add_text(parser, "--people", "FILE", about, without="nothing is summed")
     about = "where the areas are written: .geojson, .json or .gpkg; the file gets its name when it is whole (needed)"
@@ -53,7 +57,8 @@ def run(words: argparse.Namespace) -> int:
     kind = words.out.rsplit(".", 1)[-1].lower()
     if kind not in ("geojson", "json", "gpkg"):
         raise WrongWords("--out ends in .geojson, .json or .gpkg")
-    needs("numpy", "shapely", *(["geopandas"] if kind == "gpkg" else []))
+    streets = ["osmium", "scipy"] if words.streets else []
+    needs("numpy", "shapely", *(["geopandas"] if kind == "gpkg" else []), *streets)
     from ..files import output
     from ..measures.opportunities import read_counts
     from ..points.shown import points_in, shown_of
@@ -63,10 +68,13 @@ def run(words: argparse.Namespace) -> int:
         raise WrongWords(f"--base {words.base} is no file")
     matrix, stops = shown_of(opened(words), words.feed, words.points)
     assert stops is not None
-    ground = areas.ground_of(stops.of(matrix.stops), areas.polygons_of(words.points or points_in(words.feed)))
+    there = stops.of(matrix.stops)
+    ground = areas.ground_of(there, areas.polygons_of(words.points or points_in(words.feed)))
     counts = read_counts([words.people], matrix.stops, "column") if words.people else None
     shares = matrix.shares if words.share is None else [matrix.share(words.share)]
     walking = areas.Walking(words.speed, words.detour, words.walk)
+    if words.streets:
+        ground = areas.along_streets(ground, there, words.streets, walking, words.near)
     bands = areas.Bands(words.origin, scenarios_of(matrix, words.scenario), shares, words.bands, walking)
     found = areas.isochrones_of(matrix, ground, bands, counts)
     if kind == "gpkg":

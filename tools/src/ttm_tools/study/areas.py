@@ -1,12 +1,14 @@
 """The areas of a study that are reached from named places within some numbers of minutes, as GeoJSON."""
 
 from pathlib import Path
+from typing import Any
 
 from ..files import output
 from ..naming import file_names
 from ..points.shown import points_in
 from ..views import isochrones
 from .results import Whole
+from .sources import Sources
 from .stages import Folder, Record, Stage
 
 AREAS = "isochrones"
@@ -25,8 +27,12 @@ def areas_stage(whole: Whole) -> Stage:
 
     def make() -> list[str]:
         matrix, stops = whole.open()
-        ground = isochrones.ground_of(stops.of(matrix.stops), isochrones.polygons_of(points_in(inputs.feed)))
+        there = stops.of(matrix.stops)
+        ground = isochrones.ground_of(there, isochrones.polygons_of(points_in(inputs.feed)))
         walking = isochrones.Walking(study.walks.speed, study.walks.detour, study.walk_limit)
+        if study.walks.streets:
+            streets = study.at(study.walks.streets)
+            ground = isochrones.along_streets(ground, there, streets, walking, study.walks.near)
         Path(AREAS).mkdir()
         for origin, name in names.items():
             bands = isochrones.Bands(
@@ -37,7 +43,14 @@ def areas_stage(whole: Whole) -> Stage:
                 isochrones.write_geojson(file, found, origin)
         return [f"{AREAS}: {len(names)} files"]
 
-    pace = [study.walks.speed, study.walks.detour, study.walk_limit]
+    pace = [study.walks.speed, study.walks.detour, study.walk_limit, study.walks.near]
+    sources = Sources(study.at, [it for it in [study.walks.streets] if it])
     counted = inputs.records["counted"].outputs if "counted" in inputs.records else {}
-    words = {"origins": list(wish.isochrones), "bands": list(wish.isochrone_bands), "pace": pace, "counted": counted}
-    return Stage(AREAS, {**whole.depends, **words}, [AREAS], make)
+    words: dict[str, Any] = {
+        "origins": list(wish.isochrones),
+        "bands": list(wish.isochrone_bands),
+        "pace": pace,
+        "counted": counted,
+    }
+    facts = {**whole.depends, **words, "streets": sources.sums}
+    return Stage(AREAS, facts, [AREAS], make, refuse_changed=sources.refuse_changed)

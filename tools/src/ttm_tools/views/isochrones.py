@@ -1,13 +1,14 @@
 """Isochrones: the area that is reached from an origin within so many minutes, dissolved into one shape for each band.
 
 A point with a shape of its own, a square or the polygon of its file, counts whole where it is reached in time. From any
-other point, such as a stop, one walks on for the time that is left, up to the longest walk, in a circle.
+other point, such as a stop, one walks on for the time that is left, up to the longest walk: in a circle, or along
+streets where they are known.
 """
 
 import json
-from dataclasses import dataclass
+from dataclasses import dataclass, replace
 from pathlib import Path
-from typing import Any, BinaryIO, Mapping, Sequence
+from typing import Any, BinaryIO, Iterator, Mapping, Sequence
 
 import numpy as np
 
@@ -17,10 +18,14 @@ from ..matrices import Matrix, Share
 from ..measures.opportunities import Counts
 from ..points.table import AREAS, read_frame, text_of
 from ..records import shown
+from ..walks import Pace
+from ..walks.osm import read_streets
+from ..walks.reach import Reach, reach_of, strip
 from .gis import write_layer
 
 LAYER = "isochrones"
 QUARTER = 12  # corners of a quarter of a circle
+ASIDE = 50.0  # metres to both sides of a street that one reaches
 DECIMALS = 6  # of degrees, some tenths of a metre
 
 
@@ -60,20 +65,29 @@ class Ground:
     north: Floats
     shapes: list[Any]  # polygons; None where there is none
     placed: Any  # whether it has a place
+    reach: Reach | None = None  # along streets, from those that have a place and no shape, in their order
 
     def shape_within(self, seconds: Floats, limit: float, walking: Walking) -> Any:
         """What is reached within a limit of seconds."""
-        from shapely.geometry import Point
         from shapely.ops import unary_union
 
         near = np.flatnonzero(self.placed & (seconds <= limit))
-        radii, parts = walking.radii(limit - seconds[near]), []
-        for place, radius in zip(near.tolist(), radii.tolist()):
-            if self.shapes[place] is not None:
-                parts.append(self.shapes[place])
-            elif radius > 0:
-                parts.append(Point(self.east[place], self.north[place]).buffer(radius, QUARTER))
-        return unary_union(parts)
+        parts = [self.shapes[place] for place in near.tolist() if self.shapes[place] is not None]
+        return unary_union([*parts, *self.walked(limit - seconds, walking)])
+
+    def walked(self, left: Floats, walking: Walking) -> Iterator[Any]:
+        """What one reaches on foot in the seconds that are left, from where there is no shape."""
+        from shapely.geometry import Point
+
+        bare = np.flatnonzero(self.placed & np.array([shape is None for shape in self.shapes], dtype=np.bool_))
+        if self.reach is not None:
+            metres = np.where(left[bare] >= 0, np.minimum(left[bare], walking.most) * walking.speed, -1.0)
+            yield strip(self.reach.pieces(metres), self.projection.kilometres, ASIDE)
+            return
+        radii = walking.radii(left[bare])
+        for place, radius in zip(bare.tolist(), radii.tolist()):
+            if radius > 0:
+                yield Point(self.east[place], self.north[place]).buffer(radius, QUARTER)
 
     def in_degrees(self, shape: Any) -> Any:
         """A shape in degrees, its outer rings against the clock, as GeoJSON asks."""
@@ -113,6 +127,16 @@ def ground_of(stops: Stops, polygons: Mapping[str, Any]) -> Ground:
     for identifier in polygons.keys() & stops.places.keys():
         shapes[stops.places[identifier]] = transform(kilometres, polygons[identifier])
     return Ground(projection, east, north, shapes, stops.placed)
+
+
+def along_streets(ground: Ground, stops: Stops, streets: str, walking: Walking, near: float) -> Ground:
+    """The same ground, from whose stops one walks along the streets of a file."""
+    bare = [place for place in np.flatnonzero(ground.placed).tolist() if ground.shapes[place] is None]
+    pace = Pace(walking.most, walking.speed, walking.detour)
+    if not bare:
+        return ground
+    found = read_streets(streets)
+    return replace(ground, reach=reach_of(found, stops.latitudes[bare], stops.longitudes[bare], pace, near))
 
 
 def polygons_of(path: str | None) -> dict[str, Any]:

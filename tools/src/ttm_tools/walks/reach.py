@@ -1,0 +1,82 @@
+"""How far one comes along streets from places at which some time is left."""
+
+from dataclasses import dataclass
+from typing import Any, Callable
+
+import numpy as np
+
+from ..feed import Floats
+from .counting import Places
+from .osm import Streets
+from .straight import Pace, points_of
+from .streets import graph_of, snapped
+
+
+@dataclass(frozen=True)
+class Reach:
+    """The streets with some places on them, which are the last nodes."""
+
+    latitudes: Floats  # of each node
+    longitudes: Floats
+    begin: Places  # of each connection the nodes
+    end: Places
+    metres: Floats
+    beside: Floats  # of each place the metres to its street
+
+    def pieces(self, left: Floats) -> Floats:
+        """The pieces of streets, as longitude and latitude of both ends, along which one comes from places where so
+        many metres are left; below 0 one doesn't come from there.
+        """
+        after = self.left_at_nodes(left - self.beside)
+        there = np.flatnonzero(after[self.begin] > 0)
+        begin, end = self.begin[there], self.end[there]
+        part = np.minimum(1.0, after[begin] / np.maximum(self.metres[there], 1e-6))[:, None]
+        places = np.stack([self.longitudes, self.latitudes], axis=1)
+        made: Floats = np.concatenate([places[begin], places[begin] + part * (places[end] - places[begin])], axis=1)
+        return made
+
+    def left_at_nodes(self, left: Floats) -> Floats:
+        """How many metres are left at each node, below 0 where one doesn't come: the most that any place gives, which
+        is a shortest way from a node before all of them.
+        """
+        from scipy.sparse import csr_matrix
+        from scipy.sparse.csgraph import dijkstra
+
+        count, places = len(self.latitudes), np.flatnonzero(left > 0)
+        none: Floats = np.full(count, -1.0)
+        if not len(places):
+            return none
+        most = float(left[places].max())
+        nodes = count - len(left) + places
+        begin = np.concatenate([self.begin, np.full(len(places), count)])
+        end = np.concatenate([self.end, nodes])
+        metres = np.concatenate([np.maximum(self.metres, 1e-9), most - left[places] + 1e-9])
+        found = dijkstra(csr_matrix((metres, (begin, end)), shape=(count + 1, count + 1)), indices=count, limit=most)
+        made: Floats = np.where(np.isfinite(found), most - found, -1.0)[:count]
+        return made
+
+
+def reach_of(streets: Streets, latitudes: Floats, longitudes: Floats, pace: Pace, near: float) -> Reach:
+    """The streets with places on them: the way to a street counts as it is up to so many metres, and else as a straight
+    line with its detour.
+    """
+    put = snapped(streets, points_of(latitudes, longitudes))
+    graph = graph_of(streets, put)
+    counts = np.diff(graph.begins)
+    begin, end = np.repeat(np.arange(len(counts)), counts), graph.end
+    beside = np.where(put.metres <= near, put.metres, put.metres * pace.detour)
+
+    def along(numbers: Floats) -> Floats:
+        low, high = (numbers[ends[put.piece]] for ends in (streets.begin, streets.end))
+        made: Floats = np.concatenate([numbers, low + put.along * (high - low)])
+        return made
+
+    return Reach(along(streets.latitudes), along(streets.longitudes), begin, end, graph.metres, beside)
+
+
+def strip(pieces: Floats, kilometres: Callable[[Floats, Floats], tuple[Floats, Floats]], width: float) -> Any:
+    """The area within some metres of pieces of streets, as a shape in kilometres."""
+    from shapely.geometry import MultiLineString
+
+    begin, end = (np.stack(kilometres(pieces[:, it], pieces[:, it + 1]), axis=1).tolist() for it in (0, 2))
+    return MultiLineString([(one, other) for one, other in zip(begin, end) if one != other]).buffer(width / 1000)
