@@ -11,6 +11,8 @@ from .osm import Streets
 from .straight import Pace, points_of
 from .streets import graph_of, snapped
 
+SHORTEST = 1e-6  # metres of a piece that isn't a crossing
+
 
 @dataclass(frozen=True)
 class Reach:
@@ -28,9 +30,9 @@ class Reach:
         many metres are left; below 0 one doesn't come from there.
         """
         after = self.left_at_nodes(left - self.beside)
-        there = np.flatnonzero(after[self.begin] > 0)
+        there = np.flatnonzero((after[self.begin] > 0) & (self.metres > SHORTEST))
         begin, end = self.begin[there], self.end[there]
-        part = np.minimum(1.0, after[begin] / np.maximum(self.metres[there], 1e-6))[:, None]
+        part = np.minimum(1.0, after[begin] / self.metres[there])[:, None]
         places = np.stack([self.longitudes, self.latitudes], axis=1)
         made: Floats = np.concatenate([places[begin], places[begin] + part * (places[end] - places[begin])], axis=1)
         return made
