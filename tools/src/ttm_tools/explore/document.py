@@ -17,7 +17,7 @@ MINUTES = 30  # at which the slider stands first
 
 def kind_of(exploration: Exploration) -> page.Kind:
     """The files of the page, with those that ask the server."""
-    scripts = [name for name in page.SCRIPTS if name != "cells.js"]
+    scripts = [name for name in page.SCRIPTS if name not in ("cells.js", "bands.js")]
     scripts[1:1] = [LIVE[0]]
     scripts[-1:-1] = LIVE[1:]
     known = {"asked": page.as_json(asked_of(exploration))}

@@ -1,5 +1,7 @@
 """The page of a study: one file to look at, and to send."""
 
+from typing import Any
+
 from ..files import output
 from ..measures.opportunities import columns_of
 from ..points.study import POINTS
@@ -30,7 +32,9 @@ def page_stage(whole: Whole) -> Stage:
         return [f"{PAGE}: {told}", *page.frame.told]
 
     counts = [inputs.records[name].outputs for name in ("counted", "people") if name in inputs.records]
-    texts = [study.title, study.about.note, whole.unit, study.within, list(study.cutoffs)]
+    texts: list[Any] = [study.title, study.about.note, whole.unit, study.within, list(study.cutoffs)]
+    walks = [study.walk_limit, study.walks.speed, study.walks.detour]
+    texts += [list(study.results.nearest), walks]
     facts = {"texts": texts, "counts": counts, "run": inputs.sums, "words": inputs.run.words()}
     return Stage("page", {**whole.depends, **facts}, [PAGE], make)
 
@@ -62,4 +66,8 @@ def wish_of(whole: Whole) -> Wish:
         tiles=None,
         attribution=None,
         within=study.within,
+        nearest=list(study.results.nearest) if counted else [],
+        walk=study.walk_limit,
+        speed=study.walks.speed,
+        detour=study.walks.detour,
     )

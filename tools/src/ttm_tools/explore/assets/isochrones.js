@@ -1,8 +1,6 @@
 "use strict";
 // Sliders of a question, bands and areas, the curve by minutes, and what changes within the picture.
 
-const PACE = 1.33 / 1.3; // metres a second as the crow flies, as ttm-tools isochrones walks
-const AREA = 0.5; // opacity
 const CURVE = 120; // minutes
 const BANDS = 6;
 
@@ -18,11 +16,15 @@ const sliders = {
   step: 10, // minutes of a band
   areas: false,
   page: null,
-  scratch: document.createElement("canvas"),
 
   begin(map) {
     this.page = map;
-    map.under.push((pen, view) => this.paintAreas(pen, view));
+    const areas = new ReachedAreas(map);
+    map.under.push((pen, view) => {
+      if (this.areas && current.now !== null) {
+        areas.paint(pen, view, current.now, live.walk);
+      }
+    });
     map.map.on("moveend", () => this.tellPicture());
     element("percentile").max = head.shares.length - 1;
     const on = (name, change) => element(name).addEventListener("input", () => change(element(name)));
@@ -138,41 +140,6 @@ const sliders = {
       && bounds.contains([numbers.places[2 * place] / 1e6, numbers.places[2 * place + 1] / 1e6]));
     const some = (cells) => cells.filter((_, column) => inside[column]);
     shown.textContent = `Within the picture: ${changesTold(some(now), some(before))}`;
-  },
-
-  /** The areas that are reached within each band, the widest first, from the stops on by walking. */
-  paintAreas(pen, view) {
-    if (!this.areas || current.now === null) {
-      return;
-    }
-    const fine = pen.canvas.width / view.width, shades = colours(classEnds.length + 1);
-    Object.assign(this.scratch, { width: pen.canvas.width, height: pen.canvas.height });
-    const area = this.scratch.getContext("2d");
-    area.scale(fine, fine);
-    const ends = classEnds.map((end, number) => ({ end, number })).filter(({ end }) => end <= state.minutes).reverse();
-    for (const { end, number } of ends) {
-      area.fillStyle = shades[number];
-      area.beginPath();
-      this.addCircles(area, view, end);
-      area.fill();
-    }
-    pen.globalAlpha = AREA;
-    pen.drawImage(this.scratch, 0, 0, view.width, view.height);
-    pen.globalAlpha = 1;
-  },
-
-  addCircles(area, view, end) {
-    current.now.forEach((minutes, column) => {
-      const place = numbers.columns[column], left = Math.min(60 * (end - minutes), live.walk);
-      if (minutes <= end && left > 0 && isPlaced(place)) {
-        const [x, y] = this.page.at(place, view), latitude = (numbers.places[2 * place] / 1e6) * (Math.PI / 180);
-        const wide = (left * PACE * 256 * view.scale) / (2 * Math.PI * L.CRS.EPSG3857.R * Math.cos(latitude));
-        if (x > -wide && y > -wide && x < view.width + wide && y < view.height + wide) {
-          area.moveTo(x + wide, y);
-          area.arc(x, y, wide, 0, 2 * Math.PI);
-        }
-      }
-    });
   },
 };
 

@@ -10,7 +10,7 @@ from ... import progress
 from ...faults import BadInput
 from ...feed import Floats, Stops
 from ...matrices import Matrix, Share, lacking
-from ...measures.access import STEP, Decay
+from ...measures.access import STEP, Decay, times_to
 from ...measures.opportunities import Counts, read_counts
 from ...records import shown
 from .parts import Bytes, minutes_of
@@ -33,6 +33,7 @@ class Asked:
     origins: list[str] | None = None  # whose travel times are taken; None for all that there is room for
     seed: int = 1  # of the draw where there is no room for all
     most_cells: int = MOST_CELLS
+    nearest: Sequence[float] = ()  # how many of the nearest opportunities are looked for
 
 
 @dataclass(frozen=True)
@@ -60,11 +61,14 @@ class Times:
 
 @dataclass(frozen=True)
 class Measure:
-    """What access is told of: what is counted, and within how many seconds; None where the matrix doesn't name it."""
+    """What access is told of: what is counted, and within how many seconds; None where the matrix doesn't name it, and
+    for the time to so many of the nearest.
+    """
 
     of: str
     short: str
     seconds: int | None
+    nearest: float | None = None
 
 
 @dataclass(frozen=True)
@@ -120,11 +124,16 @@ def counts_of(known: Sequence[str], asked: Asked) -> tuple[Counts, int]:
     return Counts(names, np.concatenate([it.numbers for it in found], axis=1)), len(found[1].names)
 
 
-def measures_of(matrix: Matrix, names_there: Sequence[str], asked: Asked, unit: str) -> list[Measure]:
-    """What access is told: that of the matrix, then stops (or points) and what is counted, within each cutoff."""
+def measures_of(
+    matrix: Matrix, names_there: Sequence[str], names_sought: Sequence[str], asked: Asked, unit: str
+) -> list[Measure]:
+    """What access is told: that of the matrix, then stops (or points) and what is counted, within each cutoff; then the
+    time to the nearest.
+    """
     own = [Measure(f"{unit} (as ttm counted them)", unit, limit) for limit in matrix.layout.limits]
     names = [asked.what, *names_there]
-    return own + [Measure(name, name, round(60 * cutoff)) for name in names for cutoff in asked.cutoffs]
+    sought = [Measure(f"nearest {name}", name, None, count) for name in names_sought for count in asked.nearest]
+    return own + [Measure(name, name, round(60 * cutoff)) for name in names for cutoff in asked.cutoffs] + sought
 
 
 def content_of(whole: Matrix, matrix: Matrix, stops: Stops, asked: Asked, unit: str) -> Content:
@@ -139,11 +148,14 @@ def content_of(whole: Matrix, matrix: Matrix, stops: Stops, asked: Asked, unit: 
     ends = counts.numbers[: len(whole.stops)]
     shown_there = np.isin(whole.stops, ground.columns).astype(np.float64)[:, None]
     reached = ends.sum(axis=0) > 0
-    read = Reading(whole, ground, np.concatenate([shown_there, ends[:, reached]], axis=1), asked)
+    sought = reached & (np.arange(len(reached)) < len(reached) - people)
+    numbers = np.concatenate([shown_there, ends[:, reached]], axis=1)
+    read = Reading(whole, ground, numbers, ends[:, sought], asked)
     times = [[read.times(name, share) for share in asked.shares] for name in asked.scenarios]
     away = [name for name, is_there in zip(counts.names, reached.tolist()) if not is_there]
     hidden = [name for name, lost in zip(counts.names, (whole_sums > sums).tolist()) if lost and name not in away]
-    measures = measures_of(matrix, [name for name in counts.names if name not in away], asked, unit)
+    names_sought = [name for name, is_sought in zip(counts.names, sought.tolist()) if is_sought]
+    measures = measures_of(matrix, [name for name in counts.names if name not in away], names_sought, asked, unit)
     return Content(ground, Counts(counts.names, there), people, hidden, away, measures, times)
 
 
@@ -154,6 +166,7 @@ class Reading:
     whole: Matrix
     ground: Ground
     numbers: Floats  # a row for each column of the whole matrix, a column for each thing that is counted
+    sought: Floats  # the same, a column for each thing of which the nearest are looked for
     asked: Asked
 
     def times(self, scenario: str, share: Share) -> Times:
@@ -171,7 +184,7 @@ class Reading:
         columns = np.array([matrix.places[name] for name in ground.columns], dtype=np.intp)
         rows = {name: row for row, name in enumerate(ground.rows)}
         cells = np.zeros((len(rows), len(columns)), np.uint8)
-        sums = [np.zeros((0, self.numbers.shape[1] * len(self.asked.cutoffs)))]
+        sums = [self.sums(np.zeros((0, len(matrix.stops)), np.float32))]
         count = -(-len(matrix.origins(scenario, share)) // matrix.rows_at_once())
         for block in progress.told(matrix.blocks(scenario, share), count, f"{scenario} {share or ''}", "blocks"):
             sums.append(self.sums(block.seconds))
@@ -180,8 +193,15 @@ class Reading:
         return cells, np.concatenate(sums)
 
     def sums(self, seconds: npt.NDArray[np.float32]) -> Floats:
-        """What is reached from some origins: for each thing that is counted, within each cutoff."""
-        decay = Decay(STEP)
+        """What is reached from some origins: for each thing that is counted, within each cutoff; then the minutes to
+        the nearest.
+        """
+        decay, count = Decay(STEP), len(seconds)
         found = np.stack([decay.weights(seconds, cutoff) @ self.numbers for cutoff in self.asked.cutoffs], axis=2)
-        made: Floats = found.reshape(len(seconds), -1)
+        sums: Floats = found.reshape(count, found.shape[1] * found.shape[2])
+        if not self.asked.nearest or not self.sought.shape[1]:
+            return sums
+        used = np.flatnonzero(self.sought.any(axis=1))
+        times = times_to(seconds[:, used], self.sought[used], self.asked.nearest).astype(np.float32)
+        made: Floats = np.concatenate([sums, minutes_of(times.reshape(count, times.shape[1] * times.shape[2]))], axis=1)
         return made

@@ -30,6 +30,9 @@ SCRIPTS = (
     "layer.js",
     "figures.js",
     "panel.js",
+    "nearest.js",
+    "reached.js",
+    "bands.js",
     "search.js",
     "main.js",
 )
@@ -48,6 +51,8 @@ class Frame:
     sources: list[tuple[str, str]]
     told: list[str]  # what a reader needs to know of what is shown
     minutes: int  # at which the slider stands first
+    walk: int = 600  # seconds that one walks on from a stop at most
+    pace: float = 1.33 / 1.3  # metres a second as the crow flies
     tiles: str | None = None  # where a map is fetched from that is drawn below
     attribution: str = ""
     leaflet: str = LEAFLET
@@ -97,6 +102,8 @@ def head_of(content: Content, lines: Lines, frame: Frame) -> dict[str, Any]:
         "scenarios": [shown(name) for name in frame.scenarios],
         "shares": frame.shares,
         "minutes": frame.minutes,
+        "walk": frame.walk,
+        "pace": frame.pace,
         "identifiers": [shown(name) for name in ground.places.identifiers],
         "names": ground.places.names,
         "columns": len(ground.columns),

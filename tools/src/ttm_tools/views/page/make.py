@@ -2,7 +2,7 @@
 
 import math
 import os
-from dataclasses import dataclass, replace
+from dataclasses import dataclass, field, replace
 from typing import BinaryIO
 
 from ...faults import BadInput, say
@@ -41,6 +41,10 @@ class Wish:
     attribution: str | None
     leaflet: str = LEAFLET
     within: int | None = None  # seconds, the limit with which the page opens; without it, the first of the matrix
+    nearest: list[float] = field(default_factory=list)  # how many of the nearest opportunities are looked for
+    walk: int = 600  # seconds that one walks on from a stop at most
+    speed: float = 1.33  # metres a second
+    detour: float = 1.3  # metres of way for a metre of straight line
 
 
 @dataclass(frozen=True)
@@ -62,7 +66,7 @@ def asked_of(matrix: Matrix, what: str, wish: Wish) -> Asked:
     scenarios = list(dict.fromkeys([base, *others]))
     shares: list[Share] = matrix.shares if wish.share is None else [matrix.share(wish.share)]
     files = (wish.opportunities, wish.people)
-    asked = Asked(scenarios, shares, wish.cutoffs, what, *files, None, wish.seed, MOST_CELLS)
+    asked = Asked(scenarios, shares, wish.cutoffs, what, *files, None, wish.seed, MOST_CELLS, wish.nearest)
     if wish.origins is None:
         return asked
     named = read_list(wish.origins, origins_of(matrix, asked), "origin")
@@ -103,6 +107,8 @@ def frame_of(matrix: Matrix, content: Content, asked: Asked, wish: Wish) -> Fram
         sources.table(files, wish.feed, words),
         told_rows(content, asked),
         first_minutes(matrix, wish.within),
+        wish.walk,
+        wish.speed / wish.detour,
         wish.tiles,
         wish.attribution or "",
         wish.leaflet,

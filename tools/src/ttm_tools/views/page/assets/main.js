@@ -66,7 +66,7 @@ function showControls() {
   element("difference").disabled = state.scenario === 0;
   element("minutes-told").textContent = state.minutes;
   const limits = head.measures.filter((measure) => measure.of === state.of);
-  fill("within", ...optionsOf(limits.map((measure) => secondsTold(measure.seconds))));
+  fill("within", ...optionsOf(limits.map(limitTold)));
   state.within = Math.min(state.within, limits.length - 1);
   element("counted").value = state.of;
   for (const name of ["scenario", "share", "minutes", "within", "weight"]) {
@@ -123,6 +123,7 @@ function chosenMeasure() {
     of: measure.of,
     short: measure.short,
     within: secondsTold(measure.seconds),
+    nearest: measure.nearest, // how many of them; null where they are counted within a limit
     scenario: head.scenarios[state.scenario],
     difference: state.difference,
   };
@@ -133,6 +134,10 @@ function showAccess() {
   const { number, words } = chosenMeasure();
   const now = accessOf(state.scenario, state.share, number);
   const before = state.difference ? accessOf(0, state.share, number) : null;
+  if (words.nearest !== null) {
+    showNearest(words, now, before);
+    return;
+  }
   showAccessTold(words, now, before);
   showPlaceAccess(state.place, words, now, before);
   element("losers-part").hidden = before === null;
@@ -200,6 +205,9 @@ function accessTip(place, name) {
     return name;
   }
   const access = accessOf(state.scenario, state.share, number)[origin];
+  if (words.nearest !== null) {
+    return nearestTip(name, access, state.difference ? accessOf(0, state.share, number)[origin] : null);
+  }
   const change = access - accessOf(0, state.share, number)[origin];
   return `${name}: ${told(access)} ${words.short}${state.difference ? ` (${toldChange(change)})` : ""}`;
 }

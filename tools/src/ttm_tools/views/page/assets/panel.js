@@ -67,6 +67,11 @@ function secondsTold(seconds) {
   return seconds % 60 ? `${told(seconds)} seconds` : `${told(seconds / 60)} minutes`;
 }
 
+/** Within what a measure counts, or how many of the nearest. */
+function limitTold(measure) {
+  return measure.nearest === null ? secondsTold(measure.seconds) : nearestTold(measure.nearest);
+}
+
 const swatches = new Map(); // by what they look like
 
 /** The mark of a class as the key shows it. */

@@ -1,0 +1,47 @@
+"use strict";
+// Areas that are reached within bands of minutes: cells whole, and from stops on by walking for the time that is left.
+
+const AREA = 0.5; // opacity
+
+/** Paints the areas that are reached, below the places. */
+class ReachedAreas {
+  constructor(page) {
+    this.page = page;
+    this.scratch = document.createElement("canvas");
+  }
+
+  /** The area of each band that ends within the slider's minutes, the widest first; one walks so many seconds at most. */
+  paint(pen, view, cells, walk) {
+    const fine = pen.canvas.width / view.width, shades = colours(classEnds.length + 1);
+    Object.assign(this.scratch, { width: pen.canvas.width, height: pen.canvas.height });
+    const area = this.scratch.getContext("2d");
+    area.scale(fine, fine);
+    const ends = classEnds.map((end, number) => ({ end, number })).filter(({ end }) => end <= state.minutes).reverse();
+    for (const { end, number } of ends) {
+      area.fillStyle = shades[number];
+      area.beginPath();
+      cells.forEach((minutes, column) => {
+        if (minutes <= end && isPlaced(numbers.columns[column])) {
+          this.add(area, view, numbers.columns[column], Math.min(60 * (end - minutes), walk));
+        }
+      });
+      area.fill();
+    }
+    pen.globalAlpha = AREA;
+    pen.drawImage(this.scratch, 0, 0, view.width, view.height);
+    pen.globalAlpha = 1;
+  }
+
+  /** Adds what is reached from a place where some seconds are left; cells are painted as places. */
+  add(area, view, place, left) {
+    if (left <= 0 || numbers.widths[place] > 0 || this.page.areas.has(place)) {
+      return;
+    }
+    const [x, y] = this.page.at(place, view), latitude = (numbers.places[2 * place] / 1e6) * (Math.PI / 180);
+    const wide = (left * head.pace * 256 * view.scale) / (2 * Math.PI * L.CRS.EPSG3857.R * Math.cos(latitude));
+    if (x > -wide && y > -wide && x < view.width + wide && y < view.height + wide) {
+      area.moveTo(x + wide, y);
+      area.arc(x, y, wide, 0, 2 * Math.PI);
+    }
+  }
+}
