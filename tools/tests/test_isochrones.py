@@ -136,3 +136,20 @@ def test_from_the_place_where_most_is_left_one_comes_furthest() -> None:
     # from the second 50 m both ways; from the third, 10 m beside the street, 250 m both ways
     lengths = sorted({(round(min(it)), round(max(it))) for it in found[:, [0, 2]].tolist()})
     assert lengths == [(250, 300), (300, 350), (750, 1000), (1000, 1250)]
+
+
+def test_a_map_shows_the_areas_with_their_square_kilometres(town: Town, monkeypatch: pytest.MonkeyPatch) -> None:
+    pytest.importorskip("matplotlib")
+    from test_maps import figure
+
+    town.matrix(town_matrix(True))
+    words = ["isochrones", "--origin", "A", "--scenario", "base", "--breaks", "5,10", *PLAIN]
+    texts, key, classes = figure(town, monkeypatch, *words)
+    # 300 m around A within 5 minutes; within 10 minutes 600 m around A, and 300 m around B
+    narrow, wide = (math.pi * it * ROUND for it in (0.3**2, 0.6**2 + 0.3**2))
+    told = [f"up to 5 minutes: {narrow:.1f} km²", f"up to 10 minutes: {wide:.1f} km²", "origin", "where vehicles run"]
+    assert (key, classes) == ("Reached within", told)
+    assert texts[:2] == ["Areas that are reached from Alpha (A)", f"{wide:.1f} km² within 10 minutes"]
+    assert "50 of 100 departures" in texts[2].replace("\n", " ")
+    ran = town.ran("map", "isochrones", "--feed", town.feed, "--out", town.path("map.png"), town.file)
+    assert ran[2] == 2 and "isochrones needs --origin" in ran[1]

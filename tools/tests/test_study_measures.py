@@ -53,7 +53,7 @@ def test_maps_show_the_nearest_of_each_thing_counted(place: Place) -> None:  # n
 
 def test_areas_are_written_for_each_named_place(place: Place) -> None:  # noqa: F811
     pytest.importorskip("shapely")
-    words = 'maps = false\nisochrones = ["S0", "S4"]\nisochrone_bands = [5, 10]\n'
+    words = 'isochrones = ["S0", "S4"]\nisochrone_bands = [5, 10]\n'
     path = place.lay_out(STUDY.replace("csv = true\n", words))
     assert place.ran("study", path)[2] == 0
     features = json.loads(Path(place.path("nine/isochrones/S4.geojson")).read_text())["features"]
@@ -63,6 +63,8 @@ def test_areas_are_written_for_each_named_place(place: Place) -> None:  # noqa: 
     # in five minutes one gets 300 s * 1.33 / 1.3 as the crow flies
     assert made["cut", 5]["square_km"] == pytest.approx(3.1326 * (0.3 * 1.33 / 1.3) ** 2, rel=1e-3)
     assert "isochrones" in Path(place.path("nine/report.md")).read_text()
+    maps = {f"isochrones_{it}.png" for it in ("S0", "S4", "S0_cut", "S4_cut")}
+    assert maps < {it.name for it in Path(place.path("nine/maps")).iterdir()}
     place.say(STUDY.replace("csv = true\n", 'isochrones = ["S9"]\n'))
     assert "isochrones of [results]: S9 is no origin of the study" in place.ran("study", path)[1]
 

@@ -7,8 +7,11 @@ from typing import TYPE_CHECKING
 from .options import add_base, add_matrix, add_number, add_points, add_share, add_text, add_within, opened
 
 if TYPE_CHECKING:
+    from ..feed import Stops
     from ..matrices import Matrix
+    from ..views.maps import Areas
     from ..views.nearest import Nearest
+    from ..views.pictures import Wish
 
 TOLD = "a picture of travel times, of access, or of a difference"
 HELP = """\
@@ -17,7 +20,8 @@ and who gains in a scenario compared with the base (difference): access at each 
 to each stop. Who is cut off is a class of its own: a stop that isn't reached any more, an origin that loses all access.
 So is who is newly reached: a stop that wasn't reached before, an origin that had no access before. With nearest each
 origin shows the travel time within which this number of --opportunities is reached; a difference shows how that changes
-if --nearest says how many.
+if --nearest says how many. With isochrones the areas are drawn that are reached from --origin within the minutes of
+--breaks, with their square kilometres: cells whole, and from stops on by walking, as the crow flies or along --streets.
 
 Points are drawn alone where the matrix has them: as squares where the file of points says how wide they are, and as
 areas where it has these.
@@ -42,7 +46,9 @@ def breaks_of(text: str) -> tuple[float, ...]:
 
 
 def describe(parser: argparse.ArgumentParser) -> None:
-    parser.add_argument("picture", choices=("times", "access", "nearest", "difference"), help="what is drawn")
+    parser.add_argument(
+        "picture", choices=("times", "access", "nearest", "isochrones", "difference"), help="what is drawn"
+    )
     add_matrix(parser)
     parser.add_argument("--feed", metavar="FOLDER", required=True, help="the unpacked feed of the matrix (needed)")
     add_points(parser)
@@ -66,10 +72,18 @@ def describe(parser: argparse.ArgumentParser) -> None:
         "a scenario file, named as its scenario, whose trips are drawn; may be given more than once (without it, none)"
     )
     parser.add_argument("--edits", metavar="FILE", action="append", default=[], help=told)
+    add_number(parser, "--walk", "how long you walk on from a stop at most, in isochrones", "seconds", (0, 7200), 600)
+    add_number(parser, "--speed", "how fast you walk there", "m/s", (0.01, 100), default=1.33, whole=False)
+    told = "metres of way for a metre of straight line"
+    add_number(parser, "--detour", told, "", (1, 100), default=1.3, whole=False)
+    add_text(parser, "--streets", "FILE", "a file of OpenStreetMap, along whose ways you walk on", without="circles")
+    told = "the greatest distance of a stop from a way"
+    add_number(parser, "--near", told, "metres", (0, 10000), default=100, whole=False)
     add_text(parser, "--unit", "WORD", "what is counted as access, such as jobs", default="opportunities")
     told = "where classes begin, ascending numbers above 0 between commas: of minutes, of access, or of percent"
     missing = (
-        "default 10,20,30,45,60,90 minutes; in a difference 1,5,15 minutes or 1,5,10,25 %%; of access round numbers"
+        "default 10,20,30,45,60,90 minutes, of isochrones 15,30,45,60; in a difference 1,5,15 minutes or 1,5,10,25 %%; "
+        "of access round numbers"
     )
     parser.add_argument("--breaks", metavar="N,N..", type=breaks_of, help=f"{told} ({missing})")
     add_text(parser, "--title", "TEXT", "what stands above the map", without="what is drawn")
@@ -83,16 +97,19 @@ def describe(parser: argparse.ArgumentParser) -> None:
 def run(words: argparse.Namespace) -> int:
     from ..faults import WrongWords, needs
 
-    if words.picture == "times" and words.origin is None:
-        raise WrongWords("times needs --origin")
+    if words.picture in ("times", "isochrones") and words.origin is None:
+        raise WrongWords(f"{words.picture} needs --origin")
     of_nearest = words.picture == "nearest" or words.nearest is not None
-    if of_nearest and (words.picture in ("times", "access") or words.opportunities is None or words.origin is not None):
+    if of_nearest and (
+        words.picture in ("times", "access", "isochrones") or words.opportunities is None or words.origin is not None
+    ):
         raise WrongWords("--nearest goes with nearest or difference, needs --opportunities, and takes no --origin")
-    needs("numpy", "pandas", "matplotlib")
+    shapes = ["shapely", *(["osmium", "scipy"] if words.streets else [])] if words.picture == "isochrones" else []
+    needs("numpy", "pandas", "matplotlib", *shapes)
     from ..files import output
     from ..points.shown import shown_of
     from ..views.lines import planned_of
-    from ..views.maps import Sheet, figure_of, picture_of
+    from ..views.maps import Sheet, figure_of, figure_of_isochrones, picture_of
     from ..views.pictures import Wish
 
     whole = opened(words)
@@ -102,15 +119,32 @@ def run(words: argparse.Namespace) -> int:
     what = "stops" if matrix is whole else "points"
     base, loses = words.base or matrix.base, words.picture == "difference"
     wish = Wish(words.scenario, base, words.share, words.within, words.breaks, words.unit, what)
-    sought = sought_of(words, matrix) if of_nearest else None
-    picture = picture_of(words.picture, matrix, stops, words.origin, wish, sought)
     scenario = words.scenario or (matrix.other(base, None) if loses else base)
     planned = planned_of(words.feed, words.edits, base, scenario, loses)
     sheet = Sheet(words.title, words.note or "", words.width, words.edits, planned)
-    figure = figure_of(picture, matrix, stops, words.feed, sheet, base if loses else None)
+    if words.picture == "isochrones":
+        figure = figure_of_isochrones(matrix, stops, words.feed, sheet, areas_of(words, matrix, stops, wish))
+    else:
+        sought = sought_of(words, matrix) if of_nearest else None
+        picture = picture_of(words.picture, matrix, stops, words.origin, wish, sought)
+        figure = figure_of(picture, matrix, stops, words.feed, sheet, base if loses else None)
     with output(words.out) as file:
         figure.savefig(file, format="png", dpi="figure")
     return 0
+
+
+def areas_of(words: argparse.Namespace, matrix: "Matrix", stops: "Stops", wish: "Wish") -> "Areas":
+    """The isochrones that are drawn."""
+    from ..points.shown import points_in
+    from ..views import isochrones
+    from ..views.maps import Areas
+
+    there = stops.of(matrix.stops)
+    ground = isochrones.ground_of(there, isochrones.polygons_of(words.points or points_in(words.feed)))
+    walking = isochrones.Walking(words.speed, words.detour, words.walk)
+    if words.streets:
+        ground = isochrones.along_streets(ground, there, words.streets, walking, words.near)
+    return Areas(words.origin, wish, ground, walking)
 
 
 def sought_of(words: argparse.Namespace, matrix: "Matrix") -> "Nearest":

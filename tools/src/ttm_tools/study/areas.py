@@ -7,6 +7,7 @@ from ..files import output
 from ..naming import file_names
 from ..points.shown import points_in
 from ..views import isochrones
+from ..views.isochrones import Ground, Walking
 from .results import Whole
 from .sources import Sources
 from .stages import Folder, Record, Stage
@@ -19,6 +20,22 @@ def make_areas(whole: Whole, folder: Folder) -> dict[str, Record]:
     return {AREAS: folder.do(areas_stage(whole))} if whole.study.results.isochrones else {}
 
 
+def ground_for(whole: Whole) -> tuple[Ground, Walking]:
+    """Where the places of the matrix lie, and how one walks on from them."""
+    study, (matrix, stops) = whole.study, whole.open()
+    there = stops.of(matrix.stops)
+    ground = isochrones.ground_of(there, isochrones.polygons_of(points_in(whole.inputs.feed)))
+    walking = Walking(study.walks.speed, study.walks.detour, study.walk_limit)
+    if study.walks.streets:
+        ground = isochrones.along_streets(ground, there, study.at(study.walks.streets), walking, study.walks.near)
+    return ground, walking
+
+
+def streets_of(whole: Whole) -> Sources:
+    """The streets along which one walks on."""
+    return Sources(whole.study.at, [it for it in [whole.study.walks.streets] if it])
+
+
 def areas_stage(whole: Whole) -> Stage:
     """A file for each origin, with all scenarios and bands."""
     study, inputs = whole.study, whole.inputs
@@ -26,13 +43,8 @@ def areas_stage(whole: Whole) -> Stage:
     names = file_names(list(wish.isochrones), ("",))
 
     def make() -> list[str]:
-        matrix, stops = whole.open()
-        there = stops.of(matrix.stops)
-        ground = isochrones.ground_of(there, isochrones.polygons_of(points_in(inputs.feed)))
-        walking = isochrones.Walking(study.walks.speed, study.walks.detour, study.walk_limit)
-        if study.walks.streets:
-            streets = study.at(study.walks.streets)
-            ground = isochrones.along_streets(ground, there, streets, walking, study.walks.near)
+        matrix, _ = whole.open()
+        ground, walking = ground_for(whole)
         Path(AREAS).mkdir()
         for origin, name in names.items():
             bands = isochrones.Bands(
@@ -44,7 +56,7 @@ def areas_stage(whole: Whole) -> Stage:
         return [f"{AREAS}: {len(names)} files"]
 
     pace = [study.walks.speed, study.walks.detour, study.walk_limit, study.walks.near]
-    sources = Sources(study.at, [it for it in [study.walks.streets] if it])
+    sources = streets_of(whole)
     counted = inputs.records["counted"].outputs if "counted" in inputs.records else {}
     words: dict[str, Any] = {
         "origins": list(wish.isochrones),

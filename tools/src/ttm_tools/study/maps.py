@@ -1,18 +1,22 @@
 """The maps of a study: access, what each scenario changes, and travel times from named places."""
 
+import functools
 from dataclasses import dataclass
 from pathlib import Path
-from typing import Any
+from typing import Any, Callable
 
 from ..files import many_written_aside, output
 from ..naming import file_names
 from ..views.lines import planned_of
 from ..measures.opportunities import columns_of
-from ..views.maps import Sheet, figure_of, picture_of
+from ..views.isochrones import Ground, Walking
+from ..views.maps import Areas, Sheet, figure_of, figure_of_isochrones, picture_of
 from ..views.nearest import Nearest
 from ..views.pictures import Wish
+from .areas import ground_for, streets_of
 from .counted import COUNTED
 from .results import STOPS, Whole
+from .sources import Sources
 from .stages import Folder, Record, Stage
 
 MAPS = "maps"
@@ -44,7 +48,7 @@ def maps_of(whole: Whole) -> list[Drawn]:
         made.append(Drawn(f"{MAPS}/times_{stop}.png", "times", base, origin))
         for it, name in whole.others.items():
             made.append(Drawn(f"{MAPS}/times_{stop}_{name}.png", "difference", it, origin))
-    return made + maps_of_nearest(whole)
+    return made + maps_of_nearest(whole) + maps_of_areas(whole)
 
 
 def maps_of_nearest(whole: Whole) -> list[Drawn]:
@@ -61,6 +65,16 @@ def maps_of_nearest(whole: Whole) -> list[Drawn]:
     return made
 
 
+def maps_of_areas(whole: Whole) -> list[Drawn]:
+    """Maps of the areas that are reached from each named place, in each scenario."""
+    made, base = list[Drawn](), whole.inputs.base
+    ends = ["", *(f"_{name}" for name in whole.others.values())]
+    for origin, stop in file_names(list(whole.study.results.isochrones), ends).items():
+        names = {base: "", **{it: f"_{name}" for it, name in whole.others.items()}}
+        made += [Drawn(f"{MAPS}/isochrones_{stop}{end}.png", "isochrones", it, origin) for it, end in names.items()]
+    return made
+
+
 def make_maps(whole: Whole, folder: Folder) -> Record | None:
     """Draws all maps."""
     return folder.do(maps_stage(whole)) if whole.study.results.maps else None
@@ -71,8 +85,9 @@ def maps_stage(whole: Whole) -> Stage:
 
     def make() -> list[str]:
         with many_written_aside(MAPS) as folder:
+            walked = functools.cache(lambda: ground_for(whole))
             for it in drawn:
-                draw(whole, it, folder)
+                draw(whole, it, folder, walked)
         return [f"{MAPS}: {len(drawn)} pictures"]
 
     study, inputs = whole.study, whole.inputs
@@ -80,27 +95,50 @@ def maps_stage(whole: Whole) -> Stage:
     counted = inputs.records["counted"].outputs if "counted" in inputs.records and study.results.nearest else {}
     facts: dict[str, Any] = {**whole.depends, "words": words, "run": inputs.sums, "counted": counted}
     facts["nearest"] = list(study.results.nearest[:1])
-    return Stage("maps", facts, [MAPS], make)
+    wish, walks = study.results, [study.walk_limit, study.walks.speed, study.walks.detour, study.walks.near]
+    sources = streets_of(whole) if wish.isochrones else Sources(study.at, [])
+    facts["isochrones"] = [wish.isochrones, wish.isochrone_bands, walks, sources.sums] if wish.isochrones else []
+    return Stage("maps", facts, [MAPS], make, refuse_changed=sources.refuse_changed)
 
 
-def draw(whole: Whole, drawn: Drawn, folder: Path) -> None:
-    """Draws one map into a folder, with the lines that a scenario takes out or brings."""
+def draw(whole: Whole, drawn: Drawn, folder: Path, walked: Callable[[], tuple[Ground, Walking]]) -> None:
+    """Draws one map into a folder."""
+    figure = areas_drawn(whole, drawn, walked()) if drawn.kind == "isochrones" else classes_drawn(whole, drawn)
+    with output(str(folder / Path(drawn.file).name)) as file:
+        figure.savefig(file, format="png", dpi="figure")
+
+
+def wish_of(whole: Whole, drawn: Drawn) -> Wish:
+    """What of the matrix is drawn."""
     study, inputs = whole.study, whole.inputs
-    matrix, stops = whole.open()
-    base = inputs.base if drawn.is_difference else None
     what = "points" if "points" in inputs.records else "stops"
-    scenario = drawn.scenario
-    wish = Wish(scenario, inputs.base, study.share, study.within, None, whole.unit, what)
+    breaks = study.results.isochrone_bands if drawn.kind == "isochrones" else None
+    return Wish(drawn.scenario, inputs.base, study.share, study.within, breaks, whole.unit, what)
+
+
+def sheet_of(whole: Whole, drawn: Drawn) -> Sheet:
+    """What stands around a map, with the lines that a scenario takes out or brings."""
+    inputs = whole.inputs
+    edits = [inputs.edits[name] for name in (inputs.base, drawn.scenario) if name in inputs.edits]
+    planned = planned_of(inputs.feed, edits, inputs.base, drawn.scenario, drawn.is_difference)
+    own = edits if drawn.is_difference else []
+    return Sheet(None, whole.study.about.note, edits=own, planned=planned)
+
+
+def areas_drawn(whole: Whole, drawn: Drawn, walked: tuple[Ground, Walking]) -> Any:
+    """The areas that are reached from a place."""
+    matrix, stops = whole.open()
+    areas = Areas(drawn.origin or "", wish_of(whole, drawn), *walked)
+    return figure_of_isochrones(matrix, stops, whole.inputs.feed, sheet_of(whole, drawn), areas)
+
+
+def classes_drawn(whole: Whole, drawn: Drawn) -> Any:
+    """A map of classes of stops or points."""
+    matrix, stops = whole.open()
     sought = None
     if drawn.nearest is not None:
         numbers = whole.counts(matrix).named(drawn.nearest)
-        sought = Nearest(drawn.nearest, numbers, study.results.nearest[0])
-    picture = picture_of(drawn.kind, matrix, stops, drawn.origin, wish, sought)
-    edits = [inputs.edits[name] for name in (inputs.base, scenario) if name in inputs.edits]
-    planned = planned_of(inputs.feed, edits, inputs.base, scenario, drawn.is_difference)
-    own = edits if drawn.is_difference else []
-    figure = figure_of(
-        picture, matrix, stops, inputs.feed, Sheet(None, study.about.note, edits=own, planned=planned), base
-    )
-    with output(str(folder / Path(drawn.file).name)) as file:
-        figure.savefig(file, format="png", dpi="figure")
+        sought = Nearest(drawn.nearest, numbers, whole.study.results.nearest[0])
+    picture = picture_of(drawn.kind, matrix, stops, drawn.origin, wish_of(whole, drawn), sought)
+    base = whole.inputs.base if drawn.is_difference else None
+    return figure_of(picture, matrix, stops, whole.inputs.feed, sheet_of(whole, drawn), base)

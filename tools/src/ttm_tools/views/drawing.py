@@ -75,13 +75,9 @@ def draw(picture: Picture, stops: Stops, lines: Sequence[Lines], note: str, widt
     points = np.stack([projection.east(stops.longitudes), projection.north(stops.latitudes)], axis=1)
     cells = Cells(stops, projection)
     figure, axes = empty_map(limits_of(np.concatenate([points[stops.placed], cells.corners()])), width)
-    top = figure.get_figheight()
-    title, told = shortened(picture.title, 84), shortened(picture.told, 136)
-    plain: dict[str, Any] = {"va": "top", "parse_math": False}
-    figure.text(EDGE / INCHES, 1 - 0.2 / top, title, fontsize=14.5, fontweight="bold", **plain)
-    figure.text(EDGE / INCHES, 1 - 0.52 / top, told, fontsize=9.5, color="#333333", **plain)
+    write_head(figure, picture)
     if cells.are_there.any():
-        lines = [replace(kind, colour=OVER_SQUARES) if kind.colour == FAINT else kind for kind in lines]
+        lines = [replace(kind, colour=over_squares(kind.colour)) for kind in lines]
     for number, kind in enumerate(lines):
         draw_lines(axes, kind, 1 + number / 10)
     draw_cells(axes, picture, points, cells)
@@ -89,11 +85,29 @@ def draw(picture: Picture, stops: Stops, lines: Sequence[Lines], note: str, widt
     draw_names(axes, picture, stops, points)
     draw_scale(axes)
     place = axes.get_position()
-    beside = place.x1 + EDGE / INCHES
-    draw_key(figure, (beside, place.y1), shaped(picture, cells), points, lines)
-    notes = wrapped(" ".join(filter(None, [picture.source, note, f"In brackets: number of {picture.what}."])), 44)
-    figure.text(beside, EDGE / top, notes, fontsize=8, color="#555555", va="bottom", parse_math=False)
+    draw_key(figure, (place.x1 + EDGE / INCHES, place.y1), shaped(picture, cells), points, lines)
+    write_notes(figure, picture, f"{note} In brackets: number of {picture.what}.".strip())
     return figure
+
+
+def over_squares(colour: str) -> str:
+    """The colour of lines over what is filled."""
+    return OVER_SQUARES if colour == FAINT else colour
+
+
+def write_head(figure: Figure, picture: Picture) -> None:
+    """Writes what stands above a map."""
+    top, title, told = figure.get_figheight(), shortened(picture.title, 84), shortened(picture.told, 136)
+    plain: dict[str, Any] = {"va": "top", "parse_math": False}
+    figure.text(EDGE / INCHES, 1 - 0.2 / top, title, fontsize=14.5, fontweight="bold", **plain)
+    figure.text(EDGE / INCHES, 1 - 0.52 / top, told, fontsize=9.5, color="#333333", **plain)
+
+
+def write_notes(figure: Figure, picture: Picture, note: str) -> None:
+    """Writes what stands below the key."""
+    beside, low = figure.axes[0].get_position().x1 + EDGE / INCHES, EDGE / figure.get_figheight()
+    notes = wrapped(" ".join(filter(None, [picture.source, note])), 44)
+    figure.text(beside, low, notes, fontsize=8, color="#555555", va="bottom", parse_math=False)
 
 
 def limits_of(points: Points) -> tuple[float, float, float, float]:
@@ -237,9 +251,14 @@ def draw_key(
         handles.append(Line2D([], [], label="origin", **star, **STAR))
     for kind in lines:
         handles.append(Line2D([], [], color=kind.colour, linewidth=2.0, linestyle=kind.style, label=kind.label))
+    write_key(figure, corner, handles, picture.key)
+
+
+def write_key(figure: Figure, corner: tuple[float, float], handles: Sequence[Any], title: str) -> None:
+    """Writes a key below a title."""
     place = {"loc": "upper left", "bbox_to_anchor": corner, "borderaxespad": 0, "alignment": "left"}
     how = {"frameon": False, "fontsize": 9.5, "title_fontsize": 10.5, "labelspacing": 0.75}
-    key = figure.legend(handles=handles, title=wrapped(picture.key, 32), **how, **place)
+    key = figure.legend(handles=handles, title=wrapped(title, 32), **how, **place)
     key.get_title().set_fontweight("bold")
 
 

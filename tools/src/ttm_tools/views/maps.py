@@ -3,10 +3,15 @@
 from dataclasses import dataclass, field, replace
 from typing import Any
 
+import numpy as np
+
 from ..faults import BadInput, say
 from ..feed import Projection, Stops, has_file, lines_of
 from ..matrices import Matrix
+from ..records import shown
 from . import drawing
+from .isochrone_map import BANDS, bands_of, draw_bands
+from .isochrones import Ground, Walking
 from .lines import Planned, lines_of_edits, lines_of_plan
 from .nearest import Nearest, picture_of_nearest, picture_of_nearest_difference
 from .pictures import (
@@ -16,6 +21,7 @@ from .pictures import (
     picture_of_access_difference,
     picture_of_time_difference,
     picture_of_times,
+    source_told,
 )
 
 
@@ -28,6 +34,16 @@ class Sheet:
     width: int = 1350  # pixels
     edits: list[str] = field(default_factory=list)  # scenario files, named as their scenarios are
     planned: Planned | None = None  # of scenarios of a plan, whose files stand for these
+
+
+@dataclass(frozen=True)
+class Areas:
+    """Isochrones that are drawn: from where, how one walks on, and the places of the matrix' stops."""
+
+    origin: str
+    wish: Wish
+    ground: Ground
+    walking: Walking
 
 
 def picture_of(
@@ -63,11 +79,36 @@ def figure_of(picture: Picture, matrix: Matrix, stops: Stops, folder: str, sheet
     if lost:
         say(f"{lost} {picture.what} have no stop_lat and stop_lon and are not drawn")
     projection = Projection(shown_stops.latitudes, shown_stops.longitudes)
+    lines, note = lines_below(folder, stops, projection, sheet, base)
+    picture = replace(picture, title=sheet.title or picture.title)
+    return drawing.draw(picture, shown_stops, lines, note, sheet.width)
+
+
+def lines_below(
+    folder: str, stops: Stops, projection: Projection, sheet: Sheet, base: str | None
+) -> tuple[list[drawing.Lines], str]:
+    """The lines on which vehicles run, and what is said of them."""
     points, shaped = lines_of(folder, stops, projection), has_file(folder, "shapes.txt")
     if sheet.planned is None:
         lines = lines_of_edits(points, folder, shaped, sheet.edits, base)
     else:
         lines = lines_of_plan(points, folder, shaped, sheet.planned)
     drawn_from = "Lines as in shapes.txt." if shaped else "Lines drawn straight from stop to stop."
-    picture = replace(picture, title=sheet.title or picture.title)
-    return drawing.draw(picture, shown_stops, lines, f"{drawn_from} {sheet.note}".strip(), sheet.width)
+    return lines, f"{drawn_from} {sheet.note}".strip()
+
+
+def figure_of_isochrones(matrix: Matrix, stops: Stops, folder: str, sheet: Sheet, areas: Areas) -> Any:
+    """The areas that are reached from an origin in a scenario, over the lines of a feed."""
+    there, share = stops.of(matrix.stops), matrix.share(areas.wish.share)
+    scenario = matrix.scenario(areas.wish.scenario or areas.wish.base)
+    seconds = matrix.seconds(scenario, share, areas.origin).astype(np.float64)
+    bands = bands_of(areas.ground, seconds, areas.walking, areas.wish.breaks or BANDS)
+    named = stops.of([areas.origin])
+    title = sheet.title or f"Areas that are reached from {named.name_of(areas.origin)}"
+    told = f"{bands[-1].shape.area:,.1f} km² within {bands[-1].minutes:g} minutes"
+    place = there.places.get(areas.origin)
+    picture = Picture(
+        title, told, "Reached within", [], np.zeros(0, np.intp), source_told(shown(scenario), share, matrix), place
+    )
+    lines, note = lines_below(folder, stops, areas.ground.projection, sheet, None)
+    return draw_bands(picture, there, lines, note, sheet.width, (areas.ground, bands))
