@@ -242,3 +242,11 @@ def test_pictures_name_days_windows_and_scenarios() -> None:
     image = heat.axes[0].get_images()[0].get_array()
     assert image.tolist() == [[5.0] * 4, [1.0] * 4]
     assert [it.get_text() for it in heat.axes[0].get_xticklabels()] == ["peak", "night"] * 2
+
+
+def test_a_matrix_of_a_window_tells_its_day_and_departures(place: Place) -> None:  # noqa: F811
+    assert place.ran("study", laid_out(place))[2] == 0
+    words = ["compare", "--by", "origin", "--base", place.path("nine/matrix.omx"), "--out", place.path("c.csv")]
+    told = place.ran(*words, place.path("nine/windows/20260505_night.omx"))[1]
+    assert "(scenario base, 2026-05-05, 21:00 to 21:01); matrix is" in told
+    assert "(scenario base, 2026-05-04, 08:00 to 08:00)" in told

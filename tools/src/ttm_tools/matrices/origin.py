@@ -9,12 +9,14 @@ NOTES = "study.json"
 
 
 def told_of(path: str) -> list[str]:
-    """The day and the window of a matrix in a study's folder; nothing for another one."""
-    notes = Path(path).absolute().parent / NOTES
-    if not notes.is_file():
+    """The day and the window of a matrix in a study's folder, or in a folder of it; nothing for another one."""
+    matrix = Path(path).absolute()
+    folder = next((it for it in (matrix.parent, matrix.parent.parent) if (it / NOTES).is_file()), None)
+    if folder is None:
         return []
     try:
-        run = read_json(notes, "study.json")["run"]
+        notes = read_json(folder / NOTES, "study.json")
+        run = notes["run"] if folder == matrix.parent else notes["windows"][f"{matrix.parent.name}/{matrix.name}"]
         date, (first, last) = str(run["date"]), run["window"]
     except (BadInput, KeyError, TypeError, ValueError):
         return []

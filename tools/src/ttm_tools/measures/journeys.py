@@ -16,6 +16,8 @@ from ..timetable import Events, Flags, Runs, Walks, Whole
 
 NEVER = 1 << 40
 AT_ONCE = 30  # departures that share a part of the network
+NEAR = 4 * 3600  # seconds after the last departure that are looked at first
+FEW = 1 << 16  # stops, which numpy puts in order by counting
 Places = npt.NDArray[np.intp]
 
 
@@ -72,10 +74,11 @@ def first_of_each(run: Whole) -> Whole:
 
 
 def groups_of(keys: Whole) -> tuple[Places, Places, Places]:
-    """An order by keys, where each key begins in it, and these keys."""
-    order = np.argsort(keys, kind="stable")
-    found, begins = np.unique(keys[order], return_index=True)
-    return order, begins, found
+    """An order by keys, which are places of stops, where each key begins in it, and these keys."""
+    order = np.argsort(keys.astype(np.uint16) if keys.max(initial=0) < FEW else keys, kind="stable")
+    ordered = keys[order]
+    begins = np.flatnonzero(np.concatenate([[True], ordered[1:] != ordered[:-1]])[: len(ordered)])
+    return order, begins, ordered[begins]
 
 
 def least_of(values: Whole, groups: tuple[Places, Places, Places], count: int) -> Whole:
@@ -201,8 +204,12 @@ def way_to(search: Search, times: Whole, stop: int, departure: int) -> tuple[int
 def durations(network: Network, origin: int, stop: int, departures: list[int], rides: int) -> list[int | None]:
     """The least duration for each departure, ascending; None where nobody gets there."""
     low, high, place, last = 0, len(departures), len(departures) - 1, 0  # from `high` on nobody gets there
+    end = departures[-1] + NEAR
+    near = network.within(departures[0], end)
     while low < high:
-        found = Search(network, origin, departures[place], rides).arrival(stop)
+        found = Search(near, origin, departures[place], rides).arrival(stop)
+        if found is None or found > end:
+            found = Search(network, origin, departures[place], rides).arrival(stop)
         low, high, last = (low, place, last) if found is None else (place + 1, high, found)
         place = (low + high) // 2
     made: list[int | None] = [None] * len(departures)
