@@ -1,0 +1,91 @@
+"""A grid of cells in a study: the same cells as those of `ttm-tools points --grid`, with people in them; by hand on
+nine stops.
+"""
+
+from pathlib import Path
+
+import pytest
+
+from helpers import METRE, read
+from test_study import STUDY, Place, bare, place  # noqa: F401
+from ttm_tools.matrices import open_matrix
+
+RUN = STUDY[: STUDY.index("[opportunities]")].replace("limits = [600, 1800]", "limits = [1800]")
+GRID = '[points]\ngrid = 300\ngrid_people = ["addresses.csv"]\n'
+RESULTS = "[results]\nmaps = false\npage = false\n"
+
+
+def laid_out(place: Place, more: str) -> str:  # noqa: F811
+    """Two addresses: 2 people 10 metres north of S0, and 5 people and a doctor 20 metres south of S8."""
+    path = place.lay_out(RUN + GRID + more + RESULTS)
+    rows = [["a", 50 + 10 * METRE, 7, 2, 0], ["b", 50.032 - 20 * METRE, 7, 5, 1]]
+    place.write("addresses.csv", "id,lat,lon,residents,doctors", rows)
+    place.write("doctors.csv", "id,lat,lon,doctors", [["one", 50.032, 7, 1]])
+    return path
+
+
+def test_the_cells_are_those_of_points_with_a_grid(place: Place) -> None:  # noqa: F811
+    path = laid_out(place, '[opportunities]\ncolumns = ["doctors"]\ngroups = ["residents"]\n')
+    _, told, status = place.ran("study", path)
+    assert status == 0, told
+    feed, out = place.path("nine/inputs/feed"), place.path("cells")
+    words = ["--grid", "300", "--people", place.path("addresses.csv"), "--out", out]
+    assert place.ran("points", feed, *words)[2] == 0
+    for name in ("feed/points.csv", "feed/stops.txt", "footpaths.csv", "origins.csv", "destinations.csv"):
+        assert Path(out, name).read_bytes() == Path(place.path(f"nine/inputs/points/{name}")).read_bytes()
+    cells = read(Path(place.path("nine/inputs/grid.csv")).read_text())
+    assert [it["residents"] for it in cells if it["residents"] != "0"] == ["2", "5"]
+    (line,) = read(Path(place.path("nine/equity.csv")).read_text())[1:2]
+    assert (line["group"], line["people"]) == ("residents", "7")
+    matrix = open_matrix(place.path("nine/matrix.omx"))
+    assert matrix.origins("base", 50) == matrix.stops == [it["id"] for it in cells]
+    report = Path(place.path("nine/report.md")).read_text()
+    assert "inputs/grid.csv" not in report.split("SHA-256 checksums")[1].split("What was done")[0]
+    assert place.ran("study", "--verify", place.path("nine"))[2] == 0
+
+
+def test_cells_are_the_end_that_no_file_names(place: Place) -> None:  # noqa: F811
+    more = 'destinations = ["doctors.csv"]\n[opportunities]\ngroups = ["residents"]\n'
+    assert place.ran("study", laid_out(place, more))[2] == 0
+    matrix = open_matrix(place.path("nine/matrix.omx"))
+    assert matrix.stops == ["one"] and len(matrix.origins("base", 50)) > 9
+    (line,) = [it for it in read(Path(place.path("nine/equity.csv")).read_text()) if it["percentile"] == "50"]
+    # the 5 people who live 20 metres from the doctor reach one; no bus along leaves S0 after 08:00 for the 2 at S0
+    assert (line["opportunity"], line["people"], line["mean"]) == ("doctors", "7", f"{5 / 7:.4f}")
+
+
+def test_what_is_done_of_a_grid_is_not_done_again(place: Place) -> None:  # noqa: F811
+    path = laid_out(place, '[opportunities]\ngroups = ["residents"]\n')
+
+    def stages() -> list[str]:
+        _, told, status = place.ran("study", path)
+        assert status == 0, told
+        return [line.removesuffix(" ..") for line in told.splitlines() if line.endswith(" ..")]
+
+    assert stages()[:3] == ["feed", "grid", "points"]
+    assert stages() == []
+    place.write("addresses.csv", "id,lat,lon,residents,doctors", [["a", 50, 7, 3, 1]])
+    assert stages()[:2] == ["grid", "points"]
+
+
+@pytest.mark.parametrize(
+    "more, told",
+    [
+        ('[points]\ngrid_area = "region.geojson"\nfiles = ["homes.csv"]\n', "grid_area needs grid"),
+        ('[points]\ngrid = 300\norigins = ["homes.csv"]\ndestinations = ["homes.csv"]\n', "cells are the other end"),
+        ("[points]\ngrid = 5\n", "allowed: a number from 10 to 100,000 metres"),
+        ("[points]\ngrid = 300\n[walks]\nnone = true\n", "none doesn't go with [points], whose walks are made"),
+        ('[points]\ngrid = 300\ngrid_people = ["none.csv"]\n', "grid_people 'none.csv' isn't there"),
+    ],
+)
+def test_grids_that_do_not_fit_are_told(bare: Place, more: str, told: str) -> None:  # noqa: F811
+    path = bare.lay_out(RUN + more)
+    for name in ("region.geojson", "homes.csv"):
+        (bare.folder / name).touch()
+    out, said, status = bare.ran("study", path)
+    assert (out, status) == ("", 1) and told in said and said.count("\n") == 1, said
+
+
+def test_a_column_that_no_cell_has_is_told(place: Place) -> None:  # noqa: F811
+    _, told, status = place.ran("study", laid_out(place, '[opportunities]\ngroups = ["elderly"]\n'))
+    assert status == 1 and "[opportunities] names a group elderly; there are residents, doctors" in told
