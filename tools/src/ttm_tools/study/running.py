@@ -8,7 +8,7 @@ import threading
 import time
 from dataclasses import dataclass
 from types import FrameType
-from typing import Generator, Iterator, Sequence
+from typing import Callable, Generator, Iterator, Sequence
 
 from .. import progress
 from ..engine import Run
@@ -38,7 +38,7 @@ def run_parts(run: Run, parts: Sequence[Part], at_once: int, threads: int) -> li
     if len(parts) > len(missing) > 0:
         say(f"parts: {len(parts) - len(missing)} of {len(parts)} are there already")
     failed, pool = list[Failed](), Pool(run, missing, at_once, threads)
-    with ends_gently(pool), contextlib.closing(ends_of(pool)) as ended:
+    with ends_gently(pool.end), contextlib.closing(ends_of(pool)) as ended:
         for it in shown(ended, len(missing)):
             if it is not None:
                 failed.append(it)
@@ -88,13 +88,16 @@ class Pool:
             self.said = time.monotonic()
             say(f"parts: {len(self.running)} go on, {len(self.waiting)} wait")
 
+    def end(self) -> None:
+        self.is_ending = True
+
     def stop(self) -> None:
         for _, it in self.running.values():
             it.stop()
 
 
 @contextlib.contextmanager
-def ends_gently(pool: Pool) -> Iterator[None]:
+def ends_gently(begin_no_more: Callable[[], None]) -> Iterator[None]:
     """Has the first Ctrl-C begin no more parts, and the second one do what it does elsewhere."""
     before = signal.getsignal(signal.SIGINT)
     if threading.current_thread() is not threading.main_thread() or before is signal.SIG_IGN:
@@ -103,7 +106,7 @@ def ends_gently(pool: Pool) -> Iterator[None]:
 
     def end(_: int, __: FrameType | None) -> None:
         signal.signal(signal.SIGINT, before)
-        pool.is_ending = True
+        begin_no_more()
 
     signal.signal(signal.SIGINT, end)
     try:
