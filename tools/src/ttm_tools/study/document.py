@@ -32,13 +32,17 @@ img { max-width: 100%; height: auto; }
   .wide { overflow: visible; }
   table { display: table; width: calc(100% - 1mm); font-size: 7.5pt; }
   caption { font-size: 9pt; }
-  th, td { padding: 0.5mm 1mm; overflow-wrap: break-word; }
+  th, td { padding: 0.5mm 1mm; }
+  table.many { font-size: 6.5pt; }
+  table.many :is(th, td) { padding: 0.5mm 0.6mm; }
+  td { overflow-wrap: anywhere; } /* names end lines where they must, so that all columns are on the sheet */
   thead { display: table-header-group; }
   tr, img { break-inside: avoid; }
   h2, h3, caption { break-after: avoid; }
   img { max-height: 240mm; }
   pre { font-size: 8pt; }
 }"""
+MANY = 10  # columns; a table of more is printed in smaller letters
 SUM = re.compile("[0-9a-f]{64}")
 PNG = "data:image/png;base64,"
 
@@ -77,9 +81,9 @@ class Document:
         head = "".join(f'<th scope="col">{html.escape(name)}</th>' for name in header)
         body = "".join("<tr>" + "".join(map(data, row)) + "</tr>" for row in rows)
         inner = f"<caption>{html.escape(caption)}</caption><thead><tr>{head}</tr></thead><tbody>{body}</tbody>"
-        label = html.escape(caption)
+        label, kind = html.escape(caption), ' class="many"' if len(header) > MANY else ""
         self.body.append(
-            f'<div class="wide" role="region" aria-label="{label}" tabindex="0"><table>{inner}</table></div>'
+            f'<div class="wide" role="region" aria-label="{label}" tabindex="0"><table{kind}>{inner}</table></div>'
         )
 
     def paragraph_of_markdown(self, text: str) -> None:
