@@ -73,7 +73,7 @@ def test_nothing_of_a_report_is_cut_off_on_paper(room: Room, browser: Browser) -
 
 def test_the_report_counts_who_loses_and_gains_as_compare_does(place: Place) -> None:  # noqa: F811
     assert place.ran("study", place.lay_out(NO_MAPS))[2] == 0
-    words = ["compare", "--by", "origin", "--share", "25", "--within", "1800", "--out", place.path("c.csv")]
+    words = ["compare", "--by", "origin", "--share", "50", "--within", "1800", "--out", place.path("c.csv")]
     _, told, status = place.ran(*words, place.path("nine/matrix.omx"))
     counts = re.search(r"[0-9]+ lose[^,]*, [0-9]+ gain( \([^)]*\))?", told)
     assert status == 0 and counts is not None, told

@@ -12,8 +12,8 @@ from ..escaping import markdown, printed
 
 STYLE = """\
 body { font: 16px/1.5 sans-serif; margin: 0; color: #222; }
-main { max-width: 60em; margin: 2em auto; padding: 0 1em; }
-h1, h2, h3, p, li { overflow-wrap: anywhere; }
+main { max-width: 74em; margin: 2em auto; padding: 0 1em; }
+h1, h2, h3, p, li { max-width: 60em; overflow-wrap: anywhere; }
 .wide { overflow-x: auto; margin: 1em 0; }
 .wide:focus-visible { outline: 3px solid #0b57a4; outline-offset: 2px; }
 table { border-collapse: collapse; font-size: 0.9em; }
@@ -35,7 +35,7 @@ img { max-width: 100%; height: auto; }
   th, td { padding: 0.5mm 1mm; }
   table.many { font-size: 6.5pt; }
   table.many :is(th, td) { padding: 0.5mm 0.6mm; }
-  td { overflow-wrap: anywhere; } /* names end lines where they must, so that all columns are on the sheet */
+  td.long { overflow-wrap: anywhere; } /* so that all columns are on the sheet */
   thead { display: table-header-group; }
   tr, img { break-inside: avoid; }
   h2, h3, caption { break-after: avoid; }
@@ -43,6 +43,7 @@ img { max-width: 100%; height: auto; }
   pre { font-size: 8pt; }
 }"""
 MANY = 10  # columns; a table of more is printed in smaller letters
+LONG = 12  # characters; more may be broken on paper
 SUM = re.compile("[0-9a-f]{64}")
 PNG = "data:image/png;base64,"
 
@@ -121,5 +122,6 @@ def cell(text: str) -> str:
 
 def data(text: str) -> str:
     number = text.lstrip("+-").replace(",", "").replace(".", "", 1).isdecimal()
-    kind = ' class="number"' if number else ' class="sum"' if SUM.fullmatch(text) else ""
-    return f"<td{kind}>{html.escape(text)}</td>"
+    kind = "number" if number else "sum" if SUM.fullmatch(text) else "long" if len(text) > LONG else ""
+    attribute = f' class="{kind}"' if kind else ""
+    return f"<td{attribute}>{html.escape(text)}</td>"
