@@ -1,4 +1,6 @@
-"""Small files that would fill the memory: each ends in one line, within 2 GB of addresses and 1 GB of memory."""
+"""Small files that would fill the memory or the disk: each ends in one line, within 2 GB of addresses, 1 GB of memory,
+and files of 100 MB.
+"""
 
 import os
 import resource
@@ -15,7 +17,8 @@ from helpers import LAUNCHER, Room
 from test_opening import FEED
 
 MOST = 2_000_000_000  # bytes of addresses, as by `ulimit -v`
-MOST_TAKEN = 1_000_000_000  # and of memory that is taken
+MOST_TAKEN = 1_000_000_000  # of memory that is taken
+MOST_WRITTEN = 100_000_000  # and of a file, also of one that is unpacked
 Bomb = Callable[[Path], "tuple[list[str], str]"]  # the command, and what its line says
 
 
@@ -118,6 +121,7 @@ BOMBS: list[Bomb] = [
 
 def limited() -> None:
     resource.setrlimit(resource.RLIMIT_AS, (MOST, MOST))
+    resource.setrlimit(resource.RLIMIT_FSIZE, (MOST_WRITTEN, MOST_WRITTEN))
 
 
 def ended(words: list[str]) -> tuple[int, str, int]:

@@ -17,7 +17,6 @@ pytest.importorskip("jinja2")
 pytest.importorskip("pandas")
 
 from ttm_tools.matrices import open_matrix  # noqa: E402
-from ttm_tools.study.document import Document  # noqa: E402
 from ttm_tools.views.page import make, parts, places  # noqa: E402
 
 HOSTILE = [
@@ -407,15 +406,3 @@ def test_cells_have_a_height_of_their_own(town: Town, browser: Browser) -> None:
         "return [...numbers.widths].map((wide, place) => [head.identifiers[place], wide, numbers.heights[place]])"
     )
     assert sorted(sides) == [["A", 200, 800], ["D", 300, 300]]
-
-
-def test_captions_of_a_report_are_read_on_a_phone(town: Town, browser: Browser) -> None:
-    made = Document("Report")
-    made.table("Who gains most, of all origins (compare_evening.csv has all)", [f"column {n}" for n in range(20)], [])
-    path = Path(town.path("report.html"))
-    path.write_text(made.as_html())
-    browser.size(320, 700)
-    browser.driver.get(path.as_uri())
-    right = browser.run("return document.querySelector('caption').getBoundingClientRect().right")
-    assert browser.run("return document.querySelector('table').getBoundingClientRect().right") > 320 >= right
-    browser.size(1280, 800)

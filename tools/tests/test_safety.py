@@ -68,12 +68,16 @@ def test_names_are_text_wherever_they_are_rendered(town: Town) -> None:
     access = town.write("access.csv", "scenario,id,opportunity,percentile,cutoff,accessibility", spread)
     people = town.write("people.csv", f"stop_id,{HOSTILE}", [["A", 7], ["D", 8]])
     assert town.ran("equity", access, "--people", people, "--form", "markdown", "--out", town.path("equity.md"))[2] == 0
+    assert "<img src=x" not in (town.folder / "equity.md").read_text()
+
+
+def test_names_are_text_in_a_report() -> None:
     made = Document(HOSTILE)
     made.heading(HOSTILE)
     made.table(HOSTILE, [HOSTILE], [[HOSTILE]])
     made.link(HOSTILE, HOSTILE)
     made.code([HOSTILE])
-    for text in ((town.folder / "equity.md").read_text(), markdown(HOSTILE), made.as_html()):
+    for text in (markdown(HOSTILE), made.as_html()):
         assert "<img src=x" not in text and "onerror" in text
     outside = [line for line in made.as_markdown().splitlines() if not line.startswith("    ")]
     assert not [line for line in outside if "<img" in line or "[a](" in line]
@@ -90,20 +94,36 @@ def test_a_route_is_text_in_what_is_told_of_scenarios(room: Room) -> None:
 
 
 @pytest.mark.parametrize("text", ["$5 and $6", "$\\frac$", "a $x", "$$", "\\$", "100 % $y_1$ €"])
-def test_dollars_are_no_mathematics(town: Town, text: str) -> None:
+def test_dollars_are_no_mathematics(town: Town, text: str, monkeypatch: pytest.MonkeyPatch) -> None:
     pytest.importorskip("matplotlib")
+    from matplotlib.figure import Figure
+    from matplotlib.text import Text
+
+    figures, save = list[Any](), Figure.savefig
+
+    def saved(figure: Any, *words: Any, **more: Any) -> None:
+        figures.append(figure)
+        save(figure, *words, **more)
+
+    monkeypatch.setattr(Figure, "savefig", saved)
     town.matrix(town_matrix(True, {"base": {"A": [0, 300, 900, 2400]}, text: {"A": [0, 360, 1900, ""]}}))
     jobs = town.write("jobs.csv", f"stop_id,{text}", [["A", 7], ["D", 8]])
     spread = [[name, stop, text, 50, 30, 7.5] for name in ("base", text) for stop in "AD"]
     access = town.write("access.csv", "scenario,id,opportunity,percentile,cutoff,accessibility", spread)
-    out = ["--out", town.path("made.png"), "--feed", town.feed]
+    places = [[stop, text, number / 100, 9] for number, stop in enumerate("ABCD")]
+    town.write("stops.txt", "stop_id,stop_name,stop_lat,stop_lon", places)
+    out, table = ["--out", town.path("made.png"), "--feed", town.feed], ["--out", town.path("made.csv")]
     for words in (
         ["map", "access", "--unit", text, "--title", text, "--scenario", text, *out, town.file],
         ["map", "difference", "--unit", text, *out, town.file],
-        ["equity", access, "--people", jobs, "--out", town.path("made.png")],
+        ["map", "times", "--origin", "A", *out, town.file],
+        ["equity", access, "--people", jobs, *table, "--picture", town.path("made.png")],
+        ["bands", access, "--people", jobs, *table, "--bands", "10,20", "--picture", town.path("made.png")],
     ):
         _, said, status = town.ran(*words)
         assert status == 0, said
+        drawn = [it for it in figures.pop().findobj(Text) if text in it.get_text()]
+        assert drawn and not any(it.get_parse_math() for it in drawn), words
 
 
 def test_signs_that_are_not_printed_are_shown_as_ttm_shows_them() -> None:

@@ -79,11 +79,15 @@ class Kept:
         if missing and self.processes is None:
             self.processes = Processes(command_of(program_at(None), kept_words(self.run)), self.at_once)
         asked = [Asked(it, question_of(with_origins(run, str(it.origins_file), shape.threads))) for it in missing]
-        with ends_gently(self):
+        with ends_gently(self.end):
             failed = [it for it in shown(self.answered(asked), len(missing)) if it is not None]
         if self.is_ending:
             raise Interrupted(signal.SIGINT)
         return failed
+
+    def end(self) -> None:
+        """Has no more parts begin."""
+        self.is_ending = True
 
     def answered(self, asked: Sequence[Asked]) -> Iterator[Failed | None]:
         """What became of each part, as answers come; all processes end where this is left."""

@@ -12,8 +12,8 @@ from ..escaping import markdown, printed
 
 STYLE = """\
 body { font: 16px/1.5 sans-serif; margin: 0; color: #222; }
-main { max-width: 60em; margin: 2em auto; padding: 0 1em; }
-h1, h2, h3, p, li { overflow-wrap: anywhere; }
+main { max-width: 74em; margin: 2em auto; padding: 0 1em; }
+h1, h2, h3, p, li { max-width: 60em; overflow-wrap: anywhere; }
 .wide { overflow-x: auto; margin: 1em 0; }
 .wide:focus-visible { outline: 3px solid #0b57a4; outline-offset: 2px; }
 table { border-collapse: collapse; font-size: 0.9em; }
@@ -32,13 +32,18 @@ img { max-width: 100%; height: auto; }
   .wide { overflow: visible; }
   table { display: table; width: calc(100% - 1mm); font-size: 7.5pt; }
   caption { font-size: 9pt; }
-  th, td { padding: 0.5mm 1mm; overflow-wrap: break-word; }
+  th, td { padding: 0.5mm 1mm; }
+  table.many { font-size: 6.5pt; }
+  table.many :is(th, td) { padding: 0.5mm 0.6mm; }
+  td.long { overflow-wrap: anywhere; } /* so that all columns are on the sheet */
   thead { display: table-header-group; }
   tr, img { break-inside: avoid; }
   h2, h3, caption { break-after: avoid; }
   img { max-height: 240mm; }
   pre { font-size: 8pt; }
 }"""
+MANY = 10  # columns; a table of more is printed in smaller letters
+LONG = 12  # characters; more may be broken on paper
 SUM = re.compile("[0-9a-f]{64}")
 PNG = "data:image/png;base64,"
 
@@ -77,9 +82,9 @@ class Document:
         head = "".join(f'<th scope="col">{html.escape(name)}</th>' for name in header)
         body = "".join("<tr>" + "".join(map(data, row)) + "</tr>" for row in rows)
         inner = f"<caption>{html.escape(caption)}</caption><thead><tr>{head}</tr></thead><tbody>{body}</tbody>"
-        label = html.escape(caption)
+        label, kind = html.escape(caption), ' class="many"' if len(header) > MANY else ""
         self.body.append(
-            f'<div class="wide" role="region" aria-label="{label}" tabindex="0"><table>{inner}</table></div>'
+            f'<div class="wide" role="region" aria-label="{label}" tabindex="0"><table{kind}>{inner}</table></div>'
         )
 
     def paragraph_of_markdown(self, text: str) -> None:
@@ -117,5 +122,6 @@ def cell(text: str) -> str:
 
 def data(text: str) -> str:
     number = text.lstrip("+-").replace(",", "").replace(".", "", 1).isdecimal()
-    kind = ' class="number"' if number else ' class="sum"' if SUM.fullmatch(text) else ""
-    return f"<td{kind}>{html.escape(text)}</td>"
+    kind = "number" if number else "sum" if SUM.fullmatch(text) else "long" if len(text) > LONG else ""
+    attribute = f' class="{kind}"' if kind else ""
+    return f"<td{attribute}>{html.escape(text)}</td>"

@@ -2,23 +2,25 @@
 parallel, and waited for.
 """
 
+import signal
 import time
 from dataclasses import dataclass
 from typing import Callable, Iterator, Sequence
 
 from ..engine import Run
 from ..faults import one_line, say
-from ..files import remove
+from ..files import Interrupted, remove
 from ..threads import processors
 from .cutting import PARTS, Part
 from .hosts import by_parallel
-from .running import Failed, shown
+from .running import Failed, ends_gently, shown
 from .slurm import end_of, job_that_goes_on, submit
 from .task import write_task
 
 SECONDS_BETWEEN_LOOKS = 2.0
 SECONDS_FOR_FILES = 30.0  # until files of another host are seen here
 NO_LINE = "no matrix and no line: the output of its machine is in "
+Chosen = Callable[[Sequence[Part]], list[Part]]
 
 
 @dataclass(frozen=True)
@@ -65,8 +67,10 @@ def run_elsewhere(run: Run, parts: Sequence[Part], key: str, version: Sequence[s
     if missing and means.slurm:
         wait(missing, end_of(submit(missing, means.words)))
     elif missing:
-        with by_parallel(missing, means.hosts or ":", means.words) as is_over:
-            wait(missing, is_over)
+        with by_parallel(missing, means.hosts or ":", means.words) as work, ends_gently(work.end):
+            wait(missing, work.is_over, work.may_come)
+        if work.is_ending:
+            raise Interrupted(signal.SIGINT)
     failed = [Failed(part, told_of(part)) for part in still(missing)]
     for it in failed:
         say(f"part {it.part.number}: {it.told}")
@@ -78,14 +82,14 @@ def still(parts: Sequence[Part]) -> list[Part]:
     return [part for part in parts if not part.is_done()]
 
 
-def wait(missing: Sequence[Part], is_over: Callable[[], bool]) -> None:
+def wait(missing: Sequence[Part], is_over: Callable[[], bool], may_come: Chosen = list) -> None:
     """Waits for parts, and shows how many are done."""
-    for _ in shown(ends_of(missing, is_over), len(missing)):
+    for _ in shown(ends_of(missing, is_over, may_come), len(missing)):
         pass
 
 
-def ends_of(missing: Sequence[Part], is_over: Callable[[], bool]) -> Iterator[None]:
-    """Something for each part that is done, until all are, or all work is over."""
+def ends_of(missing: Sequence[Part], is_over: Callable[[], bool], may_come: Chosen) -> Iterator[None]:
+    """Something for each part that is done, until all are, or all work is over and no more files are seen here."""
     waiting, end = list(missing), None
     while waiting:
         over = is_over()
@@ -93,7 +97,7 @@ def ends_of(missing: Sequence[Part], is_over: Callable[[], bool]) -> Iterator[No
         yield from [None] * (len(waiting) - len(left))
         waiting = left
         if over:
-            end = end or time.monotonic() + SECONDS_FOR_FILES
+            end, waiting = end or time.monotonic() + SECONDS_FOR_FILES, may_come(waiting)
             if time.monotonic() > end or all(part.told_file.exists() for part in waiting):
                 return
         if waiting:

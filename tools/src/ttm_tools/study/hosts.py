@@ -1,13 +1,18 @@
 """The parts of a study on hosts that are reached by ssh, by GNU parallel."""
 
 import contextlib
+import csv
 import os
+import signal
 import subprocess
-from typing import Callable, Iterator, Sequence
+from pathlib import Path
+from typing import Iterator, Sequence
 
-from ..faults import needs_program
+from ..faults import needs_program, say
 from .cutting import PARTS, Part
 from .task import SCRIPT
+
+LOG = f"{PARTS}/log"
 
 
 def command(folder: str) -> str:
@@ -18,17 +23,56 @@ def command(folder: str) -> str:
     return f"""sh -c 'cd "$(printf "{name}")" && exec sh {SCRIPT} {{}}'"""
 
 
+class Hosts:
+    """GNU parallel at work on some parts. It has a session of its own, so that Ctrl-C reaches this process alone."""
+
+    def __init__(self, missing: Sequence[Part], hosts: str, words: Sequence[str]) -> None:
+        own = ["parallel", "--sshlogin", hosts, "--joblog", LOG, *words]
+        called = [*own, command(os.getcwd()), ":::", *[str(part.number) for part in missing]]
+        self.missing, self.is_ending, self.has_said_so = missing, False, False
+        with open(f"{PARTS}/hosts.txt", "wb") as told:
+            how = {"stdin": subprocess.DEVNULL, "stdout": told, "stderr": told}
+            self.process = subprocess.Popen(called, **how, start_new_session=True)
+
+    def end(self) -> None:
+        """Has no more parts begin; those that run go on."""
+        self.is_ending = True
+        self.process.send_signal(signal.SIGHUP)
+
+    def is_over(self) -> bool:
+        if self.is_ending and not self.has_said_so:
+            self.has_said_so = True
+            say("interrupted: the parts that run are waited for and kept; Ctrl-C again ends them")
+        return self.process.poll() is not None
+
+    def may_come(self, parts: Sequence[Part]) -> list[Part]:
+        """The parts whose files may still come from other hosts once parallel is over: after Ctrl-C those that were
+        done.
+        """
+        return [part for part in parts if not self.is_ending or part.number in self.done()]
+
+    def done(self) -> set[int]:
+        """The numbers of the parts that parallel's log says were done; none where it can't be read."""
+        with contextlib.suppress(OSError, KeyError, ValueError, IndexError):
+            lines = Path(LOG).read_text(encoding="utf-8", errors="replace").splitlines()
+            ended = list(csv.DictReader(lines, delimiter="\t", quoting=csv.QUOTE_NONE))
+            return {self.missing[int(row["Seq"]) - 1].number for row in ended if row["Exitval"] == "0"}
+        return set()
+
+    def stop(self) -> None:
+        """Ends what runs."""
+        if self.process.poll() is None:
+            self.process.terminate()
+            self.process.wait()
+
+
 @contextlib.contextmanager
-def by_parallel(missing: Sequence[Part], hosts: str, words: Sequence[str]) -> Iterator[Callable[[], bool]]:
-    """Runs the parts on hosts by GNU parallel; tells when it is over."""
+def by_parallel(missing: Sequence[Part], hosts: str, words: Sequence[str]) -> Iterator[Hosts]:
+    """Runs the parts on hosts by GNU parallel, and ends what runs where this is left."""
     needs_program("parallel", "parallel")
-    own = ["parallel", "--sshlogin", hosts, "--joblog", f"{PARTS}/log", *words]
-    called = [*own, command(os.getcwd()), ":::", *[str(part.number) for part in missing]]
-    with open(f"{PARTS}/hosts.txt", "wb") as told:
-        process = subprocess.Popen(called, stdin=subprocess.DEVNULL, stdout=told, stderr=told)
+    Path(LOG).unlink(missing_ok=True)
+    work = Hosts(missing, hosts, words)
     try:
-        yield lambda: process.poll() is not None
+        yield work
     finally:
-        if process.poll() is None:
-            process.terminate()
-            process.wait()
+        work.stop()

@@ -8,7 +8,7 @@ import threading
 import time
 from dataclasses import dataclass
 from types import FrameType
-from typing import Generator, Iterator, Protocol, Sequence
+from typing import Callable, Generator, Iterator, Sequence
 
 from .. import progress
 from ..engine import Run
@@ -36,7 +36,7 @@ def run_parts(run: Run, parts: Sequence[Part], at_once: int, threads: int) -> li
     """
     missing = missing_of(parts)
     failed, pool = list[Failed](), Pool(run, missing, at_once, threads)
-    with ends_gently(pool), contextlib.closing(ends_of(pool)) as ended:
+    with ends_gently(pool.end), contextlib.closing(ends_of(pool)) as ended:
         for it in shown(ended, len(missing)):
             if it is not None:
                 failed.append(it)
@@ -58,12 +58,6 @@ def tell_ending(count: int) -> None:
     """Says what becomes of the parts that run when somebody presses Ctrl-C."""
     if count:
         say(f"interrupted: {count} parts that run are waited for and kept; Ctrl-C again ends them")
-
-
-class Gentle(Protocol):
-    """Work whose parts end one by one."""
-
-    is_ending: bool  # whether no more parts begin, since somebody pressed Ctrl-C
 
 
 class Pool:
@@ -106,13 +100,16 @@ class Pool:
             self.said = time.monotonic()
             say(f"parts: {len(self.running)} go on, {len(self.waiting)} wait")
 
+    def end(self) -> None:
+        self.is_ending = True
+
     def stop(self) -> None:
         for _, it in self.running.values():
             it.stop()
 
 
 @contextlib.contextmanager
-def ends_gently(pool: Gentle) -> Iterator[None]:
+def ends_gently(begin_no_more: Callable[[], None]) -> Iterator[None]:
     """Has the first Ctrl-C begin no more parts, and the second one do what it does elsewhere."""
     before = signal.getsignal(signal.SIGINT)
     if threading.current_thread() is not threading.main_thread() or before is signal.SIG_IGN:
@@ -121,7 +118,7 @@ def ends_gently(pool: Gentle) -> Iterator[None]:
 
     def end(_: int, __: FrameType | None) -> None:
         signal.signal(signal.SIGINT, before)
-        pool.is_ending = True
+        begin_no_more()
 
     signal.signal(signal.SIGINT, end)
     try:
