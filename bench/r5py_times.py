@@ -24,7 +24,7 @@ from shared import parser_of
 
 sys.path.insert(0, str(Path(__file__).resolve().parent.parent / "tools" / "src"))
 from ttm_tools import r5py  # noqa: E402
-from ttm_tools.feed import read_stops  # noqa: E402
+from ttm_tools.gtfs.stops import read_stops  # noqa: E402
 
 DEPARTURE = datetime.datetime(2026, 5, 4, 8, 0)
 HOUR, WALK = datetime.timedelta(minutes=60), datetime.timedelta(minutes=15)

@@ -10,9 +10,10 @@ from typing import Callable, Sequence
 
 from random_feeds import Drawn
 from ttm_tools import cli
-from ttm_tools.prepare import likely, report, tables
+from ttm_tools.gtfs import feeds
+from ttm_tools.prepare import likely, report
 from ttm_tools.prepare.check import check
-from ttm_tools.prepare.fields import FILES
+from ttm_tools.gtfs.fields import FILES
 
 Records = list[list[str]]
 WORDS = "--date 20260506 --from 07:50 --to 08:10 --trips 3 --walk 600 --share 50 --within 1800 --workers 1 --tries 1"
@@ -297,7 +298,7 @@ def first_fault_differs(program: str, seed: int, room: Path) -> str:
     feed.put_into(folder)
     if seed % 7 == 0 and (folder / "stops.txt").exists():  # with a byte-order mark
         (folder / "stops.txt").write_bytes(b"\xef\xbb\xbf" + (folder / "stops.txt").read_bytes())
-    read = tables.read_feed(folder, room)
+    read = feeds.read_feed(folder, room)
     faults = check(read)
     assert all(likely.told(read)) and len(list(report.fault_rows(faults))) >= len(faults)
     mine = "".join(line + "\n" for line in list(report.fault_lines(faults))[:1])

@@ -17,7 +17,7 @@ from ttm_tools.plans.base import Base, read_base
 from ttm_tools.plans.carrying_out import carried_out
 from ttm_tools.plans.nearness import told_nearer
 from ttm_tools.plans.plan_file import Entry, PlannedScenario
-from ttm_tools.prepare.fields import FILES, clock
+from ttm_tools.gtfs.fields import FILES, clock
 
 Values = dict[str, Any]
 Rows = dict[str, list[list[str]]]

@@ -13,7 +13,7 @@ from typing import Any, Mapping, Sequence
 import pytest
 
 from ttm_tools import cli
-from ttm_tools.feed import EARTH
+from ttm_tools.gtfs.stops import EARTH
 
 Cell = int | str
 Table = list[list[Any]]

@@ -11,7 +11,7 @@ from browser import Browser
 from helpers import TOWN, Town, town_matrix
 from test_maps import figure
 from ttm_tools.faults import BadInput
-from ttm_tools.feed import Projection, Stops, read_stops
+from ttm_tools.gtfs.stops import Projection, Stops, read_stops
 from ttm_tools.matrices import open_matrix
 from ttm_tools.points.areas import AREAS_FILE, areas_beside
 from ttm_tools.points.shown import shown_of

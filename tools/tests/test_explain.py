@@ -13,9 +13,10 @@ import pytest
 
 from helpers import CALENDAR, STOP_TIMES, Room
 from test_damages import damaged
-from ttm_tools.feed import read_stops
+from ttm_tools.gtfs.stops import read_stops
 from ttm_tools.measures.journeys import Leg, Search, cell, durations, journey, network_of
-from ttm_tools.timetable import read_edits, read_timetable, read_walks, runs_of
+from ttm_tools.gtfs.footpaths import read_walks
+from ttm_tools.gtfs.timetable import read_edits, read_timetable, runs_of
 from ttm_tools.views.itineraries import parts_of
 
 ROOT = Path(__file__).resolve().parents[2]

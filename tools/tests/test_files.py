@@ -76,14 +76,14 @@ def test_a_signal_leaves_nothing_behind(room: Room, name: str) -> None:
 WAITING = """
 import sys, time
 sys.path.insert(0, sys.argv[1])
-import ttm_tools.feed
+import ttm_tools.gtfs.stops
 from ttm_tools import cli, files
 
 def wait(*_):
     print("begun", flush=True)
     time.sleep(30)
 
-ttm_tools.feed.read_stops = wait
+ttm_tools.gtfs.stops.read_stops = wait
 files.unwind_on_signals()
 sys.exit(cli.main(["walks", sys.argv[2]]))
 """

@@ -8,7 +8,7 @@ from pathlib import Path
 import pytest
 
 from helpers import TOWN, Cell, Town, read, town_matrix
-from ttm_tools.feed import read_stops
+from ttm_tools.gtfs.stops import read_stops
 from ttm_tools.matrices import open_matrix
 from ttm_tools.views import long
 

@@ -8,7 +8,8 @@ import numpy as np
 import pytest
 
 from helpers import CALENDAR, STOP_TIMES, TOWN, Table, Town, read, town_matrix
-from ttm_tools.feed import Projection, lines_of, pieces, read_stops, read_trips, removed_trips
+from ttm_tools.gtfs.lines import lines_of, pieces, read_trips, removed_trips
+from ttm_tools.gtfs.stops import Projection, read_stops
 
 matplotlib = pytest.importorskip("matplotlib")
 

@@ -14,7 +14,7 @@ from helpers import LAUNCHER, STOP_TIMES, Room, Town, town_matrix
 from ttm_tools import cli
 from ttm_tools.faults import BadInput
 from ttm_tools.opening import zips
-from ttm_tools.prepare import tables
+from ttm_tools.gtfs import feeds
 from ttm_tools.records import records
 
 FEED = {
@@ -79,7 +79,7 @@ def test_what_a_zip_has_beside_a_feed_is_not_unpacked(room: Room, monkeypatch: p
         seen.append(member)
         return unpack(archive, member, target)
 
-    for module in (zips, tables):
+    for module in (zips, feeds):
         monkeypatch.setattr(module, "unpack_member", noted)
     assert room.ran("prepare", "--check", str(path))[2] == 0
     assert sorted(seen) == sorted(FEED)

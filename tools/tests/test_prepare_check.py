@@ -7,7 +7,7 @@ import pytest
 
 from damages import WORDS, first_fault_differs
 from helpers import CALENDAR, METRE, STOP_TIMES, Room
-from ttm_tools.prepare.tables import read_feed
+from ttm_tools.gtfs.feeds import read_feed
 
 
 @pytest.fixture
@@ -176,7 +176,7 @@ def test_a_long_file_is_read_alike_by_pandas(feed: Room, monkeypatch: pytest.Mon
     edit(feed, "stop_times.txt", "T,08:10:00,08:10:00,B,2", "T,08:10:00,08:10:00\n\nT,x,,B,3")
     path = Path(feed.path("stop_times.txt"))
     before = read_feed(feed.folder, feed.folder).tables["stop_times.txt"]
-    monkeypatch.setattr("ttm_tools.records.SMALL", 0)
+    monkeypatch.setattr("ttm_tools.gtfs.reading.SMALL", 0)
     for blank in ("", " \n"):
         path.write_text(path.read_text() + blank)
         table = read_feed(feed.folder, feed.folder).tables["stop_times.txt"]

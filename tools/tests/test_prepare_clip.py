@@ -100,9 +100,9 @@ def test_a_long_file_is_clipped_alike_and_faults_outside_are_not_looked_at(
         file.write("W,x,,D,1\n")
     clipped(feed, "--box", SOUTH)
     before = {path.name: path.read_bytes() for path in (feed.folder / "out").iterdir()}
-    monkeypatch.setattr("ttm_tools.records.SMALL", 0)
+    monkeypatch.setattr("ttm_tools.gtfs.reading.SMALL", 0)
     for count in (1, 2, 3, 7):
-        monkeypatch.setattr("ttm_tools.records.ROWS_AT_ONCE", count)
+        monkeypatch.setattr("ttm_tools.gtfs.reading.ROWS_AT_ONCE", count)
         for path in (feed.folder / "out").iterdir():
             path.unlink()
         clipped(feed, "--box", SOUTH)

@@ -15,7 +15,7 @@ import pytest
 
 from damages import Damaged, damage_stays, right_feed_differs
 from helpers import CALENDAR, LAUNCHER, STOP_TIMES, Room, Table
-from ttm_tools.prepare import tables
+from ttm_tools.gtfs import feeds, tables
 from ttm_tools.prepare.check import check
 from ttm_tools.prepare.rules import repair
 
@@ -241,7 +241,7 @@ def test_what_was_mended_has_no_faults(tmp_path: Path) -> None:
     for seed in range(300):
         damaged = Damaged(seed)
         damaged.put_into(tmp_path / str(seed))
-        feed = tables.read_feed(tmp_path / str(seed), tmp_path)
+        feed = feeds.read_feed(tmp_path / str(seed), tmp_path)
         faults = check(feed)
         done = repair(feed)
         assert (seed, check(feed)) == (seed, []) and (done or not faults)
@@ -251,15 +251,15 @@ def test_columns_are_written_as_they_are_read(feed: Room, monkeypatch: pytest.Mo
     monkeypatch.setattr(tables, "ROWS_AT_ONCE", 2)
     feed.write("in/stops.txt", HEAD, [["A", 'Al, "pha"\n', "", "x"], ["B", "", "0", ""], ["C", " ", "", ""]])
     feed.write("in/routes.txt", "route_id", [["R"], ["Q"], ["P"]])
-    read = tables.read_feed(feed.path("in"), feed.folder)
+    read = feeds.read_feed(feed.path("in"), feed.folder)
     (feed.folder / "made").mkdir()
     for table in read.tables.values():
         table.source = None
-    tables.write_feed(read, feed.folder / "made")
+    feeds.write_feed(read, feed.folder / "made")
     for path in (feed.folder / "in").iterdir():
         assert (feed.folder / "made" / path.name).read_bytes() == path.read_bytes()
     read.tables["routes.txt"].put("route_id", np.array([1]), [""])
-    tables.write_feed(read, feed.folder / "made")
+    feeds.write_feed(read, feed.folder / "made")
     assert (feed.folder / "made" / "routes.txt").read_text() == 'route_id\nR\n""\nP\n'
 
 

@@ -10,6 +10,7 @@ import pytest
 from helpers import Room
 from ttm_tools import records
 from ttm_tools.faults import BadInput
+from ttm_tools.gtfs import columns, reading
 
 
 def test_bytes_that_are_not_utf8_are_kept_and_shown_as_windows_1252(room: Room) -> None:
@@ -18,7 +19,7 @@ def test_bytes_that_are_not_utf8_are_kept_and_shown_as_windows_1252(room: Room) 
     found = list(records.rows(path, ["stop_id"]))
     assert found == [(2, ["A"]), (3, ["B\udce9"])]
     assert (records.shown(found[1][1][0]), records.field(found[1][1][0])) == ("Bé", b"B\xe9")
-    assert records.columns(path, ["stop_id"])["stop_id"].values == ["A", "B\udce9"]
+    assert reading.columns(path, ["stop_id"])["stop_id"].categories.tolist() == ["A", "B\udce9"]
 
 
 def test_a_missing_column_is_told(room: Room) -> None:
@@ -26,15 +27,15 @@ def test_a_missing_column_is_told(room: Room) -> None:
     with pytest.raises(BadInput) as seen:
         list(records.rows(path, ["c"]))
     with pytest.raises(BadInput) as same:
-        records.columns(path, ["c"])
+        reading.columns(path, ["c"])
     assert str(seen.value) == str(same.value) == f"{path}: record 1: no column c"
 
 
-@pytest.mark.parametrize("read", [records.columns, records.columns_by_records])
+@pytest.mark.parametrize("read", [reading.columns, reading.columns_by_records])
 def test_columns_are_those_of_the_records(
-    room: Room, read: Callable[..., dict[str, records.Column]], monkeypatch: pytest.MonkeyPatch
+    room: Room, read: Callable[..., reading.Columns], monkeypatch: pytest.MonkeyPatch
 ) -> None:
-    monkeypatch.setattr(records, "ROWS_AT_ONCE", 7)
+    monkeypatch.setattr(reading, "ROWS_AT_ONCE", 7)
     draw = random.Random(3)
     texts = ["", "a", "0004", "NA", "x,y", 'q"q', "line\nend", "1e3", " b", "é", "B\udce9"]
     rows = [[draw.choice(texts) for _ in range(3)] for _ in range(50)]
@@ -42,13 +43,12 @@ def test_columns_are_those_of_the_records(
         records.write_rows(file, ["a", " b ", "c"], rows)
     found = read(room.path("t.csv"), ("c", "b"))
     for name, place in (("b", 1), ("c", 2)):
-        assert [found[name].values[code] for code in found[name].codes] == [row[place] for row in rows]
+        assert columns.texts_of(found[name]) == [row[place] for row in rows]
 
 
 def test_records_with_more_fields_than_the_header_are_read(room: Room) -> None:
     path = room.write("t.csv", "a,b", [["1", "2", "3", "4"], ["5"], ["6", "7"]])
-    found = records.columns(path, ["b"])["b"]
-    assert [found.values[code] for code in found.codes] == ["2", "", "7"]
+    assert columns.texts_of(reading.columns(path, ["b"])["b"]) == ["2", "", "7"]
 
 
 def test_a_column_that_is_not_there_is_empty_however_long_a_record_is(room: Room) -> None:
@@ -58,10 +58,10 @@ def test_a_column_that_is_not_there_is_empty_however_long_a_record_is(room: Room
 
 def test_a_number_that_is_none_is_told_by_its_record(room: Room) -> None:
     path = room.write("t.csv", "a,b", [["1", "2"], ["x", "1"], ["1_0", "3"]])
-    column = records.columns(path, ["a", "b"])
-    assert column["b"].numbers(path, "b").tolist() == [2, 1, 3]
+    found = reading.columns(path, ["a", "b"])
+    assert columns.numbers_of(found["b"], path, "b").tolist() == [2, 1, 3]
     with pytest.raises(BadInput) as seen:
-        column["a"].numbers(path, "a")
+        columns.numbers_of(found["a"], path, "a")
     assert str(seen.value) == f"{path}: record 3: a 'x' is no number"
 
 

@@ -11,7 +11,7 @@ from typing import Any
 import pytest
 
 from helpers import CALENDAR, METRE, STOP_TIMES, Room, Table, launched
-from ttm_tools.feed import read_stops
+from ttm_tools.gtfs.stops import read_stops
 from ttm_tools.walks import Pace, straight_walks
 
 

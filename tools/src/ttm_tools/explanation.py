@@ -8,12 +8,14 @@ from typing import Iterator, Sequence
 
 from .engine import Pathlike, Run, nearer_by_plan, origins_file, run
 from .faults import BadInput, say
-from .feed import read_stops
+from .gtfs.stops import read_stops
 from .files import scratch
 from .matrices import BASE, TODAY, Matrix, open_matrix
 from .measures.journeys import Search, cell, durations, journey, network_of
 from .records import shown
-from .timetable import DAY, Timetable, Walks, Whole, read_edits, read_timetable, read_walks, runs_of
+from .gtfs.fields import Whole
+from .gtfs.footpaths import Walks, read_walks
+from .gtfs.timetable import DAY, Timetable, read_edits, read_timetable, runs_of
 from .views.journeys import Asked, Found
 
 

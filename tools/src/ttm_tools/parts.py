@@ -7,7 +7,7 @@ from pathlib import Path
 from typing import BinaryIO, Sequence, TypeVar
 
 from .faults import BadInput, some
-from .feed import in_folder, kind_of
+from .gtfs.stops import in_folder, kind_of
 from .files import many_written_aside
 from .matrices.layout import layout_of
 from .matrices.lines import content, count_of_fields, fields_of, head_of, read_record, records_of, refuse_wide

@@ -8,8 +8,6 @@ in a text as Python's surrogate escapes and written back as they were. What peop
 import csv
 import io
 import math
-import os
-import re
 from dataclasses import dataclass
 from pathlib import Path
 from typing import Any, BinaryIO, Callable, Iterable, Iterator, Sequence
@@ -17,13 +15,10 @@ from typing import Any, BinaryIO, Callable, Iterable, Iterator, Sequence
 import numpy as np
 import numpy.typing as npt
 
-from .faults import BadInput, needs
+from .faults import BadInput
 from .opening.tables import MOST_COLUMNS, looked_at
-from .progress import told
 
 Texts = npt.NDArray[np.object_]
-ROWS_AT_ONCE = 1_000_000
-BYTES_AT_ONCE = 50 * ROWS_AT_ONCE  # of a file of so many records, about
 
 
 def records(path: str | Path) -> Iterator[tuple[int, list[str]]]:
@@ -76,23 +71,6 @@ def rows(path: str | Path, needed: Sequence[str], wanted: Sequence[str] = ()) ->
         yield number, [fields[place] for place in chosen]
 
 
-@dataclass(frozen=True)
-class Column:
-    """A column of many records: the texts that stand in it, each once, and which of them each record has."""
-
-    values: list[str]
-    codes: npt.NDArray[np.int32]
-
-    def numbers(self, path: str | Path, name: str) -> npt.NDArray[np.float64]:
-        """The column as numbers; the first record that has none is told."""
-        made = np.array([number_of(text) for text in self.values] or [0.0])
-        bad = np.flatnonzero(np.isnan(made[self.codes]))
-        if len(bad):
-            value = self.values[self.codes[bad[0]]]
-            raise BadInput(path, "is no number", record=int(bad[0]) + 2, column=name, value=value)
-        return made[self.codes]
-
-
 def number_of(text: str) -> float:
     """The number that a field states, NaN where it states none."""
     try:
@@ -102,114 +80,10 @@ def number_of(text: str) -> float:
     return number if math.isfinite(number) else math.nan
 
 
-def columns(path: str | Path, needed: Sequence[str]) -> dict[str, Column]:
-    """The needed columns of a file of many records, as quick as pandas reads and with little memory; where it can't,
-    record by record.
-    """
-    return columns_of(path, needed, lambda piece: None)[0]
-
-
-Piece = dict[str, Column]
-Keep = Callable[[Piece], "npt.NDArray[np.bool_] | None"]
-
-
-def columns_of(path: str | Path, needed: Sequence[str], keep: Keep) -> tuple[Piece, npt.NDArray[np.int64]]:
-    """The needed columns of those records that `keep` chooses of a piece (all where it says None), and the numbers of
-    these records.
-    """
-    try:
-        return joined_pieces(pieces(path, needed), needed, keep)
-    except ODD:
-        return joined_pieces([columns_by_records(path, needed)], needed, keep)
-
-
-ODD = (ValueError, OverflowError)  # what pandas raises of records that it doesn't take, ParserError among it
-
-
-def pieces(path: str | Path, needed: Sequence[str]) -> Iterator[Piece]:
-    """The needed columns of a file of many records, a million records at a time, as pandas reads them."""
-    needs("pandas")
-    import pandas
-
-    how = {"dtype": "category", "keep_default_na": False, "index_col": False, "chunksize": ROWS_AT_ONCE}
-    how |= {"encoding": "utf-8-sig", "encoding_errors": "surrogateescape", "low_memory": False}
-    _, header = next(records(path), (1, list[str]()))
-    places = places_of(header, path, needed)
-    heads = {str(number): name for name, number in places.items() if name in needed}
-    names = [str(number) for number in range(len(header))]
-    with pandas.read_csv(path, names=names, header=0, usecols=sorted(heads), **how) as read:
-        for piece in told(read, os.path.getsize(path) // BYTES_AT_ONCE, os.path.basename(path), "M records"):
-            parts = {name: piece[head].cat for head, name in heads.items()}
-            yield {
-                name: Column(list(it.categories), it.codes.to_numpy().astype(np.int32)) for name, it in parts.items()
-            }
-
-
-def joined_pieces(some: Iterable[Piece], needed: Sequence[str], keep: Keep) -> tuple[Piece, npt.NDArray[np.int64]]:
-    """The columns of pieces that follow one another, and the numbers of the records that are kept."""
-    found: dict[str, dict[str, int]] = {name: {} for name in needed}
-    codes: dict[str, list[npt.NDArray[np.int32]]] = {name: [np.zeros(0, np.int32)] for name in needed}
-    numbers, first = [np.zeros(0, np.int64)], 2
-    for piece in some:
-        kept, count = keep(piece), len(next(iter(piece.values())).codes) if piece else 0
-        rows = np.arange(count) if kept is None else np.flatnonzero(kept)
-        numbers.append(first + rows)
-        first += count
-        for name, column in piece.items():
-            codes[name].append(coded(column.values, column.codes[rows], found[name]))
-    return {name: Column(list(found[name]), np.concatenate(codes[name])) for name in needed}, np.concatenate(numbers)
-
-
-def coded(values: Sequence[str], codes: npt.NDArray[np.int32], known: dict[str, int]) -> npt.NDArray[np.int32]:
-    """The codes of a piece as those of the whole column, whose texts are numbered as they come."""
-    taken = np.zeros(len(values), dtype=np.int32)
-    used = np.flatnonzero(np.bincount(codes, minlength=len(values)))
-    taken[used] = [known.setdefault(values[code], len(known)) for code in used]
-    made: npt.NDArray[np.int32] = taken[codes]
-    return made
-
-
-def columns_by_records(path: str | Path, needed: Sequence[str]) -> dict[str, Column]:
-    """The same where records have more fields than the header, or quotes that pandas doesn't take."""
-    found: list[dict[str, int]] = [{} for _ in needed]
-    codes: list[list[int]] = [[] for _ in needed]
-    for _, fields in rows(path, needed):
-        for place, field in enumerate(fields):
-            codes[place].append(found[place].setdefault(field, len(found[place])))
-    return {name: Column(list(found[place]), np.array(codes[place], np.int32)) for place, name in enumerate(needed)}
-
-
-BLANKS = re.compile(rb"(?:^|[\r\n])[ \t]+[\r\n]")
-BEGINS = [end + blank for end in (b"\r", b"\n") for blank in (b" ", b"\t")]
-SMALL = 1 << 24  # bytes of a file that is read record by record
-
-
 def names_of(path: str | Path) -> list[str]:
     """The names of a file's columns, each once, without the spaces around it."""
     _, header = next(records(path), (1, list[str]()))
     return list(dict.fromkeys(name.strip(" ") for name in header))
-
-
-def is_long(path: str | Path) -> bool:
-    """Whether a file is read by pandas: a long one without lines that pandas counts in another way than `ttm`."""
-    return os.path.getsize(path) >= SMALL and not has_odd_lines(path)
-
-
-def all_columns(path: str | Path) -> dict[str, Column]:
-    """All columns of a file by their names."""
-    return (columns if is_long(path) else columns_by_records)(path, names_of(path))
-
-
-def has_odd_lines(path: str | Path) -> bool:
-    """Whether a file has lines of blanks alone, which are records, or bytes 0."""
-    last = b"\n"
-    with open(path, "rb") as file:
-        while block := file.read(1 << 24):
-            whole = last + block
-            if b"\0" in block or (any(it in whole for it in BEGINS) and BLANKS.search(whole)):
-                return True
-            last = block[-1000:]
-    return False
 
 
 def shown(text: str) -> str:

@@ -18,7 +18,7 @@ from .options import (
 )
 
 if TYPE_CHECKING:
-    from ..feed import Floats
+    from ..gtfs.fields import Floats
     from ..matrices import Matrix, Share
     from ..measures.opportunities import Counts
 

@@ -100,7 +100,7 @@ def run(words: argparse.Namespace) -> int:
 def choice_of(words: argparse.Namespace, matrix: "Matrix") -> "Choice":
     """What is taken of the matrix."""
     from ..faults import BadInput
-    from ..feed import read_list
+    from ..gtfs.stops import read_list
     from ..views.long import Choice
 
     named = scenarios_of(matrix, words.scenario)

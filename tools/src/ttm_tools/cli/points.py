@@ -105,7 +105,7 @@ def files_of(words: argparse.Namespace) -> tuple[list[str], list[bool], list[boo
 
 def grid_of(words: argparse.Namespace, pace: "Pace") -> "tuple[Points, list[str]]":
     """The cells of a grid, and what is told of them."""
-    from ..feed import read_stops
+    from ..gtfs.stops import read_stops
     from ..points import grid
 
     stops = read_stops(words.feed)

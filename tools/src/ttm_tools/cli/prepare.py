@@ -102,7 +102,7 @@ def box(text: str) -> tuple[float, float, float, float]:
 def run(words: argparse.Namespace) -> int:
     from ..faults import WrongWords, needs, say
 
-    needs("numpy")
+    needs("numpy", "pandas")
     if words.check == (words.out is not None):
         raise WrongWords("one of --check and --out is needed")
     if words.faults and not words.check:
@@ -134,7 +134,7 @@ def check_feeds(words: argparse.Namespace) -> int:
     from ..prepare import report
     from ..prepare.check import check
     from ..prepare.losses import told
-    from ..prepare.tables import read_feed
+    from ..gtfs.feeds import read_feed
     from ..records import write_rows
 
     rows: list[list[object]] = []

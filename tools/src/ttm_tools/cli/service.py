@@ -86,10 +86,10 @@ def day_of(words: argparse.Namespace) -> "Day":
     from pathlib import Path
 
     from ..faults import BadInput
-    from ..feed import Projection, read_stops
+    from ..gtfs.stops import Projection, read_stops
     from ..matrices import BASE, TODAY
     from ..measures.service import periods_of, running_on, straight_lengths
-    from ..timetable import read_edits, read_timetable
+    from ..gtfs.timetable import read_edits, read_timetable
     from ..views.service import Day
 
     folder = Path(words.feed) / "scenarios"

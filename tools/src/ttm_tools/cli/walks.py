@@ -43,7 +43,7 @@ def run(words: argparse.Namespace) -> int:
     if words.table and words.streets:
         raise WrongWords("--table and --streets are two sources of walks: one of them")
     needs("numpy")
-    from ..feed import read_stops
+    from ..gtfs.stops import read_stops
     from ..files import output
     from ..plans.nearness import told_nearer
     from ..records import Rounded, write_rows

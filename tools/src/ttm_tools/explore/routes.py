@@ -7,11 +7,10 @@ from typing import Any, Mapping
 import numpy as np
 import numpy.typing as npt
 
+from ..gtfs.service_days import services_on
 from ..plans.base import Base
 from ..plans.choice import runs_along
-from ..prepare.days import texts
 from ..records import shown
-from ..timetable import services_on
 
 MOST_WAYS = 4  # of a route that are shown, those with the most trips
 HOURS = 24
@@ -47,7 +46,7 @@ class Routes:
 
 def routes_of(base: Base, date: datetime.date, numbers: Mapping[str, int]) -> Routes:
     """The routes of a feed, with places of the page by the stops' identifiers."""
-    running = services_on(str(base.folder), date)
+    running = services_on(base.feed, date)
     place = np.array([numbers[name] for name in base.places.identifiers], dtype=np.int64)[base.stop]
     found = {own: trips for own, trips in base.by_route.items() if base.lengths[trips].sum() > 0}
     names = names_of(base)
@@ -59,7 +58,7 @@ def routes_of(base: Base, date: datetime.date, numbers: Mapping[str, int]) -> Ro
 def names_of(base: Base) -> dict[str, str]:
     """What people call each route: its short name, or its long one, and its identifier where it is another."""
     table = base.feed.tables["routes.txt"]
-    columns = (texts(table, name) for name in ("route_id", "route_short_name", "route_long_name"))
+    columns = (table.texts(name) for name in ("route_id", "route_short_name", "route_long_name"))
     made = {}
     for own, short, long in zip(*columns):
         name, told = shown(short.strip() or long.strip() or own), shown(own)

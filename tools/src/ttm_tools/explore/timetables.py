@@ -5,10 +5,11 @@ from typing import Any, Sequence
 
 from ..explanation import found_in, tell_difference, told_of
 from ..engine import Pathlike, Run
-from ..feed import has_file, read_stops
+from ..gtfs.stops import has_file, read_stops
 from ..measures.journeys import Leg
 from ..records import shown
-from ..timetable import DAY, Timetable, read_timetable, read_walks
+from ..gtfs.footpaths import read_walks
+from ..gtfs.timetable import DAY, Timetable, read_timetable
 from ..views.journeys import Asked, Found, names_of_routes
 from .standing import Standing
 from .wish import Wish

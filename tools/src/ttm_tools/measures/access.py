@@ -15,7 +15,7 @@ import numpy.typing as npt
 
 from .. import progress
 from ..faults import WrongWords
-from ..feed import Floats
+from ..gtfs.fields import Floats
 from ..matrices import Matrix, Seconds, Share
 
 STEP, LINEAR, EXPONENTIAL, LOGISTIC = "step", "linear", "exponential", "logistic"

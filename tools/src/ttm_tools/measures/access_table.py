@@ -9,7 +9,7 @@ from typing import Iterator, Sequence
 import numpy as np
 
 from ..faults import BadInput, some
-from ..feed import Floats
+from ..gtfs.fields import Floats
 from ..matrices import BASE, TODAY
 from ..records import number_of, records, rows, shown
 

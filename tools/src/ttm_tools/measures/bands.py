@@ -4,7 +4,7 @@ from typing import Sequence
 
 import numpy as np
 
-from ..feed import Floats
+from ..gtfs.fields import Floats
 
 MINUTE = 60.0
 

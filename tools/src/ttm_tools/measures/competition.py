@@ -10,7 +10,7 @@ from typing import Callable, Sequence
 
 import numpy as np
 
-from ..feed import Floats
+from ..gtfs.fields import Floats
 from ..matrices import Matrix, Seconds, Share
 from .access import Weighting, by_blocks
 

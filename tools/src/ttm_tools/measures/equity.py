@@ -8,7 +8,7 @@ from dataclasses import dataclass
 
 import numpy as np
 
-from ..feed import Floats
+from ..gtfs.fields import Floats
 
 TENTHS = 10
 TOP, BOTTOM = 0.1, 0.4  # of the people, in the Palma ratio

@@ -7,7 +7,7 @@ from dataclasses import dataclass
 
 import numpy as np
 
-from ..feed import Floats
+from ..gtfs.fields import Floats
 
 
 @dataclass(frozen=True)

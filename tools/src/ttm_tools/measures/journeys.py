@@ -12,7 +12,9 @@ from functools import cached_property
 import numpy as np
 import numpy.typing as npt
 
-from ..timetable import Events, Flags, Runs, Walks, Whole
+from ..gtfs.fields import Mask, Whole
+from ..gtfs.footpaths import Walks
+from ..gtfs.timetable import Events, Runs
 
 NEVER = 1 << 40
 AT_ONCE = 30  # departures that share a part of the network
@@ -30,8 +32,8 @@ class Network:
     stop: Whole
     arrive: Whole
     depart: Whole
-    board: Flags
-    alight: Flags
+    board: Mask
+    alight: Mask
     walks: Walks
     changes: Whole  # seconds at each stop
 
@@ -58,11 +60,11 @@ class Network:
         """The least time of each stop at which a ride ends there, for who is ready to board at these times."""
         return least_of(np.where(self.aboard(ready) & self.alight, self.arrive, NEVER), self.events_by_stop, len(ready))
 
-    def aboard(self, ready: Whole) -> Flags:
+    def aboard(self, ready: Whole) -> Mask:
         """Whether somebody who boarded at an event before sits in the vehicle when it comes to an event."""
         count = np.arange(len(self.stop))
         caught = np.maximum.accumulate(np.where(self.board & (ready[self.stop] <= self.depart), count, -1))
-        made: Flags = np.concatenate([[-1], caught[:-1]])[: len(count)] >= self.begin
+        made: Mask = np.concatenate([[-1], caught[:-1]])[: len(count)] >= self.begin
         return made
 
 

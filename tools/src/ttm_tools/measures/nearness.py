@@ -4,7 +4,7 @@ from dataclasses import dataclass
 
 import numpy as np
 
-from ..feed import Floats
+from ..gtfs.fields import Floats
 
 NEARLY = 1 - 1e-12  # of what is meant to be just a half, or just so many percent
 MINUTE = 60.0

@@ -7,7 +7,7 @@ from typing import Sequence
 import numpy as np
 
 from ..faults import BadInput, some
-from ..feed import Floats
+from ..gtfs.fields import Floats
 from ..records import number_of, places_of, records, refuse_alike, rows, shown
 
 IDENTIFIERS = ("stop_id", "id")  # the column that names a stop or a point: the first of these that is there

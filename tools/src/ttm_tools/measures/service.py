@@ -12,8 +12,9 @@ from typing import Any, Sequence
 import numpy as np
 import numpy.typing as npt
 
-from ..feed import Floats
-from ..timetable import Edits, Timetable, Whole, runs_of
+from ..gtfs.fields import Floats
+from ..gtfs.fields import Whole
+from ..gtfs.timetable import Edits, Timetable, runs_of
 
 Flags = npt.NDArray[np.bool_]
 HOUR = 3600.0

@@ -13,13 +13,14 @@ from typing import Sequence
 import numpy as np
 
 from ..faults import BadInput
-from ..feed import place_of
+from ..gtfs.calls import begins_of, calls_of
+from ..gtfs.columns import positions_of, values_of
+from ..gtfs.feeds import Feed, is_stop, read_feed
+from ..gtfs.fields import MOST_STOPS, Floats, Whole, date, number, time
+from ..gtfs.service_days import MOST_DAYS, Days, days_of, ordinals
+from ..gtfs.stops import place_of
 from ..prepare.check import check
-from ..prepare.days import MOST_DAYS, Days, days_of, ordinals, texts
-from ..prepare.fields import EMPTY, MOST_STOPS, Floats, Whole, date, number, time, values_of
 from ..prepare.report import fault_lines
-from ..prepare.tables import Feed, read_feed
-from ..prepare.trips import calls_of
 from ..records import shown
 from .plan_file import Entry
 
@@ -92,7 +93,7 @@ class Base:
     @cached_property
     def by_route(self) -> dict[str, Whole]:
         """The trips of each route of the feed."""
-        made: dict[str, list[int]] = {name: [] for name in texts(self.feed.tables["routes.txt"], "route_id")}
+        made: dict[str, list[int]] = {name: [] for name in self.feed.tables["routes.txt"].texts("route_id")}
         for place, route in enumerate(self.routes):
             made[route].append(place)
         return {name: np.array(places, dtype=np.int64) for name, places in made.items()}
@@ -110,12 +111,12 @@ class Base:
     @cached_property
     def directions(self) -> list[str]:
         """The direction_id of each trip, empty where none is stated."""
-        return texts(self.feed.tables["trips.txt"], "direction_id")
+        return self.feed.tables["trips.txt"].texts("direction_id")
 
     @cached_property
     def shapes(self) -> list[str]:
         """The shape of each trip, empty where none is named."""
-        return texts(self.feed.tables["trips.txt"], "shape_id")
+        return self.feed.tables["trips.txt"].texts("shape_id")
 
     def stops_of(self, trip: int) -> list[int]:
         """The stops at which a trip of the feed calls."""
@@ -125,7 +126,7 @@ class Base:
     def short_names(self) -> dict[str, str]:
         """The routes by the names that people use."""
         table = self.feed.tables["routes.txt"]
-        pairs = [zip(texts(table, name), texts(table, "route_id")) for name in ("route_long_name", "route_short_name")]
+        pairs = [zip(table.texts(name), table.texts("route_id")) for name in ("route_long_name", "route_short_name")]
         return {shown(name): route for some in pairs for name, route in some if name}
 
     @cached_property
@@ -143,7 +144,7 @@ class Base:
         table = self.feed.get("calendar.txt")
         start, end = (ordinals(values_of(table[name], date)) for name in ("start_date", "end_date"))
         long = (start < 1) | (end - start >= MOST_DAYS)
-        names = texts(table, "service_id")
+        names = table.texts("service_id")
         return {names[row] for row in np.flatnonzero(long)} if self.days.runs.shape[1] else set(names)
 
 
@@ -160,14 +161,12 @@ def read_base(folder: str, new_stops: Sequence[Entry]) -> Base:
             folder, f"{sum(map(len, faults)):,} faults, first {first} (ttm-tools prepare tells and mends them)"
         )
     table = feed.tables["trips.txt"]
-    trips, routes, services = (texts(table, name) for name in ("trip_id", "route_id", "service_id"))
+    trips, routes, services = (table.texts(name) for name in ("trip_id", "route_id", "service_id"))
     calls = calls_of(feed.tables["stop_times.txt"], trips)
     arrive, depart = calls.filled()
-    begins = np.concatenate([[0], np.cumsum(np.bincount(calls.trip, minlength=len(trips)))])
+    begins = begins_of(calls, len(trips))
     places = read_places(feed, new_stops)
-    column = feed.tables["stop_times.txt"]["stop_id"]
-    numbers = np.array([places.numbers.get(name, -1) for name in column.values] or [0], dtype=np.int64)
-    stop = numbers[column.codes[calls.rows]]
+    stop = positions_of(feed.tables["stop_times.txt"]["stop_id"], places.numbers)[calls.rows]
     old = len(places.identifiers) - len(new_stops)
     made = Base(feed, path, places, old, trips, routes, services, begins, stop, arrive, depart, calls.rows)
     made.headways = read_headways(feed, made.numbers)
@@ -180,7 +179,7 @@ def read_headways(feed: Feed, numbers: dict[str, int]) -> dict[int, tuple[Headwa
     start, end = (values_of(table[name], time).tolist() for name in ("start_time", "end_time"))
     seconds = values_of(table["headway_secs"], number).tolist()
     made: dict[int, tuple[Headway, ...]] = {}
-    for row, trip in enumerate(texts(table, "trip_id")):
+    for row, trip in enumerate(table.texts("trip_id")):
         place = numbers[trip]
         made[place] = (*made.get(place, ()), Headway(start[row], end[row], seconds[row], row))
     return made
@@ -189,9 +188,8 @@ def read_headways(feed: Feed, numbers: dict[str, int]) -> dict[int, tuple[Headwa
 def read_places(feed: Feed, new_stops: Sequence[Entry]) -> Places:
     """The stops at which vehicles call, and behind them the new ones."""
     table = feed.tables["stops.txt"]
-    kinds = values_of(table["location_type"], number)
-    rows = np.flatnonzero((kinds == 0) | (kinds == EMPTY))
-    columns = {name: texts(table, name) for name in ("stop_id", "stop_name", "stop_lat", "stop_lon")}
+    rows = np.flatnonzero(is_stop(table))
+    columns = {name: table.texts(name) for name in ("stop_id", "stop_name", "stop_lat", "stop_lon")}
     stops = [columns["stop_id"][row] for row in rows]
     names = [shown(columns["stop_name"][row].strip()) for row in rows]
     where = [place_of(columns["stop_lat"][row], columns["stop_lon"][row]) for row in rows]

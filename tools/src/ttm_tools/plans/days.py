@@ -2,8 +2,7 @@
 
 import numpy as np
 
-from ..prepare.fields import WEEKDAYS
-from ..prepare.tables import Mask
+from ..gtfs.fields import WEEKDAYS, Mask
 from .base import Base
 from .plan_file import Entry
 

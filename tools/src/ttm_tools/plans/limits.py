@@ -7,8 +7,8 @@ from typing import Iterator, Sequence
 import numpy as np
 
 from ..faults import BadInput
-from ..prepare.days import runs_of_trips
-from ..prepare.fields import MOST_STOP_TIMES, MOST_TRIPS, Whole
+from ..gtfs.fields import MOST_STOP_TIMES, MOST_TRIPS, Whole
+from ..gtfs.service_days import runs_of_trips
 from ..prepare.make import MOST_RUNS
 from .base import Base
 from .days import runs_of

@@ -3,9 +3,9 @@
 import os
 from typing import Iterator
 
-from ..feed import read_stops
+from ..gtfs.stops import read_stops
 from ..records import rows, shown
-from ..timetable import reached_from
+from ..gtfs.footpaths import reached_from
 
 NEW_STOPS = "new_stops.csv"
 Leaving = dict[int, list[tuple[int, int]]]  # of each stop the stops that one walks to, and the seconds

@@ -5,11 +5,10 @@ from typing import Sequence
 
 import numpy as np
 
-from ..prepare.fields import Whole, clock
-from ..prepare.tables import Table
-from ..records import Column
+from ..gtfs.columns import Column, behind, column_of, constant
+from ..gtfs.fields import Whole, clock
+from ..gtfs.tables import Table, frame_of, table_of
 from .base import Base
-from .made_tables import table_of
 from .naming import Names, own_routes, trips_written
 from .shapes import Shapes
 from .state import State, Trip
@@ -44,11 +43,6 @@ def heads(base: Base, name: str, needed: Sequence[str]) -> list[str]:
     return list(dict.fromkeys((*base.feed.get(name).columns, *needed)))
 
 
-def row_of(table: Table, row: int) -> dict[str, str]:
-    """A record as it stands."""
-    return {name: table.text(name, row) for name in table.columns}
-
-
 def new_stops(base: Base, used: Sequence[int]) -> Table:
     """The plan's own stops at which some scenario calls."""
     places, needed = base.places, ("stop_id", "stop_name", "stop_lat", "stop_lon")
@@ -67,7 +61,7 @@ def degrees(number: float) -> str:
 def new_routes(base: Base, states: Sequence[State], names: Names) -> Table:
     """The routes of the scenarios' own trips: new lines, and copies of the feed's."""
     table = base.feed.tables["routes.txt"]
-    places = {table.text("route_id", row): row for row in range(len(table))}
+    records = {record["route_id"]: record for record in table.rows()}
     rows, lined = list[dict[str, str]](), False
     for state in states:
         for route in own_routes(state):
@@ -80,17 +74,18 @@ def new_routes(base: Base, states: Sequence[State], names: Names) -> Table:
                 }
                 rows.append({"route_id": name, "route_type": str(entry.whole("type", 0, 1_702, default=3)), **words})
             elif name != route:
-                rows.append({**row_of(table, places[route]), "route_id": name})
+                rows.append({**records[route], "route_id": name})
     needed = ("route_id", "route_short_name", "route_type") if lined else ("route_id",)
     return table_of("routes.txt", heads(base, "routes.txt", needed if rows else ()), rows)
 
 
 def new_trips(base: Base, own: Sequence[OwnTrip]) -> Table:
     """The records of trips: those of their sources, but for what is another; they belong to no block."""
-    table, rows = base.feed.tables["trips.txt"], list[dict[str, str]]()
+    sources, rows = sorted({it.trip.source for it in own if it.trip.source >= 0}), list[dict[str, str]]()
+    records = dict(zip(sources, base.feed.tables["trips.txt"].rows(sources)))
     for it in own:
         named = {"trip_id": it.name, "route_id": it.route, "service_id": it.trip.service}
-        old = row_of(table, it.trip.source) if it.trip.source >= 0 else {"direction_id": it.trip.direction}
+        old = records[it.trip.source] if it.trip.source >= 0 else {"direction_id": it.trip.direction}
         shape = it.shape if it.trip.redrawn else old.get("shape_id", "")
         headsign = (
             {HEADSIGN: base.places.names[it.trip.stop[-1]]} if old.get(HEADSIGN) and ends_elsewhere(base, it) else {}
@@ -119,20 +114,24 @@ def new_stop_times(base: Base, own: Sequence[OwnTrip]) -> Table:
     arrive, depart = (together([timed(it.trip, name) for it in own]) for name in ("arrive", "depart"))
     row = together([it.trip.row for it in own])
     made = {
-        "trip_id": Column([it.name for it in own], number.astype(np.int32)),
+        "trip_id": column_of([it.name for it in own], number),
         "arrival_time": clocks(arrive),
         "departure_time": clocks(depart),
-        "stop_id": Column(base.places.identifiers, together([it.trip.stop for it in own]).astype(np.int32)),
-        "stop_sequence": Column([str(it) for it in range(int(counts.max(initial=0)))], sequence.astype(np.int32)),
+        "stop_id": column_of(base.places.identifiers, together([it.trip.stop for it in own])),
+        "stop_sequence": column_of([str(it) for it in range(int(counts.max(initial=0)))], sequence),
     }
-    for name, column in table.columns.items():
+    for name in table.columns:
         if name not in made:
             lost = redrawn if name == "shape_dist_traveled" else elsewhere if name == "stop_headsign" else none
-            kept = (row >= 0) & ~lost
-            codes = np.where(kept, column.codes[np.maximum(row, 0)] if len(column.codes) else 0, len(column.values))
-            made[name] = Column([*column.values, ""], codes.astype(np.int32))
+            made[name] = taken_from(table[name], np.where(lost, -1, row))
     ordered = {name: made[name] for name in heads(base, "stop_times.txt", NEEDED if own else ())}
-    return Table("stop_times.txt", ordered, np.zeros(len(number), np.int64))
+    return Table("stop_times.txt", frame_of(ordered, np.zeros(len(number), np.int64)))
+
+
+def taken_from(column: Column, rows: Whole) -> Column:
+    """The texts of some records of a column; empty for a record of -1."""
+    either = behind(column, constant("", 1))
+    return Column.from_codes(either.codes[rows], dtype=either.dtype)
 
 
 def timed(trip: Trip, name: str) -> Whole:
@@ -148,16 +147,17 @@ def together(columns: Sequence[Whole]) -> Whole:
 def clocks(seconds: Whole) -> Column:
     """Times as texts."""
     found, codes = np.unique(seconds, return_inverse=True)
-    return Column([clock(it) for it in found.tolist()], codes.astype(np.int32))
+    return column_of([clock(it) for it in found.tolist()], codes)
 
 
 def new_headways(base: Base, own: Sequence[OwnTrip]) -> Table:
     """The rows of frequencies.txt."""
     table, rows = base.feed.get("frequencies.txt"), list[dict[str, str]]()
+    records = table.rows()
     for it in own:
         for headway in it.trip.headways:
             times = {"start_time": clock(headway.start), "end_time": clock(headway.end)}
-            rows.append({**row_of(table, headway.row), "trip_id": it.name, **times})
+            rows.append({**records[headway.row], "trip_id": it.name, **times})
     return table_of("frequencies.txt", list(table.columns), rows)
 
 
@@ -168,11 +168,7 @@ def new_route_rows(base: Base, states: Sequence[State], names: Names, table: Tab
         for route in own_routes(state):
             if route not in state.lines and names.route(state, route) != route:
                 copies.setdefault(route, []).append(names.route(state, route))
-    rows = [
-        {**row_of(table, row), "route_id": copy}
-        for row in range(len(table))
-        for copy in copies.get(table.text("route_id", row), ())
-    ]
+    rows = [{**row, "route_id": copy} for row in table.rows() for copy in copies.get(row.get("route_id", ""), ())]
     return table_of(table.name, list(table.columns), rows)
 
 

@@ -8,11 +8,9 @@ from pathlib import Path
 
 import numpy as np
 
-from ..prepare.days import texts
-from ..prepare.tables import Table, read_table
+from ..gtfs.tables import Table, read_table, table_of
 from ..records import number_of
 from .base import Base
-from .made_tables import table_of
 from .state import Trip
 
 NAME = "shapes.txt"
@@ -84,7 +82,7 @@ def nearest(points: Points, place: tuple[float, float]) -> int:
 def read_shapes(base: Base, path: Path) -> Shapes:
     """The shapes of a feed that the sources of trips run along."""
     table = read_table(NAME, path)
-    columns = [texts(table, name) for name in COLUMNS]
+    columns = [table.texts(name) for name in COLUMNS]
     found: dict[str, list[tuple[float, float, float]]] = {}
     for name, north, east, number in zip(*columns):
         point = (number_of(number), number_of(north), number_of(east))

@@ -6,8 +6,7 @@ from dataclasses import dataclass, field, replace
 
 import numpy as np
 
-from ..prepare.fields import Whole, clock
-from ..prepare.tables import Mask
+from ..gtfs.fields import Mask, Whole, clock
 from .base import Base, Headway
 from .plan_file import LAST_TIME, Entry
 

@@ -12,10 +12,9 @@ from typing import Sequence
 import numpy as np
 
 from ..faults import BadInput
-from ..prepare.days import texts
-from ..prepare.fields import MOST_BYTES
-from ..prepare.merge import behind
-from ..prepare.tables import Mask, Table, read_table, write_lines, write_table
+from ..gtfs.columns import one_of
+from ..gtfs.fields import MOST_BYTES, Mask
+from ..gtfs.tables import Table, frame_of, joined, no_table, read_table, write_lines, write_table
 from ..records import names_of as columns_of
 from ..records import records
 from . import new_records as new
@@ -87,14 +86,14 @@ def taken_out(base: Base, state: State) -> set[str]:
 
 def write_tables(base: Base, made: dict[str, Table], gone: set[str] | None, folder: Path) -> None:
     """Writes the files that `ttm` reads."""
-    lost = None if gone is None else gone - set(texts(made["trips.txt"], "trip_id"))
+    lost = None if gone is None else gone - set(made["trips.txt"].texts("trip_id"))
     for name in dict.fromkeys((*base.feed.tables, *made)):
         old, more = base.feed.get(name), made.get(name)
         if gone is not None and name in base.feed.tables:
             away = lost if name == "transfers.txt" else gone
             old = without_trips(old, away or set())
         if more is None:
-            more = Table(name, {}, np.zeros(0, np.int64))
+            more = no_table(name)
         if len(more) or name in base.feed.tables:
             put_together(old, more, folder / name)
         if (folder / name).exists() and (folder / name).stat().st_size > MOST_BYTES:
@@ -105,10 +104,8 @@ def without_trips(table: Table, gone: set[str]) -> Table:
     """A table without the records that name some trips."""
     kept: Mask = np.ones(len(table), dtype=np.bool_)
     for name in OF_TRIPS:
-        column = table[name]
-        there = np.array([text not in gone for text in column.values] or [True], dtype=np.bool_)
-        kept &= there[column.codes]
-    made = Table(table.name, dict(table.columns), table.records, table.source)
+        kept &= ~one_of(table[name], gone)
+    made = table.copy()
     made.keep(kept)
     return made
 
@@ -117,7 +114,7 @@ def put_together(old: Table, more: Table, path: Path) -> None:
     """Writes a table with further records behind: the file that it was read from as it is, where that can be."""
     if old.source is None or not can_go_on(old, more):
         with open(path, "wb") as file:
-            write_table(behind(old, more) if len(more) else old, file)
+            write_table(joined(old, more) if len(more) else old, file)
         return
     shutil.copyfile(old.source, path)
     if not len(more):
@@ -127,7 +124,7 @@ def put_together(old: Table, more: Table, path: Path) -> None:
         ended = file.read(1) in (b"\n", b"\r")
         file.write(b"" if ended else b"\n")
         ordered = {name: more[name] for name in columns_of(old.source)}
-        write_lines(Table(more.name, ordered, more.records), file)
+        write_lines(Table(more.name, frame_of(ordered, more.records)), file)
 
 
 def can_go_on(old: Table, more: Table) -> bool:
@@ -150,9 +147,7 @@ def write_others(base: Base, shapes: Shapes | None, gone: set[str] | None, folde
     for name, path in base.feed.others.items():
         named = name.endswith(".txt") and gone and "trip_id" in columns_of(path)
         if named and gone:
-            put_together(
-                without_trips(read_table(name, path), gone), Table(name, {}, np.zeros(0, np.int64)), folder / name
-            )
+            put_together(without_trips(read_table(name, path), gone), no_table(name), folder / name)
         elif name == SHAPES and shapes is not None:
             put_together(read_table(name, path), shapes.table(columns_of(path)), folder / name)
         else:

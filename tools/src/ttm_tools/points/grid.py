@@ -12,7 +12,8 @@ import numpy as np
 import numpy.typing as npt
 
 from ..faults import BadInput, needs
-from ..feed import Floats, Projection, Stops
+from ..gtfs.fields import Floats
+from ..gtfs.stops import Projection, Stops
 from ..records import shown
 from .table import AREAS, Points, plain, read_frame, read_points, text_of
 

@@ -6,7 +6,7 @@ from dataclasses import replace
 import numpy as np
 
 from ..faults import BadInput
-from ..feed import Stops, read_stops
+from ..gtfs.stops import Stops, read_stops
 from ..matrices import Matrix
 from ..matrices.chosen import Chosen
 from .areas import areas_beside

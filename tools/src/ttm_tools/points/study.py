@@ -14,7 +14,7 @@ import numpy as np
 import numpy.typing as npt
 
 from ..faults import BadInput, some
-from ..feed import Stops, read_stops
+from ..gtfs.stops import Stops, read_stops
 from ..files import copy_file, is_free, many_written_aside
 from ..naming import file_names
 from ..opening.paths import inside

@@ -10,7 +10,8 @@ import numpy as np
 import numpy.typing as npt
 
 from ..faults import BadInput, needs
-from ..feed import Area, Floats, Stops
+from ..gtfs.fields import Floats
+from ..gtfs.stops import Area, Stops
 from ..opening.paths import as_one_line, sized
 from ..records import number_of, places_of, records, refuse_alike, rows, shown
 from .areas import areas_of

@@ -7,11 +7,12 @@ from typing import Callable, Iterable, Iterator, Sequence
 
 import numpy as np
 
-from ..records import Column
-from . import fields
-from .fields import FILES, WEEKDAYS, Whole, date, number, time, values_of
-from .tables import Codes, Feed, Mask, Table
-from .trips import Calls, calls_of
+from ..gtfs import fields
+from ..gtfs.calls import Calls, calls_of
+from ..gtfs.columns import empty, one_of, positions_of, repeated, repeated_pairs, values_of
+from ..gtfs.feeds import Feed, names_in, stops_of, used_transfers
+from ..gtfs.fields import FILES, WEEKDAYS, Mask, Whole, date, number, time
+from ..gtfs.tables import Table, no_table
 
 ID = "it may not be empty"
 ONCE = "a record before has the same"
@@ -87,54 +88,12 @@ class Checks:
     def named(self, column: str, what: str, names: Iterable[str] | None, allowed: str, but: Mask | None = None) -> None:
         """The field is one of some names, where these are known."""
         if names is not None:
-            lost = unknown(self.table[column], names)
+            lost = ~one_of(self.table[column], names)
             self.add(column, what, allowed, lost if but is None else lost & ~but)
 
     def few(self, most: int) -> None:
         allowed = f"at most {most:,} records"
         self.add("", TOO_MANY, allowed, np.arange(len(self.table)) >= most)
-
-
-def empty(column: Column) -> Mask:
-    return unlike(column, [""])
-
-
-def unlike(column: Column, texts: Iterable[str], among: bool = True) -> Mask:
-    """Which records have one of some texts in a column; or which haven't."""
-    known = set(texts)
-    made = np.array([(text in known) == among for text in column.values] or [False], dtype=np.bool_)
-    return np.asarray(made[column.codes], dtype=np.bool_)
-
-
-def unknown(column: Column, names: Iterable[str]) -> Mask:
-    return unlike(column, names, among=False)
-
-
-def repeated(codes: Codes) -> Mask:
-    """Which records have what one before them has."""
-    first = np.zeros(len(codes), dtype=np.bool_)
-    first[np.unique(codes, return_index=True)[1]] = True
-    return ~first
-
-
-def names_in(feed: Feed, file: str, column: str) -> list[str] | None:
-    """The identifiers of a file in its order, each once; none where the file can't be read."""
-    if not feed.has_columns(file):
-        return None
-    codes = feed.tables[file][column].codes
-    values = feed.tables[file][column].values
-    first = np.sort(np.unique(codes, return_index=True)[1])
-    return [values[code] for code in codes[first]]
-
-
-def stops_of(feed: Feed) -> list[str] | None:
-    """The stops of a feed: records of type 0 or empty."""
-    if not feed.has_columns("stops.txt"):
-        return None
-    table = feed.tables["stops.txt"]
-    kinds = values_of(table["location_type"], number)
-    codes = table["stop_id"].codes[(kinds == 0) | (kinds == fields.EMPTY)]
-    return [table["stop_id"].values[code] for code in dict.fromkeys(codes.tolist())]
 
 
 def check(feed: Feed) -> list[Fault]:
@@ -150,9 +109,8 @@ def unread_in(feed: Feed) -> Iterator[Fault]:
     """The folders that stand in the places of files: `ttm` reads all files before it looks at one."""
     none = np.zeros(0, np.int64)
     for name, path in feed.unread.items():
-        yield Fault(
-            Table(name, {}, none, path), UNREAD, "", "a file has to be there, and it is a folder", none, none, True
-        )
+        allowed = "a file has to be there, and it is a folder"
+        yield Fault(no_table(name, path), UNREAD, "", allowed, none, none, True)
 
 
 def faults_in(feed: Feed, name: str) -> list[Fault]:
@@ -168,7 +126,7 @@ def faults_in(feed: Feed, name: str) -> list[Fault]:
         return [Fault(table, "missing file", "", told, none, none, missing=True)]
     if table.source is not None and table.source.stat().st_size > fields.MOST_BYTES:
         return [Fault(table, TOO_LONG, "", "a file has at most 1,073,741,824 bytes", none, none)]
-    lacking = [column for column in FILES[name].needed if column not in table.columns]
+    lacking = [column for column in FILES[name].needed if column not in table]
     if lacking:
         told = f"the header has to name {', '.join(lacking)}"
         return [Fault(table, "missing column", "", told, none, none)]
@@ -244,15 +202,6 @@ def check_stop_times(feed: Feed, checks: Checks) -> None:
     open_numbers(checks, "pickup_type", "drop_off_type")
 
 
-def repeated_pairs(a: Codes | Whole, b: Codes | Whole) -> Mask:
-    """Which records have a pair of values that one before them has."""
-    order = np.lexsort((b, a))
-    same = (a[order][1:] == a[order][:-1]) & (b[order][1:] == b[order][:-1])
-    made = np.zeros(len(a), dtype=np.bool_)
-    made[order[1:]] = same
-    return made
-
-
 def times(checks: Checks, least: int, *columns: str) -> None:
     """Times; empty ones too, where those are allowed."""
     for column in columns:
@@ -265,19 +214,6 @@ def check_frequencies(feed: Feed, checks: Checks) -> None:
     times(checks, 0, "start_time", "end_time")
     headways = values_of(checks.table["headway_secs"], number)
     checks.add("headway_secs", "bad number", "a headway is whole seconds, 1 to 4294967295", headways < 1)
-
-
-def used_transfers(table: Table) -> Mask:
-    """The rows of transfers.txt that `ttm` looks at: those of a type up to 2, of two ends and a time, for every route
-    and trip.
-    """
-    kinds = values_of(table["transfer_type"], number)
-    used = (kinds == fields.EMPTY) | ((kinds >= 0) & (kinds <= 2))
-    for name in ("from_route_id", "to_route_id", "from_trip_id", "to_trip_id"):
-        used &= empty(table[name])
-    for name in ("from_stop_id", "to_stop_id"):
-        used &= ~empty(table[name])
-    return np.asarray(used & (values_of(table["min_transfer_time"], number) != fields.EMPTY), dtype=np.bool_)
 
 
 def check_transfers(feed: Feed, checks: Checks) -> None:
@@ -307,23 +243,18 @@ def footpaths_of(table: Table, stops: Table) -> Whole:
     second, where a station stands for its children, and another place for none.
     """
     places: dict[str, int] = {}
-    for place, code in enumerate(stops["stop_id"].codes):
-        places.setdefault(stops["stop_id"].values[code], place)
+    for place, stop in enumerate(stops.texts("stop_id")):
+        places.setdefault(stop, place)
     kinds = values_of(stops["location_type"], number)
     is_stop, is_station = (kinds == 0) | (kinds == fields.EMPTY), kinds == 1
-    parents = ends_at(stops["parent_station"], places)
+    parents = positions_of(stops["parent_station"], places)
     parents = np.where(is_stop & (parents >= 0) & is_station[parents], parents, -1)
     children = np.bincount(parents[parents >= 0], minlength=len(stops))
     sizes = np.append(np.where(is_stop, 1, np.where(is_station, children, 0)), 0)
     parents = np.append(parents, -2)  # that of a place that isn't known
-    a, b = (ends_at(table[name], places) for name in ("from_stop_id", "to_stop_id"))
+    a, b = (positions_of(table[name], places) for name in ("from_stop_id", "to_stop_id"))
     shared = np.where(a == b, sizes[a], ((parents[a] == b) | (parents[b] == a)).astype(np.int64))
     return np.where((a >= 0) & (b >= 0), sizes[a] * sizes[b] - shared, 0)
-
-
-def ends_at(column: Column, places: dict[str, int]) -> Whole:
-    """The place of each record's place; -1 where it isn't known."""
-    return np.array([places.get(text, -1) for text in column.values] or [-1], dtype=np.int64)[column.codes]
 
 
 def whole_trips(feed: Feed, table: Table) -> Iterator[Fault]:

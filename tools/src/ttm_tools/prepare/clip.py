@@ -14,15 +14,16 @@ import numpy as np
 from ..faults import BadInput, needs
 from ..opening.paths import as_one_line
 from ..opening.texts import read_json
+from ..gtfs import fields
+from ..gtfs.calls import Calls, calls_of
+from ..gtfs.columns import distinct, one_of, values_of
+from ..gtfs.feeds import Feed, names_in
+from ..gtfs.fields import FILES, Mask, clock, number, time
+from ..gtfs.service_days import on_days
+from ..gtfs.tables import Table
 from ..records import rows, shown
-from . import fields
-from .check import names_in, unlike
-from .days import texts
-from .fields import FILES, WEEKDAYS, clock, date, number, time, values_of
 from .likely import places_of
 from .references import leave_out_references, left_out_by, there
-from .tables import Feed, Mask, Table
-from .trips import Calls, calls_of
 
 Box = tuple[float, float, float, float]  # west, south, east, north in degrees
 SHAPES = ("Polygon", "MultiPolygon")
@@ -65,7 +66,7 @@ def clip(feed: Feed, asked: Clip) -> list[str]:
         keep_called(feed)
     if asked.is_region or asked.routes or asked.agencies:
         named = names_in(feed, "trips.txt", "route_id") or []
-        feed.tables["routes.txt"].keep(unlike(feed.tables["routes.txt"]["route_id"], named))
+        feed.tables["routes.txt"].keep(one_of(feed.tables["routes.txt"]["route_id"], named))
     keep_walks(feed)
     return [left_out_by(feed, list(FILES), counts), *leave_out_references(feed, before)]
 
@@ -74,7 +75,7 @@ def of_routes(feed: Feed, asked: Clip) -> Mask:
     """Which trips are of the routes and agencies."""
     routes, trips = feed.tables["routes.txt"], feed.tables["trips.txt"]
     agencies = agencies_of(feed) if asked.agencies else [""] * len(routes)
-    kept = texts(routes, "route_id")
+    kept = routes.texts("route_id")
     for name, wanted, known in (("route", asked.routes, kept), ("agency", asked.agencies, agencies)):
         lost = [it for it in wanted if it not in set(known)]
         if lost:
@@ -84,7 +85,7 @@ def of_routes(feed: Feed, asked: Clip) -> Mask:
         for route, agency in zip(kept, agencies)
         if (not asked.routes or route in set(asked.routes)) and (not asked.agencies or agency in set(asked.agencies))
     }
-    return unlike(trips["route_id"], chosen)
+    return one_of(trips["route_id"], chosen)
 
 
 def agencies_of(feed: Feed) -> list[str]:
@@ -92,37 +93,14 @@ def agencies_of(feed: Feed) -> list[str]:
     path = feed.others.get("agency.txt")
     known = [agency for _, (agency,) in rows(path, [], ["agency_id"])] if path else []
     only = known[0] if len(known) == 1 else ""
-    return [it or only for it in texts(feed.tables["routes.txt"], "agency_id")]
-
-
-def on_days(feed: Feed, days: Sequence[datetime.date]) -> Mask:
-    """Which trips are of a service that runs on some of the days; all where no days are named."""
-    trips = feed.tables["trips.txt"]
-    if not days:
-        return np.ones(len(trips), dtype=np.bool_)
-    return unlike(trips["service_id"], {it for day in days for it in services_on(feed, day)})
-
-
-def services_on(feed: Feed, day: datetime.date) -> set[str]:
-    """The services that run on a day: a day that is both added and removed is added."""
-    calendar, dates = feed.get("calendar.txt"), feed.get("calendar_dates.txt")
-    written = day.year * 10000 + day.month * 100 + day.day
-    start, end = (values_of(calendar[name], date) for name in ("start_date", "end_date"))
-    runs = (values_of(calendar[WEEKDAYS[day.weekday()]], number) == 1) & (start <= written) & (written <= end)
-    made = {calendar.text("service_id", int(row)) for row in np.flatnonzero(runs)}
-    kinds, marked = values_of(dates["exception_type"], number), values_of(dates["date"], date) == written
-    removed, added = (
-        {dates.text("service_id", int(row)) for row in np.flatnonzero(marked & (kinds == kind))} for kind in (2, 1)
-    )
-    return (made - removed) | added
+    return [it or only for it in feed.tables["routes.txt"].texts("agency_id")]
 
 
 def near(stops: Table, asked: Clip) -> set[str] | None:
     """The locations of a region, faults or not; none where no region is asked for, or nothing can be said of it."""
-    if not asked.is_region or "stop_id" not in stops.columns:
+    if not asked.is_region or "stop_id" not in stops:
         return None
-    kept = np.flatnonzero(of_region(stops, asked))
-    return {stops.text("stop_id", int(row)) for row in kept}
+    return set(distinct(stops["stop_id"], of_region(stops, asked)))
 
 
 def of_region(stops: Table, asked: Clip) -> Mask:
@@ -130,8 +108,8 @@ def of_region(stops: Table, asked: Clip) -> Mask:
     and what belongs to a station or stop that stays.
     """
     kinds = np.maximum(values_of(stops["location_type"], number), 0)
-    where = {name: row for row, name in enumerate(texts(stops, "stop_id"))}
-    parents = np.array([where.get(it.strip(" "), -1) for it in texts(stops, "parent_station")], dtype=np.int64)
+    where = {name: row for row, name in enumerate(stops.texts("stop_id"))}
+    parents = np.array([where.get(it.strip(" "), -1) for it in stops.texts("parent_station")], dtype=np.int64)
     latitudes, longitudes = places_of(stops)
     lost = np.isnan(latitudes) & (parents >= 0)
     latitudes, longitudes = (np.where(lost, it[parents], it) for it in (latitudes, longitudes))
@@ -208,11 +186,10 @@ def list_in(read: dict[str, Any], name: str) -> list[Any]:
 def keep_calls(feed: Feed, kept: Mask) -> None:
     """Leaves out the calls at stops that go, the trips of fewer than two calls, and those that are set aside."""
     stops, table, trips = (feed.tables[name] for name in ("stops.txt", "stop_times.txt", "trips.txt"))
-    column = stops["stop_id"]
-    names = {column.values[code] for code in column.codes[kept]}
-    order = texts(trips, "trip_id")
+    names = distinct(stops["stop_id"], kept)
+    order = trips.texts("trip_id")
     calls = calls_of(table, order)
-    stays = unlike(table["stop_id"], names)[calls.rows]
+    stays = one_of(table["stop_id"], names)[calls.rows]
     counts = np.bincount(calls.trip[stays], minlength=len(order))
     stays &= counts[calls.trip] >= 2
     write_open_times(feed, calls, stays)
@@ -247,7 +224,7 @@ def shift_headways(feed: Feed, calls: Calls, stays: Mask, order: Sequence[str]) 
     for start, place in zip(first, found):
         if place < len(staying) and calls.trip[staying[place]] == calls.trip[start]:
             moved[order[calls.trip[start]]] = int(departure[staying[place]] - departure[start])
-    by_row = np.array([moved.get(it, 0) for it in texts(table, "trip_id")], dtype=np.int64)
+    by_row = np.array([moved.get(it, 0) for it in table.texts("trip_id")], dtype=np.int64)
     changed = np.flatnonzero(by_row)
     for name in ("start_time", "end_time"):
         made = values_of(table[name], time)[changed] + by_row[changed]
@@ -262,22 +239,22 @@ def shift_headways(feed: Feed, calls: Calls, stays: Mask, order: Sequence[str]) 
 def keep_trips(feed: Feed) -> None:
     """Leaves out what belongs to trips that aren't there any more: stop times, headways, and their services."""
     trips = feed.tables["trips.txt"]
-    names = set(texts(trips, "trip_id"))
+    names = set(trips.texts("trip_id"))
     for name in ("stop_times.txt", "frequencies.txt"):
         if name in feed.tables:
-            feed.tables[name].keep(unlike(feed.tables[name]["trip_id"], names))
-    services = set(texts(trips, "service_id"))
+            feed.tables[name].keep(one_of(feed.tables[name]["trip_id"], names))
+    services = set(trips.texts("service_id"))
     for name in ("calendar.txt", "calendar_dates.txt"):
         if name in feed.tables:
-            feed.tables[name].keep(unlike(feed.tables[name]["service_id"], services))
+            feed.tables[name].keep(one_of(feed.tables[name]["service_id"], services))
 
 
 def keep_called(feed: Feed) -> None:
     """Leaves out the stops at which no trip calls, and stations without such a stop."""
     stops = feed.tables["stops.txt"]
-    called = unlike(stops["stop_id"], names_in(feed, "stop_times.txt", "stop_id") or [])
-    where = {name: row for row, name in enumerate(texts(stops, "stop_id"))}
-    parents = np.array([where.get(it.strip(" "), -1) for it in texts(stops, "parent_station")], dtype=np.int64)
+    called = one_of(stops["stop_id"], names_in(feed, "stop_times.txt", "stop_id") or [])
+    where = {name: row for row, name in enumerate(stops.texts("stop_id"))}
+    parents = np.array([where.get(it.strip(" "), -1) for it in stops.texts("parent_station")], dtype=np.int64)
     needed = np.zeros(len(stops) + 1, dtype=np.bool_)
     needed[parents[called]] = True
     needed[-1] = False
@@ -292,4 +269,4 @@ def keep_walks(feed: Feed) -> None:
     """Leaves out the transfers from or to places that went."""
     table = feed.get("transfers.txt")
     names = {*(names_in(feed, "stops.txt", "stop_id") or []), ""}
-    table.keep(unlike(table["from_stop_id"], names) & unlike(table["to_stop_id"], names))
+    table.keep(one_of(table["from_stop_id"], names) & one_of(table["to_stop_id"], names))

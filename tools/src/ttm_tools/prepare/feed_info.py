@@ -3,11 +3,8 @@
 from pathlib import Path
 from typing import Sequence
 
-import numpy as np
-
-from ..records import Column
-from .fields import date
-from .tables import Table, read_table
+from ..gtfs.fields import date
+from ..gtfs.tables import Table, read_table, table_of
 
 NAME = "feed_info.txt"
 MANY = "mul"  # the language of a feed of several
@@ -16,7 +13,7 @@ MANY = "mul"  # the language of a feed of several
 def feed_info_of(paths: Sequence[Path | None]) -> Table | None:
     """The publishers of all feeds, the days on which all are complete, and for the rest what the first one says."""
     tables = [read_table(NAME, path) for path in paths if path is not None]
-    records = [{name: table.text(name, 0) for name in table.columns} for table in tables if len(table)]
+    records = [table.rows()[0] for table in tables if len(table)]
     if not records:
         return None
     made = {name: text for record in reversed(records) for name, text in record.items()}
@@ -28,5 +25,4 @@ def feed_info_of(paths: Sequence[Path | None]) -> Table | None:
         days = [it for record in records if date(it := record.get(name, "")) > 0]
         if name in made:
             made[name] = chosen(days) if days else ""
-    columns = {name: Column([text], np.zeros(1, np.int32)) for name, text in made.items()}
-    return Table(NAME, columns, np.zeros(1, np.int64))
+    return table_of(NAME, list(made), [made])

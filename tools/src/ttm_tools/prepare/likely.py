@@ -6,14 +6,15 @@ from typing import Iterator
 
 import numpy as np
 
-from ..feed import EARTH, place_of
+from ..gtfs import fields
+from ..gtfs.calls import Calls, calls_of
+from ..gtfs.columns import distinct, one_of, positions_of
+from ..gtfs.feeds import Feed, is_stop, stops_of, used_transfers
+from ..gtfs.fields import FILES
+from ..gtfs.service_days import days_of, runs_by_day
+from ..gtfs.stops import EARTH, place_of
+from ..gtfs.tables import Table
 from ..records import shown
-from . import fields
-from .check import stops_of, unlike, used_transfers
-from .days import days_of, runs_by_day
-from .fields import FILES, number, values_of
-from .tables import Feed, Table
-from .trips import Calls, calls_of
 
 COMMA = re.compile(r"[+-]?[0-9]+,[0-9]+")
 FASTEST = 300  # km/h
@@ -44,7 +45,7 @@ def misspelt(feed: Feed) -> Iterator[str]:
     """Columns whose names are nearly those that are read, where the right ones aren't there."""
     for name, table in feed.tables.items():
         right = (*FILES[name].needed, *FILES[name].taken, *(PLACES if name == "stops.txt" else ()))
-        lacking = [it for it in right if it not in table.columns]
+        lacking = [it for it in right if it not in table]
         for column in table.columns:
             near = difflib.get_close_matches(plain(column), map(plain, lacking), 1, 0.85) if column not in right else []
             if near:
@@ -58,15 +59,12 @@ def plain(name: str) -> str:
 
 def places_of(table: Table) -> tuple[fields.Floats, fields.Floats]:
     """Latitudes and longitudes of all locations, NaN where one has no place."""
-    latitude, longitude = table["stop_lat"], table["stop_lon"]
-    pairs = [(latitude.values[a], longitude.values[b]) for a, b in zip(latitude.codes, longitude.codes)]
-    made = np.array([place_of(*pair) for pair in pairs], dtype=np.float64).reshape(-1, 2)
+    made = np.array(list(map(place_of, table.texts("stop_lat"), table.texts("stop_lon"))), np.float64).reshape(-1, 2)
     return made[:, 0], made[:, 1]
 
 
 def unplaced(table: Table) -> Iterator[str]:
-    kinds = values_of(table["location_type"], number)
-    lost = np.flatnonzero(np.isnan(places_of(table)[0]) & ((kinds == 0) | (kinds == fields.EMPTY)))
+    lost = np.flatnonzero(np.isnan(places_of(table)[0]) & is_stop(table))
     if len(lost):
         first = shown(table.text("stop_id", int(lost[0])))
         yield f"stops.txt: {len(lost):,} stops have no place, or 0 and 0, such as {first}"
@@ -74,23 +72,20 @@ def unplaced(table: Table) -> Iterator[str]:
 
 def with_commas(table: Table) -> Iterator[str]:
     """Places with a comma where a point is meant."""
-    wrong = [text for name in ("stop_lat", "stop_lon") for text in table[name].values if COMMA.fullmatch(text.strip())]
-    rows = np.zeros(len(table), dtype=np.bool_)
-    for name in ("stop_lat", "stop_lon"):
-        column = table[name]
-        rows |= np.array([text in wrong for text in column.values] or [False])[column.codes]
+    columns = table["stop_lat"], table["stop_lon"]
+    wrong = [text for column in columns for text in column.categories if COMMA.fullmatch(text.strip())]
     if wrong:
-        yield f"stops.txt: {int(rows.sum()):,} places have a comma where a point is meant, such as {shown(wrong[0])}"
+        count = int((one_of(columns[0], wrong) | one_of(columns[1], wrong)).sum())
+        yield f"stops.txt: {count:,} places have a comma where a point is meant, such as {shown(wrong[0])}"
 
 
 def formulas(table: Table) -> Iterator[str]:
     """Names that a spreadsheet takes for formulas, in tables that have them."""
     column = table["stop_name"]
-    wrong = np.array([text[:1] in tuple("=+-@") for text in column.values] or [False], dtype=np.bool_)
-    count = int(wrong[column.codes].sum())
+    wrong = [text for text in column.categories if text[:1] in tuple("=+-@")]
+    count = int(one_of(column, wrong).sum())
     if count:
-        first = shown(column.values[int(np.flatnonzero(wrong)[0])])
-        yield f"stops.txt: {count:,} names begin as formulas of spreadsheets do, such as {first}"
+        yield f"stops.txt: {count:,} names begin as formulas of spreadsheets do, such as {shown(wrong[0])}"
 
 
 def of_days(feed: Feed) -> Iterator[str]:
@@ -112,16 +107,15 @@ def of_days(feed: Feed) -> Iterator[str]:
 
 
 def of_trips(feed: Feed) -> Iterator[str]:
-    table, names = feed.tables["stop_times.txt"], feed.tables["trips.txt"]["trip_id"].values
+    table, names = feed.tables["stop_times.txt"], feed.tables["trips.txt"]["trip_id"].categories.tolist()
     calls = calls_of(table, names)
     single = int((calls.is_first & calls.is_last).sum())
     if single:
         yield f"stop_times.txt: {single:,} trips call at a single stop"
     if feed.has_columns("stops.txt"):
         stops = feed.tables["stops.txt"]
-        stations = unlike(stops["stop_id"], stops_of(feed) or [], among=False)
-        called = {stops.text("stop_id", int(row)) for row in np.flatnonzero(stations)}
-        count = int(unlike(table["stop_id"], called - {""}).sum())
+        called = set(distinct(stops["stop_id"], ~one_of(stops["stop_id"], stops_of(feed) or [])))
+        count = int(one_of(table["stop_id"], called - {""}).sum())
         if count:
             yield f"stop_times.txt: {count:,} records call at a station or another place that is no stop"
         yield from too_fast(table, stops, calls)
@@ -132,9 +126,8 @@ def too_fast(table: Table, stops: Table, calls: Calls) -> Iterator[str]:
     in whole minutes.
     """
     latitudes, longitudes = (np.radians(np.append(it, np.nan)) for it in places_of(stops))
-    where = {stops["stop_id"].values[code]: row for row, code in reversed(list(enumerate(stops["stop_id"].codes)))}
-    column = table["stop_id"]
-    place = np.array([where.get(text, -1) for text in column.values] or [-1], dtype=np.int64)[column.codes[calls.rows]]
+    known = {stop: row for row, stop in reversed(list(enumerate(stops.texts("stop_id"))))}
+    place = positions_of(table["stop_id"], known)[calls.rows]
     follows = np.flatnonzero(calls.timed & (calls.before >= 0))
     start, end = place[calls.before[follows]], place[follows]
     east = (longitudes[end] - longitudes[start]) * np.cos((latitudes[end] + latitudes[start]) / 2)

@@ -6,14 +6,13 @@ from typing import Iterator, Mapping, Sequence
 import numpy as np
 
 from ..faults import BadInput
+from ..gtfs.feeds import Feed
+from ..gtfs.fields import FILES
+from ..gtfs.service_days import days_of, on_days, runs_by_day, runs_of_trips
 from . import likely
 from .check import check
-from .clip import on_days
-from .days import days_of, runs_by_day, runs_of_trips
-from .fields import FILES
 from .report import Change
 from .rules import repair
-from .tables import Feed
 
 MOST_LOST = 0.1  # of a file's records, that one rule may leave out
 CALENDARS = ("calendar.txt", "calendar_dates.txt")

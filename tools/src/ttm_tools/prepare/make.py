@@ -9,19 +9,19 @@ import numpy as np
 
 from ..faults import BadInput
 from ..files import is_free, many_written_aside
+from ..gtfs import fields
+from ..gtfs.columns import positions_of
+from ..gtfs.feeds import Feed, names_in, read_feed, write_feed
+from ..gtfs.fields import FILES
+from ..gtfs.service_days import on_days, runs_of_trips
 from ..records import write_rows
-from . import fields
-from .check import check, names_in
-from .clip import Clip, clip, near, on_days
-from .days import runs_of_trips
-from .fields import FILES
+from .check import check
+from .clip import Clip, clip, near
 from .likely import of_days
 from .losses import counts_of, left, no_runs, refuse_day, refuse_losses
 from .merge import merge
 from .report import CHANGE_COLUMNS, Change, fault_lines
 from .rules import repair
-from .tables import Feed, read_feed, write_feed
-from .trips import trip_places
 
 MOST_RUNS = 1_000_000
 PREPARED = "prepared.csv"
@@ -116,7 +116,7 @@ def run_lines(feed: Feed, days: Sequence[datetime.date]) -> Iterator[str]:
         return
     table = feed.tables["stop_times.txt"]
     runs, names = runs_of_trips(feed), names_in(feed, "trips.txt", "trip_id") or []
-    calls = np.bincount(trip_places(table, names) + 1, minlength=len(names) + 1)[1:]
+    calls = np.bincount(positions_of(table["trip_id"], names) + 1, minlength=len(names) + 1)[1:]
     on = np.sum([on_days(feed, [day]) for day in days], axis=0, dtype=np.int64)
     total, events = int(on @ runs), int(on @ (runs * calls))
     told = f"runs from {days[0]} to {days[-1]}: {total:,} with {events:,} stop times"

@@ -4,7 +4,7 @@ import math
 import re
 from typing import Callable, Sequence
 
-from .fields import WEEKDAYS, clock, date, number, time
+from ..gtfs.fields import WEEKDAYS, clock, date, number, time
 
 NUMBER = re.compile(r"\+?([0-9]+)(?:[.,]([0-9]*))?")
 LOOSE_TIME = re.compile(r"([0-9]{1,3}):([0-9]{1,2})(?::([0-9]{1,2})(?:\.[0-9]*)?)?")

@@ -7,12 +7,12 @@ from typing import Sequence
 import numpy as np
 
 from ..faults import BadInput
-from ..records import Column, shown
-from .days import texts
-from .fields import FILES
-from .kinds import KINDS, identifiers, rename
+from ..gtfs.feeds import Feed
+from ..gtfs.fields import FILES
+from ..gtfs.identifiers import KINDS, identifiers, rename
+from ..gtfs.tables import Table, joined, read_table
+from ..records import shown
 from .feed_info import feed_info_of
-from .tables import Feed, Table, read_table
 
 ALSO = (  # beside what `ttm` reads, files that are merged; all others are left out, and told
     *("agency.txt", "shapes.txt", "fare_attributes.txt", "fare_rules.txt", "pathways.txt", "levels.txt"),
@@ -40,7 +40,7 @@ def merge(feeds: Sequence[Feed], same_clock: bool = False) -> tuple[Feed, list[s
         for kind in collided:
             add_prefix(feed, kind, prefix)
             lines.append(f"{feed.name}: each {kind}'s identifier begins with {prefix}")
-        made = Feed(made.name, joined(made, feed))
+        made = Feed(made.name, all_joined(made, feed))
     made.others = {}
     if info is not None:
         made.tables[INFO] = info
@@ -58,7 +58,7 @@ def refuse_clocks(feeds: Sequence[Feed], same_clock: bool) -> None:
     """Tells feeds of different time zones, whose times aren't those of one clock."""
     zones: dict[str, str] = {}
     for feed in feeds:
-        zones |= {it.strip(): feed.name for it in texts(feed.get("agency.txt"), "agency_timezone") if it.strip()}
+        zones |= {it.strip(): feed.name for it in feed.get("agency.txt").texts("agency_timezone") if it.strip()}
     if len(zones) > 1 and not same_clock:
         told = ", ".join(f"{shown(zone)} ({name})" for zone, name in zones.items())
         raise BadInput("agency.txt", f"the feeds have several time zones, {told}: {HELP}")
@@ -81,7 +81,7 @@ def name_agency(feed: Feed) -> list[str]:
     name, count = own or feed.name, 0
     for file in OF_AGENCIES:
         if file in feed.tables:
-            empty = np.array([row for row, it in enumerate(texts(feed.tables[file], "agency_id")) if not it.strip()])
+            empty = np.array([row for row, it in enumerate(feed.tables[file].texts("agency_id")) if not it.strip()])
             feed.tables[file].put("agency_id", empty.astype(np.intp), [name] * len(empty))
             count += len(empty)
     return [f"{feed.name}: {count:,} records name its agency, {shown(name)}"] if count else []
@@ -99,20 +99,7 @@ def add_prefix(feed: Feed, kind: str, prefix: str) -> None:
         rename(table, kind, lambda it: prefix + it)
 
 
-def joined(first: Feed, second: Feed) -> dict[str, Table]:
+def all_joined(first: Feed, second: Feed) -> dict[str, Table]:
     """The tables of two feeds, the records of the second behind those of the first."""
     names = [name for name in (*FILES, *ALSO) if name in first.tables or name in second.tables]
-    return {name: behind(first.get(name), second.get(name)) for name in names}
-
-
-def behind(first: Table, second: Table) -> Table:
-    """The records of one table behind those of another, with the columns of both."""
-    if not first.columns or not second.columns:
-        return first if first.columns else second
-    columns = {}
-    for name in dict.fromkeys((*first.columns, *second.columns)):
-        one, other = first[name], second[name]
-        places = {text: place for place, text in enumerate(one.values)}
-        codes = np.array([places.setdefault(text, len(places)) for text in other.values] or [0], dtype=np.int32)
-        columns[name] = Column(list(places), np.concatenate([one.codes, codes[other.codes]]))
-    return Table(first.name, columns, np.concatenate([first.records, second.records]))
+    return {name: joined(first.get(name), second.get(name)) for name in names}

@@ -5,11 +5,12 @@ from typing import Iterator, Mapping, Sequence
 import numpy as np
 
 from ..faults import BadInput
+from ..gtfs.columns import one_of, used
+from ..gtfs.feeds import Feed
+from ..gtfs.fields import Mask
+from ..gtfs.identifiers import NAMING, TRANSLATED, ZONES, kind_of
+from ..gtfs.tables import Table, read_table
 from ..records import names_of
-from .check import unlike
-from .days import texts
-from .kinds import NAMING, TRANSLATED, ZONES, kind_of
-from .tables import Feed, Mask, Table, read_table, used
 
 GIVEN = {  # what is left out of a feed, and where it was given
     "stop": ("stops.txt", "stop_id"),
@@ -62,7 +63,7 @@ def named_still(table: Table, gone: Gone, feed: Feed) -> Mask:
     """The records of a table that name nothing that is gone."""
     kept: Mask = np.ones(len(table), dtype=np.bool_)
     for column in table.columns:
-        kept &= unlike(table[column], gone.get(kind_of(table.name, column) or "", ()), among=False)
+        kept &= ~one_of(table[column], gone.get(kind_of(table.name, column) or "", ()))
     if table.name == "translations.txt":
         kept &= np.array(list(translated_still(table, gone, feed)) or [True], dtype=np.bool_)[: len(table)]
     return kept
@@ -70,9 +71,9 @@ def named_still(table: Table, gone: Gone, feed: Feed) -> Mask:
 
 def translated_still(table: Table, gone: Gone, feed: Feed) -> Iterator[bool]:
     """Whether what each record of translations.txt translates is there still; a call by its trip and its number."""
-    columns = [texts(table, name) for name in ("table_name", "record_id", "record_sub_id")]
+    columns = [table.texts(name) for name in ("table_name", "record_id", "record_sub_id")]
     times = feed.get("stop_times.txt")
-    calls = set(zip(texts(times, "trip_id"), texts(times, "stop_sequence"))) if "stop_times" in columns[0] else set()
+    calls = set(zip(times.texts("trip_id"), times.texts("stop_sequence"))) if "stop_times" in columns[0] else set()
     for name, record, part in zip(*columns):
         is_gone = record in gone.get(TRANSLATED.get(name, ""), ())
         yield not is_gone and (name != "stop_times" or not part or (record, part) in calls)
@@ -84,9 +85,9 @@ def leave_out_fares(feed: Feed) -> dict[str, int]:
     if rules is None or path is None or rules.source is not None:
         return {}
     column, table = rules["fare_id"], read_table("fare_attributes.txt", path)
-    lost = set(column.values) - set(used(column))
+    lost = set(column.categories) - set(used(column))
     count = len(table)
-    table.keep(unlike(table["fare_id"], lost, among=False))
+    table.keep(~one_of(table["fare_id"], lost))
     if len(table) < count:
         feed.tables[table.name] = table
         del feed.others[table.name]

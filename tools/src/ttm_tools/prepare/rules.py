@@ -10,16 +10,17 @@ from typing import Iterable, Sequence
 import numpy as np
 import numpy.typing as npt
 
+from ..gtfs import fields
+from ..gtfs.calls import Calls, calls_of
+from ..gtfs.columns import one_of, used, values_of
+from ..gtfs.feeds import Feed, names_in, stops_of
+from ..gtfs.fields import FILES, clock, number, time
+from ..gtfs.tables import Table
 from ..records import shown
-from . import fields
-from .check import Fault, faults_in, names_in, stops_of, unlike
-from .days import texts
-from .fields import FILES, clock, number, time, values_of
+from .check import Fault, faults_in
 from .likely import PLACES, plain
 from .mends import A_DATE, MENDED, agreed_dates
 from .report import Change
-from .tables import Feed, Table, used
-from .trips import Calls, calls_of
 
 Rows = npt.NDArray[np.intp]
 HALF_A_DAY, DAY = 43_200, 86_400
@@ -73,7 +74,7 @@ class Repair:
             self.note(times, why[name], "arrival_time", rule, f"trip {name} left out")
         self.gone |= chosen
         for part in (table, times):
-            part.keep(unlike(part["trip_id"], chosen, among=False))
+            part.keep(~one_of(part["trip_id"], chosen))
 
 
 def repair(feed: Feed, label: str = "") -> list[Change]:
@@ -98,30 +99,30 @@ def mend_columns(made: Repair, table: Table) -> None:
     """Rule `column`: a column that is read has its name again where only capitals, spaces or signs differ."""
     layout = FILES[table.name]
     right = (*layout.needed, *layout.taken, *(PLACES if table.name == "stops.txt" else ()))
-    lacking = {plain(it): it for it in right if it not in table.columns}
+    lacking = {plain(it): it for it in right if it not in table}
     names = {name: lacking.pop(plain(name), name) if name not in right else name for name in table.columns}
     for old, new in names.items():
         if old != new:
             made.changes.append(Change(made.label + table.name, 1, new, old, "column", f"now {new}"))
             table.source = None
-    table.columns = {names[name]: column for name, column in table.columns.items()}
+    table.frame = table.frame.rename(columns=names, copy=False)
 
 
 def mend_texts(made: Repair, table: Table) -> None:
     """Rule `text`: what isn't UTF-8, but for identifiers, which are bytes, is read as Windows-1252."""
-    for name, column in list(table.columns.items()):
+    for name in table.columns:
         if not name.endswith("_id") and name != "parent_station":
-            mend_values(made, table, name, "text", {it: shown(it) for it in column.values if shown(it) != it})
+            mend_values(made, table, name, "text", {it: shown(it) for it in table[name].categories if shown(it) != it})
 
 
 def mend_fields(made: Repair, table: Table) -> None:
     """Rules `number`, `time` and `date`; dates with the year last have one reading throughout a file."""
     layout = FILES[table.name]
-    names = [name for name in (*layout.needed, *layout.taken) if name in MENDED and name in table.columns]
+    names = [name for name in (*layout.needed, *layout.taken) if name in MENDED and name in table]
     agreed = agreed_dates([text for name in names if MENDED[name] is A_DATE for text in used(table[name])])
     for name in names:
         rule, read, mend = MENDED[name]
-        wrong = [it for it in table[name].values if read(it) == fields.NONE]
+        wrong = [it for it in table[name].categories if read(it) == fields.NONE]
         right = {it: made_text for it in wrong if (made_text := mend(it)) is not None and read(made_text) >= 0}
         mend_values(made, table, name, rule, {**(agreed if MENDED[name] is A_DATE else {}), **right})
 
@@ -129,7 +130,7 @@ def mend_fields(made: Repair, table: Table) -> None:
 def mend_values(made: Repair, table: Table, name: str, rule: str, right: dict[str, str]) -> None:
     """Puts texts in place of others, wherever these stand in a column."""
     if right:
-        rows = np.flatnonzero(unlike(table[name], right))
+        rows = np.flatnonzero(one_of(table[name], right))
         made.put(table, name, rows, [right[table.text(name, int(row))] for row in rows], rule)
 
 
@@ -147,7 +148,7 @@ def mend_names(made: Repair, table: Table) -> None:
     for column, names in named.get(table.name, {}).items():
         known = set(names)
         bare = {name.strip(): name for name in reversed(list(names))}
-        lost = [it for it in table[column].values if it not in known and it.strip() in bare and it.strip()]
+        lost = [it for it in table[column].categories if it not in known and it.strip() in bare and it.strip()]
         mend_values(made, table, column, "spaces", {it: bare[it.strip()] for it in lost})
     if table.name == "stop_times.txt" and feed.has_columns("stops.txt"):
         mend_stations(made, table)
@@ -163,12 +164,12 @@ def mend_stations(made: Repair, table: Table) -> None:
     """
     stops = made.feed.tables["stops.txt"]
     kinds, known = values_of(stops["location_type"], number), set(stops_of(made.feed) or [])
-    identifiers, parents = texts(stops, "stop_id"), [it.strip(" ") for it in texts(stops, "parent_station")]
+    identifiers, parents = stops.texts("stop_id"), [it.strip(" ") for it in stops.texts("parent_station")]
     children: dict[str, str] = {}
     for name, parent in zip(identifiers, parents):
         if name in known:
             children.setdefault(parent, name)
-    called = set(table["stop_id"].values) - known
+    called = set(table["stop_id"].categories) - known
     right: dict[str, str] = {}
     for row, (name, parent, kind) in enumerate(zip(identifiers, parents, kinds)):
         if name not in called:
@@ -207,10 +208,10 @@ def leave_out_repeats(made: Repair, table: Table, rows: Rows, column: str) -> No
     counts.
     """
     keys = ("trip_id", "stop_sequence") if column == "stop_sequence" else (column,)
-    columns = [it.codes for it in table.columns.values()]
+    columns = [table[name].codes for name in table.columns]
     wanted = {key_of(table, keys, int(row)) for row in rows}
     first: dict[tuple[object, ...], int] = {}
-    maybe = np.flatnonzero(unlike(table[keys[0]], {str(key[0]) for key in wanted}))
+    maybe = np.flatnonzero(one_of(table[keys[0]], {str(key[0]) for key in wanted}))
     for row in maybe:
         first.setdefault(key_of(table, keys, int(row)), int(row))
     firsts = [first[key_of(table, keys, int(row))] for row in rows]

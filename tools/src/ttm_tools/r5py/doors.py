@@ -10,7 +10,7 @@ from typing import Iterator, Sequence
 import numpy as np
 import numpy.typing as npt
 
-from ..feed import Stops
+from ..gtfs.stops import Stops
 from ..network import Network
 from ..points import study
 from ..threads import processors

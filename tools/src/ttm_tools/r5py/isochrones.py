@@ -9,7 +9,7 @@ import numpy.typing as npt
 import pandas
 from shapely.geometry import Point
 
-from ..feed import Floats
+from ..gtfs.fields import Floats
 from ..walks.osm import Streets
 from .doors import seconds_between
 from .matrix import ends_of

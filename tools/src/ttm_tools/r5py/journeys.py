@@ -10,11 +10,12 @@ from typing import Iterator
 import numpy as np
 
 from ..faults import BadInput
-from ..feed import read_stops
+from ..gtfs.stops import read_stops
 from ..measures import journeys as search
 from ..measures.journeys import Leg
 from ..network import Network
-from ..timetable import DAY, Edits, Runs, Timetable, read_timetable, read_walks, runs_of
+from ..gtfs.footpaths import read_walks
+from ..gtfs.timetable import DAY, Edits, Runs, Timetable, read_timetable, runs_of
 from .doors import Doors
 from .network import FEED
 from .task import RegionalTask

@@ -7,7 +7,7 @@ import numpy as np
 import numpy.typing as npt
 
 from ..faults import BadInput
-from ..feed import Floats
+from ..gtfs.fields import Floats
 from ..points.table import Points
 
 DEGREES = "EPSG:4326"

@@ -10,7 +10,7 @@ from ..parts import origins_in, origins_of_feed
 from ..points import read_points
 from ..prepare.check import check
 from ..prepare.losses import refuse_day
-from ..prepare.tables import read_feed
+from ..gtfs.feeds import read_feed
 from ..records import rows, shown
 from .stages import room
 from .wishes import Study

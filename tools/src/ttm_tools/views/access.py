@@ -7,7 +7,7 @@ from typing import BinaryIO, Callable, Iterator, Sequence
 import numpy as np
 
 from ..faults import BadInput
-from ..feed import Floats
+from ..gtfs.fields import Floats
 from ..matrices import Matrix, Share
 from ..records import shown, write_rows
 

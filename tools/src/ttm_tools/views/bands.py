@@ -5,7 +5,7 @@ from typing import Any, BinaryIO, Iterator, Sequence
 
 from ..escaping import markdown
 from ..faults import BadInput, some
-from ..feed import Floats
+from ..gtfs.fields import Floats
 from ..measures.access_table import AccessTable, Kind
 from ..measures.bands import with_at_least, within_minutes
 from ..measures.opportunities import Counts

@@ -7,7 +7,8 @@ import numpy.typing as npt
 from matplotlib.collections import PathCollection, PolyCollection
 from matplotlib.path import Path
 
-from ..feed import Area, Floats, Projection, Stops
+from ..gtfs.fields import Floats
+from ..gtfs.stops import Area, Projection, Stops
 
 CORNERS = np.array([[-0.5, -0.5], [0.5, -0.5], [0.5, 0.5], [-0.5, 0.5]])
 

@@ -5,7 +5,7 @@ from typing import BinaryIO, Iterator, Sequence
 
 from ..escaping import markdown
 from ..faults import BadInput
-from ..feed import Floats
+from ..gtfs.fields import Floats
 from ..measures.access_table import AccessTable, Kind
 from ..measures.fairness import Concentration, Poverty, Theil, concentration, poverty, theil_of_all, theil_of_group
 from ..measures.opportunities import Counts

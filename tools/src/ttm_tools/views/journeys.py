@@ -4,10 +4,10 @@ import itertools
 from dataclasses import dataclass
 from typing import Iterator, Sequence
 
-from ..feed import has_file, in_folder
+from ..gtfs.stops import has_file, in_folder
 from ..measures.journeys import Leg
 from ..records import rows, shown
-from ..timetable import DAY, Runs, Timetable
+from ..gtfs.timetable import DAY, Runs, Timetable
 
 GAP = "   "
 

@@ -9,7 +9,7 @@ from typing import Iterator, Sequence
 import numpy as np
 import numpy.typing as npt
 
-from ..feed import Points, Trips, pieces, read_trips, removed_trips
+from ..gtfs.lines import Points, Trips, pieces, read_trips, removed_trips
 from ..matrices import TODAY
 from . import drawing
 

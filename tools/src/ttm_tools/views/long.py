@@ -11,7 +11,7 @@ import numpy.typing as npt
 
 from .. import progress
 from ..faults import BadInput, Lacking
-from ..feed import Stops
+from ..gtfs.stops import Stops
 from ..files import written_aside
 from ..matrices import Matrix, Seconds, Share, lacking
 from ..records import Numerals, Texts, field, fields_as_texts, joined, shown, texts_of, with_gaps

@@ -5,7 +5,8 @@ from dataclasses import dataclass, replace
 
 import numpy as np
 
-from ..feed import Floats, Stops
+from ..gtfs.fields import Floats
+from ..gtfs.stops import Stops
 from ..matrices import Matrix, Share, pair_of
 from ..measures.access import nearest
 from ..records import shown

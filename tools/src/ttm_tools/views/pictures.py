@@ -12,7 +12,7 @@ from typing import Sequence
 import numpy as np
 import numpy.typing as npt
 
-from ..feed import Stops
+from ..gtfs.stops import Stops
 from ..matrices import Matrix, Pair, Share, pair_of
 from ..measures.comparison import sides_of
 from ..records import shown

@@ -5,11 +5,12 @@ from typing import BinaryIO, Iterator, Sequence
 
 import numpy as np
 
-from ..feed import in_folder
+from ..gtfs.stops import in_folder
 from ..measures.service import Period, Running, Service, departures_by_stop, headway_stops, service_of
-from ..prepare.fields import clock
+from ..gtfs.fields import clock
 from ..records import rows, shown, write_rows
-from ..timetable import Timetable, Whole
+from ..gtfs.fields import Whole
+from ..gtfs.timetable import Timetable
 from .equity import told
 
 HEADS = [

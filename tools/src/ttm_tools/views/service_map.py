@@ -5,7 +5,7 @@ from typing import Any
 import numpy as np
 
 from ..faults import BadInput
-from ..feed import Projection
+from ..gtfs.stops import Projection
 from ..measures.service import Period, departures_by_piece
 from ..records import shown
 from .service import Day, period_told

@@ -1,7 +1,7 @@
 """Walks between the stops of a feed, or places among them: straight lines, and ways along streets."""
 
 from ..faults import needs
-from ..feed import Stops
+from ..gtfs.stops import Stops
 from .straight import Pace, Walks, distances, points_of, read_walks, straight_walks
 
 NEAR = 100.0  # metres to a street

@@ -6,7 +6,7 @@ import numpy as np
 import numpy.typing as npt
 
 from ..faults import BadInput
-from ..feed import Floats
+from ..gtfs.fields import Floats
 
 Places = npt.NDArray[np.int64]
 MOST_PAIRS = 4_000_000  # walks that `ttm` takes

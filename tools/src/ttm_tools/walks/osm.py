@@ -14,7 +14,7 @@ import numpy as np
 import numpy.typing as npt
 
 from ..faults import BadInput, needs
-from ..feed import Floats
+from ..gtfs.fields import Floats
 from ..opening.paths import as_one_line, regular
 
 Flags = npt.NDArray[np.bool_]

@@ -14,7 +14,8 @@ import numpy as np
 import numpy.typing as npt
 
 from ..faults import BadInput
-from ..feed import EARTH, Floats, Stops
+from ..gtfs.fields import Floats
+from ..gtfs.stops import EARTH, Stops
 from ..records import Rounded, rows, shown
 from .counting import Found, Places, Ways
 

@@ -12,7 +12,8 @@ from typing import Any, Iterator
 import numpy as np
 
 from .. import progress
-from ..feed import Floats, Stops
+from ..gtfs.fields import Floats
+from ..gtfs.stops import Stops
 from .counting import Found, Places, Ways
 from .osm import Flags, Streets
 from .straight import Doors, Pace, Walks, distances, doors_of, entrances_of, inside_ways, points_of, ranges

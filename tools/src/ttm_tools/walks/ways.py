@@ -11,7 +11,7 @@ from typing import Any
 import numpy as np
 import numpy.typing as npt
 
-from ..feed import Floats
+from ..gtfs.fields import Floats
 from .osm import Streets
 from .straight import Pace, points_of
 from .streets import CELLS_AT_ONCE, Snapped, at, graph_of, snapped

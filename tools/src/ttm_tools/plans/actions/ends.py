@@ -4,7 +4,7 @@ from dataclasses import replace
 
 import numpy as np
 
-from ...prepare.fields import Whole
+from ...gtfs.fields import Whole
 from ..base import NO_ROW
 from ..choice import CHOICE, chosen, stop_named, stops_named, told_stop
 from ..plan_file import Entry, near

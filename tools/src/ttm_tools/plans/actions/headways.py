@@ -5,7 +5,7 @@ from typing import Sequence
 
 import numpy as np
 
-from ...prepare.fields import clock
+from ...gtfs.fields import clock
 from ..base import Headway
 from ..choice import CHOICE, chosen, directions_of, pattern_of, told_stop
 from ..days import service_of

@@ -2,7 +2,7 @@
 
 import numpy as np
 
-from ...prepare.fields import Whole, clock
+from ...gtfs.fields import Whole, clock
 from ...records import shown
 from ..base import NO_ROW
 from ..choice import stops_named

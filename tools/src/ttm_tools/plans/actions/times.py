@@ -4,8 +4,8 @@ import math
 
 import numpy as np
 
-from ...feed import Projection
-from ...prepare.fields import Floats, Whole
+from ...gtfs.stops import Projection
+from ...gtfs.fields import Floats, Whole
 from ..choice import told_stop
 from ..plan_file import Entry
 from ..state import State

@@ -8,7 +8,8 @@ import numpy as np
 import numpy.typing as npt
 
 from ...faults import BadInput
-from ...feed import GRID, Points, Projection, Stops, Trips, has_file, lines_of, pieces, read_trips, removed_trips
+from ...gtfs.lines import GRID, Points, Trips, lines_of, pieces, read_trips, removed_trips
+from ...gtfs.stops import Projection, Stops, has_file
 from ...matrices import TODAY
 from ...records import shown
 from .places import MICRO

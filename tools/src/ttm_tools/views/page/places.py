@@ -6,7 +6,8 @@ from typing import Mapping, Sequence
 import numpy as np
 import numpy.typing as npt
 
-from ...feed import Area, Floats, Stops
+from ...gtfs.fields import Floats
+from ...gtfs.stops import Area, Stops
 
 MICRO = 1_000_000  # of a degree
 NOWHERE = np.iinfo(np.int32).max

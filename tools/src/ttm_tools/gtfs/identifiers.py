@@ -6,7 +6,9 @@ from typing import Callable
 
 import numpy as np
 
-from .tables import Feed, Table, used
+from .columns import renamed, used
+from .feeds import Feed
+from .tables import Table
 
 ZONES = ("origin_id", "destination_id", "contains_id")  # of fare_rules.txt
 KINDS: dict[str, tuple[tuple[str, str], ...]] = {  # where identifiers of a kind are given
@@ -47,15 +49,14 @@ def identifiers(feed: Feed, kind: str) -> set[str]:
     return {text for name, column in KINDS[kind] if name in feed.tables for text in used(feed.tables[name][column])}
 
 
-def rename(table: Table, kind: str, renamed: Callable[[str], str]) -> None:
+def rename(table: Table, kind: str, new: Callable[[str], str]) -> None:
     """Gives the identifiers of a kind other names, wherever a table gives or names them; an empty field names none."""
-    for name, column in table.columns.items():
+    for name in table.columns:
         if kind_of(table.name, name) == kind:
             # a parent's spaces aren't read
-            texts = [it.strip(" ") if name == "parent_station" else it for it in column.values]
-            table.columns[name] = type(column)([renamed(it) if it else "" for it in texts], column.codes)
-            table.source = None
+            texts = [it.strip(" ") if name == "parent_station" else it for it in table[name].categories]
+            table.replace(name, renamed(table[name], [new(it) if it else "" for it in texts]))
     if table.name == "translations.txt":
-        names = [(table.text("table_name", row), table.text("record_id", row)) for row in range(len(table))]
+        names = list(zip(table.texts("table_name"), table.texts("record_id")))
         rows = [row for row, (name, it) in enumerate(names) if it and TRANSLATED.get(name) == kind]
-        table.put("record_id", np.array(rows, dtype=np.intp), [renamed(names[row][1]) for row in rows])
+        table.put("record_id", np.array(rows, dtype=np.intp), [new(names[row][1]) for row in rows])

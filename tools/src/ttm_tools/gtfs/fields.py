@@ -1,27 +1,25 @@
 """Which texts `ttm` takes as numbers, times and dates, and the files, columns and limits that it reads.
 
-A value stands for each text of a column once: -1 for a text that is none, -2 for an empty one.
+A number is -1 for a text that is none, and -2 for an empty one.
 """
 
+import datetime
 import re
 from dataclasses import dataclass
-from typing import Callable
 
 import numpy as np
 import numpy.typing as npt
 
-from ..records import Column
-
 Whole = npt.NDArray[np.int64]
 Floats = npt.NDArray[np.float64]
+Mask = npt.NDArray[np.bool_]
 NONE, EMPTY = -1, -2
 LARGEST = (1 << 32) - 1
 MOST_STOPS, MOST_TRIPS, MOST_STOP_TIMES, MOST_FOOTPATHS = 65_535, 1_000_000, 8_000_000, 4_000_000
 MOST_BYTES = 1 << 30
 WEEKDAYS = ("monday", "tuesday", "wednesday", "thursday", "friday", "saturday", "sunday")
 TIME = re.compile(r"([0-9]{1,3}):([0-5][0-9]):([0-5][0-9])")
-DATE = re.compile(r"([0-9]{4})([0-9]{2})([0-9]{2})")
-DAYS = (31, 28, 31, 30, 31, 30, 31, 31, 30, 31, 30, 31)
+DATE = re.compile(r"[0-9]{8}")
 
 
 @dataclass(frozen=True)
@@ -73,21 +71,17 @@ def time(text: str) -> int:
 
 
 def date(text: str) -> int:
-    """YYYYMMDD as a number, where that is a day of the Gregorian calendar."""
+    """YYYYMMDD as a number, where that is a day of the Gregorian calendar; the year 0000 is one to `ttm`."""
     trimmed = text.strip(" ")
     if not trimmed:
         return EMPTY
-    found = DATE.fullmatch(trimmed)
-    if found is None or not 1 <= int(found[2]) <= 12:
+    if not DATE.fullmatch(trimmed):
         return NONE
-    year, month, day = (int(found[part]) for part in (1, 2, 3))
-    leap = month == 2 and year % 4 == 0 and (year % 100 != 0 or year % 400 == 0)
-    return int(trimmed) if 1 <= day <= DAYS[month - 1] + leap else NONE
-
-
-def values_of(column: Column, read: Callable[[str], int]) -> Whole:
-    """The value of each record's field."""
-    return np.array([read(text) for text in column.values] or [EMPTY], dtype=np.int64)[column.codes]
+    try:
+        datetime.date.fromisoformat(trimmed if trimmed[:4] != "0000" else f"0400{trimmed[4:]}")
+    except ValueError:
+        return NONE
+    return int(trimmed)
 
 
 def clock(seconds: int) -> str:

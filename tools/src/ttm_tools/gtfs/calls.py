@@ -7,8 +7,9 @@ from typing import Sequence
 import numpy as np
 
 from . import fields
-from .fields import Whole, number, time, values_of
-from .tables import Mask, Table
+from .columns import empty, positions_of, values_of
+from .fields import Mask, Whole, number, time
+from .tables import Table
 
 
 @dataclass(frozen=True)
@@ -81,31 +82,27 @@ class Calls:
         return arrival, departure
 
 
-def trip_places(table: Table, trips: Sequence[str]) -> Whole:
-    """For each record the place of its trip among the trips, -1 where it isn't among them."""
-    places = {name: place for place, name in enumerate(trips)}
-    column = table["trip_id"]
-    return np.array([places.get(text, -1) for text in column.values] or [-1], dtype=np.int64)[column.codes]
-
-
-def aside(table: Table, places: Whole, count: int) -> Mask:
+def aside(table: Table, trip: Whole, count: int) -> Mask:
     """Which trips are set aside: those with a record that names no stop."""
-    column = table["stop_id"]
-    unnamed = np.array([text == "" for text in column.values] or [False], dtype=np.bool_)[column.codes]
-    made = np.zeros(count + 1, dtype=np.bool_)
-    made[places[unnamed & (places >= 0)]] = True
-    return made[:count]
+    gone = np.zeros(count + 1, dtype=np.bool_)
+    gone[trip[empty(table["stop_id"]) & (trip >= 0)]] = True
+    return gone[:count]
 
 
 def calls_of(table: Table, trips: Sequence[str]) -> Calls:
     """The calls of some trips."""
-    places = trip_places(table, trips)
-    gone = np.append(aside(table, places, len(trips)), True)
-    rows = np.flatnonzero(~gone[places])
+    trip = positions_of(table["trip_id"], trips)
+    gone = np.append(aside(table, trip, len(trips)), True)
+    rows = np.flatnonzero(~gone[trip])
     sequence = values_of(table["stop_sequence"], number)[rows]
-    rows = rows[np.lexsort((np.maximum(sequence, 0), places[rows]))]
+    rows = rows[np.lexsort((np.maximum(sequence, 0), trip[rows]))]
     first, last = (values_of(table[name], time)[rows] for name in ("arrival_time", "departure_time"))
     bad = np.asarray((first == fields.NONE) | (last == fields.NONE), dtype=np.bool_)
     arrival, departure = np.where(first >= 0, first, last), np.where(last >= 0, last, first)
     arrival, departure = (np.where(it >= 0, it, fields.EMPTY) for it in (arrival, departure))
-    return Calls(rows, places[rows], arrival, departure, bad)
+    return Calls(rows, trip[rows], arrival, departure, bad)
+
+
+def begins_of(calls: Calls, count: int) -> Whole:
+    """Where the calls of each of so many trips begin, and behind the last one how many there are."""
+    return np.concatenate([[0], np.cumsum(np.bincount(calls.trip, minlength=count))])

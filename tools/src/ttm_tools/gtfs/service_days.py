@@ -6,10 +6,9 @@ from typing import Sequence
 
 import numpy as np
 
-from .check import names_in
-from .fields import WEEKDAYS, Whole, date, number, time, values_of
-from .tables import Feed, Mask, Table
-from .trips import trip_places
+from .columns import distinct, one_of, positions_of, values_of
+from .feeds import Feed, names_in
+from .fields import WEEKDAYS, Mask, Whole, date, number, time
 
 ORIGIN = datetime.date(1, 1, 1).toordinal()
 MOST_DAYS = 40_000  # of a calendar's rows; a longer one is endless, and looked at between these days
@@ -51,7 +50,7 @@ def days_of(feed: Feed) -> Days:
     """The service days of a feed whose calendars have no fault."""
     calendar, dates = feed.get("calendar.txt"), feed.get("calendar_dates.txt")
     trips = feed.get("trips.txt")
-    services = list(dict.fromkeys(it for table in (calendar, dates, trips) for it in texts(table, "service_id")))
+    services = list(dict.fromkeys(it for table in (calendar, dates, trips) for it in table.texts("service_id")))
     starts, ends = (ordinals(values_of(calendar[name], date)) for name in ("start_date", "end_date"))
     marked = ordinals(values_of(dates["date"], date))
     long = (starts >= ORIGIN) & (ends - starts >= MOST_DAYS)
@@ -68,7 +67,7 @@ def days_of(feed: Feed) -> Days:
     for row in np.flatnonzero(valid):
         span = slice(starts[row] - first, ends[row] - first + 1)
         runs[places[calendar.text("service_id", row)], span] |= flags[row][weekday[span]]
-    of = np.array([places[it] for it in texts(dates, "service_id")], dtype=np.int64)
+    of = np.array([places[it] for it in dates.texts("service_id")], dtype=np.int64)
     kinds = values_of(dates["exception_type"], number)
     for kind in (2, 1):  # a day that is both added and removed runs
         rows = np.flatnonzero((kinds == kind) & (marked >= ORIGIN))
@@ -76,19 +75,33 @@ def days_of(feed: Feed) -> Days:
     return Days(first, services, runs)
 
 
-def texts(table: Table, name: str) -> list[str]:
-    column = table[name]
-    return [column.values[code] for code in column.codes]
+def services_on(feed: Feed, day: datetime.date) -> set[str]:
+    """The services that run on a day: a day that is both added and removed is added."""
+    calendar, dates = feed.get("calendar.txt"), feed.get("calendar_dates.txt")
+    written = day.year * 10000 + day.month * 100 + day.day
+    start, end = (values_of(calendar[name], date) for name in ("start_date", "end_date"))
+    runs = (values_of(calendar[WEEKDAYS[day.weekday()]], number) == 1) & (start <= written) & (written <= end)
+    kinds, marked = values_of(dates["exception_type"], number), values_of(dates["date"], date) == written
+    added, removed = (set(distinct(dates["service_id"], marked & (kinds == kind))) for kind in (1, 2))
+    return (set(distinct(calendar["service_id"], runs)) - removed) | added
+
+
+def on_days(feed: Feed, days: Sequence[datetime.date]) -> Mask:
+    """Which trips are of a service that runs on some of the days; all where no days are named."""
+    trips = feed.tables["trips.txt"]
+    if not days:
+        return np.ones(len(trips), dtype=np.bool_)
+    return one_of(trips["service_id"], {service for day in days for service in services_on(feed, day)})
 
 
 def runs_of_trips(feed: Feed) -> Whole:
     """How often each trip runs on a day of its service: once if it has calls, or as its headways say."""
     names = names_in(feed, "trips.txt", "trip_id") or []
     made = np.zeros(len(names) + 1, dtype=np.int64)
-    called = trip_places(feed.get("stop_times.txt"), names)
+    called = positions_of(feed.get("stop_times.txt")["trip_id"], names)
     made[called[called >= 0]] = 1
     table = feed.get("frequencies.txt")
-    places = trip_places(table, names)
+    places = positions_of(table["trip_id"], names)
     start, end = (values_of(table[name], time) for name in ("start_time", "end_time"))
     headway = np.maximum(values_of(table["headway_secs"], number), 1)
     departures = np.where((start >= 0) & (end > start), (end - start + headway - 1) // headway, 0)
@@ -107,6 +120,6 @@ def runs_by_day(feed: Feed, days: Days) -> Whole:
     names = names_in(feed, "trips.txt", "trip_id") or []
     where = {name: place for place, name in enumerate(names)}
     counts, total = runs_of_trips(feed), np.zeros(len(days.services), dtype=np.int64)
-    for service, trip in zip(texts(trips, "service_id"), texts(trips, "trip_id")):
+    for service, trip in zip(trips.texts("service_id"), trips.texts("trip_id")):
         total[places[service]] += counts[where[trip]]
     return np.asarray(total @ days.runs, dtype=np.int64)

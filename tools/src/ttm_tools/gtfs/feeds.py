@@ -1,66 +1,24 @@
-"""A published feed as tables in columns: from a zip file or a folder, with a folder inside where there is one; and back
-to files.
-
-A table that nothing changed is copied byte for byte. A column of a long file takes four bytes for each record beside
-its texts, each of which is kept once.
-"""
+"""A published feed: from a zip file or a folder, with a folder inside where there is one; and back to files."""
 
 import os
 from dataclasses import dataclass, field
 from pathlib import Path, PurePosixPath
-from typing import BinaryIO, Callable, Iterator, Mapping, MutableMapping, Sequence
+from typing import Callable, Iterable, Iterator, Mapping, MutableMapping, Sequence
 
 import numpy as np
-import numpy.typing as npt
 
 from ..faults import BadInput
 from ..files import copy_file
 from ..opening.paths import inside
 from ..opening.zips import Unread, members_of, refuse_size, unpack_member
-from ..records import Column, Piece, all_columns, columns_of, field as quoted, is_long, names_of
-from .fields import FILES, Whole
+from ..records import names_of
+from .columns import distinct, empty, one_of, values_of, where
+from .fields import EMPTY, FILES, Mask, number
+from .reading import Columns, columns_of, is_long
+from .stops import has_file, in_folder
+from .tables import Table, frame_of, no_table, read_table, write_table
 
-Mask = npt.NDArray[np.bool_]
-Codes = npt.NDArray[np.int32]
-ROWS_AT_ONCE = 1 << 18
-
-
-@dataclass
-class Table:
-    """A file of a feed."""
-
-    name: str
-    columns: dict[str, Column]
-    records: Whole  # the number of each record in the file as it was published; the header is record 1
-    source: Path | None = None  # the file, as long as nothing was changed
-
-    def __len__(self) -> int:
-        return len(self.records)
-
-    def __getitem__(self, name: str) -> Column:
-        """A column; one that the file hasn't is empty throughout."""
-        return self.columns.get(name) or Column([""], np.zeros(len(self), np.int32))
-
-    def text(self, name: str, row: int) -> str:
-        column = self[name]
-        return column.values[int(column.codes[row])]
-
-    def keep(self, kept: Mask) -> None:
-        """Leaves out all records but some."""
-        if kept.all():
-            return
-        self.columns = {name: Column(it.values, it.codes[kept]) for name, it in self.columns.items()}
-        self.records, self.source = self.records[kept], None
-
-    def put(self, name: str, rows: npt.NDArray[np.intp], texts: Sequence[str]) -> None:
-        """Writes texts into the fields of some records."""
-        if not len(rows):
-            return
-        column = self[name]
-        places = {text: place for place, text in enumerate(column.values)}
-        codes = column.codes.copy()
-        codes[rows] = [places.setdefault(text, len(places)) for text in texts]
-        self.columns[name], self.source = Column(list(places), codes), None
+OPTIONAL = ("calendar.txt", "calendar_dates.txt", "frequencies.txt", "transfers.txt")
 
 
 @dataclass
@@ -75,11 +33,11 @@ class Feed:
     def get(self, name: str) -> Table:
         """A table, without columns and records where the file isn't there."""
         found = self.tables.get(name)
-        return Table(name, {}, np.zeros(0, np.int64)) if found is None else found
+        return no_table(name) if found is None else found
 
     def has_columns(self, name: str) -> bool:
         """Whether a file is there with the columns that it needs."""
-        return name in self.tables and all(it in self.tables[name].columns for it in FILES[name].needed)
+        return name in self.tables and all(it in self.tables[name] for it in FILES[name].needed)
 
 
 Near = Callable[[Table], "set[str] | None"]  # the stops of stops.txt that matter; none where all do
@@ -89,33 +47,25 @@ def calls_near(path: Path, stops: set[str]) -> Table:
     """The calls of stop_times.txt that are of trips with a call at some of the stops. Of a long file only these are
     held: it is read twice, a million records at a time.
     """
-    known = stops | {it.strip() for it in stops}
+    known = stops | {stop.strip() for stop in stops}
     trips = set[str]()
 
-    def note(piece: Piece) -> Mask:
-        called = np.array([it in known or it.strip() in known for it in piece["stop_id"].values] or [False])
-        some = np.unique(piece["trip_id"].codes[called[piece["stop_id"].codes]])
-        trips.update(piece["trip_id"].values[code] for code in some)
-        return np.zeros(len(piece["trip_id"].codes), dtype=np.bool_)
+    def note(piece: Columns) -> Mask:
+        called = where(piece["stop_id"], lambda stop: stop in known or stop.strip() in known)
+        trips.update(distinct(piece["trip_id"], called))
+        return np.zeros(len(called), dtype=np.bool_)
 
-    def keep(piece: Piece) -> Mask:
-        mine = np.array([it in trips for it in piece["trip_id"].values] or [False], dtype=np.bool_)
-        return np.asarray(mine[piece["trip_id"].codes], dtype=np.bool_)
+    def keep(piece: Columns) -> Mask:
+        return one_of(piece["trip_id"], trips)
 
     if not is_long(path):
         table = read_table("stop_times.txt", path)
-        note(table.columns)
-        table.keep(keep(table.columns))
+        piece = {name: table[name] for name in ("trip_id", "stop_id")}
+        note(piece)
+        table.keep(keep(piece))
         return table
     columns_of(path, ("trip_id", "stop_id"), note)
-    columns, records = columns_of(path, names_of(path), keep)
-    return Table("stop_times.txt", columns, records)
-
-
-def read_table(name: str, path: Path) -> Table:
-    columns = all_columns(path)
-    count = len(next(iter(columns.values())).codes) if columns else 0
-    return Table(name, columns, np.arange(2, count + 2, dtype=np.int64), path)
+    return Table("stop_times.txt", frame_of(*columns_of(path, names_of(path), keep)))
 
 
 def read_feed(path: str | Path, room: Path, near: Near = lambda _: None) -> Feed:
@@ -178,6 +128,45 @@ def feed_of(path: Path, files: Mapping[str, Path], near: Near) -> Feed:
     return Feed(path.stem if path.suffix == ".zip" else path.resolve().name, tables)
 
 
+def read_files(folder: str, names: Iterable[str]) -> Feed:
+    """Some files of an unpacked feed, with the columns alone that `ttm` reads. It is one that `ttm` takes."""
+    there = [name for name in names if name not in OPTIONAL or has_file(folder, name)]
+    tables = {name: read_table(name, Path(in_folder(folder, name)), FILES[name]) for name in there}
+    return Feed(folder, tables)
+
+
+def names_in(feed: Feed, file: str, column: str) -> list[str] | None:
+    """The identifiers of a file in its order, each once; none where the file can't be read."""
+    return distinct(feed.tables[file][column]) if feed.has_columns(file) else None
+
+
+def stops_of(feed: Feed) -> list[str] | None:
+    """The stops of a feed: records of type 0 or empty."""
+    if not feed.has_columns("stops.txt"):
+        return None
+    table = feed.tables["stops.txt"]
+    return distinct(table["stop_id"], is_stop(table))
+
+
+def is_stop(stops: Table) -> Mask:
+    """At which records of stops.txt vehicles call."""
+    kinds = values_of(stops["location_type"], number)
+    return np.asarray((kinds == 0) | (kinds == EMPTY), dtype=np.bool_)
+
+
+def used_transfers(table: Table) -> Mask:
+    """The rows of transfers.txt that `ttm` looks at: those of a type up to 2, of two ends and a time, for every route
+    and trip.
+    """
+    kinds = values_of(table["transfer_type"], number)
+    used = (kinds == EMPTY) | ((kinds >= 0) & (kinds <= 2))
+    for name in ("from_route_id", "to_route_id", "from_trip_id", "to_trip_id"):
+        used &= empty(table[name])
+    for name in ("from_stop_id", "to_stop_id"):
+        used &= ~empty(table[name])
+    return np.asarray(used & (values_of(table["min_transfer_time"], number) != EMPTY), dtype=np.bool_)
+
+
 def write_feed(feed: Feed, folder: Path) -> None:
     """Writes the files of a feed: those without a change byte for byte."""
     for name, path in feed.others.items():
@@ -188,33 +177,3 @@ def write_feed(feed: Feed, folder: Path) -> None:
             continue
         with open(folder / name, "wb") as file:
             write_table(table, file)
-
-
-def used(column: Column) -> list[str]:
-    """The texts that stand in a column."""
-    return [column.values[code] for code in np.unique(column.codes)]
-
-
-def write_table(table: Table, file: BinaryIO) -> None:
-    """Writes a table, some records at a time."""
-    file.write(b",".join(map(quoted, table.columns)) + b"\n")
-    write_lines(table, file)
-
-
-def write_lines(table: Table, file: BinaryIO) -> None:
-    """Writes the records of a table without its header."""
-    texts = {}
-    for place, (name, column) in enumerate(table.columns.items()):
-        made = np.empty(len(column.values), dtype=object)
-        made[:] = [(b"," if place else b"") + quoted(value) for value in column.values]
-        texts[name] = made
-    alone = len(table.columns) == 1
-    for first in range(0, len(table), ROWS_AT_ONCE):
-        rows = slice(first, first + ROWS_AT_ONCE)
-        lines = np.empty((len(table.records[rows]), len(texts) + 1), dtype=object)
-        for place, (name, made) in enumerate(texts.items()):
-            lines[:, place] = made[table.columns[name].codes[rows]]
-        if alone:
-            lines[lines[:, 0] == b"", 0] = b'""'  # an empty line is no record
-        lines[:, -1] = b"\n"
-        file.write(b"".join(lines.ravel()))

@@ -1,0 +1,128 @@
+"""Columns of a file: read by pandas if the file is long, else record by record.
+
+pandas takes a million records at a time. It doesn't take records with more fields than the header, and some quotes;
+such a file is read record by record too.
+"""
+
+import os
+import re
+from pathlib import Path
+from typing import Any, Callable, Iterable, Iterator, Sequence
+
+import numpy as np
+import numpy.typing as npt
+import pandas
+
+from ..progress import told
+from ..records import names_of, places_of, records, rows
+from .columns import Column, column_of
+from .fields import Layout, Mask, Whole
+
+ROWS_AT_ONCE = 1_000_000
+BYTES_AT_ONCE = 50 * ROWS_AT_ONCE  # of a file of so many records, about
+SMALL = 1 << 24  # bytes of a file that is read record by record
+BLANKS = re.compile(rb"(?:^|[\r\n])[ \t]+[\r\n]")
+BEGINS = [end + blank for end in (b"\r", b"\n") for blank in (b" ", b"\t")]
+ODD = (ValueError, OverflowError)  # what pandas raises of records that it doesn't take, ParserError among it
+Columns = dict[str, Column]
+Keep = Callable[[Columns], "Mask | None"]
+
+
+def columns(path: str | Path, needed: Sequence[str]) -> Columns:
+    """The needed columns of a file of many records."""
+    return columns_of(path, needed, lambda piece: None)[0]
+
+
+def columns_of(path: str | Path, needed: Sequence[str], keep: Keep) -> tuple[Columns, Whole]:
+    """The needed columns of those records that `keep` chooses of a piece (all where it says None), and the numbers of
+    these records.
+    """
+    try:
+        return joined_pieces(pieces(path, needed), needed, keep)
+    except ODD:
+        return joined_pieces([columns_by_records(path, needed)], needed, keep)
+
+
+def pieces(path: str | Path, needed: Sequence[str]) -> Iterator[Columns]:
+    """The needed columns of a file of many records, a million records at a time, as pandas reads them."""
+    how = {"dtype": "category", "keep_default_na": False, "index_col": False, "chunksize": ROWS_AT_ONCE}
+    how |= {"encoding": "utf-8-sig", "encoding_errors": "surrogateescape", "low_memory": False}
+    _, header = next(records(path), (1, list[str]()))
+    places = places_of(header, path, needed)
+    heads = {str(number): name for name, number in places.items() if name in needed}
+    names = [str(number) for number in range(len(header))]
+    with pandas.read_csv(path, names=names, header=0, usecols=sorted(heads), **how) as read:
+        for piece in told(read, os.path.getsize(path) // BYTES_AT_ONCE, os.path.basename(path), "M records"):
+            yield {name: piece[head].array for head, name in heads.items()}
+
+
+def joined_pieces(some: Iterable[Columns], needed: Sequence[str], keep: Keep) -> tuple[Columns, Whole]:
+    """The columns of pieces that follow one another, and the numbers of the records that are kept."""
+    found: dict[str, dict[str, int]] = {name: {} for name in needed}
+    codes: dict[str, list[npt.NDArray[Any]]] = {name: [np.zeros(0, np.int8)] for name in needed}
+    numbers, first = [np.zeros(0, np.int64)], 2
+    for piece in some:
+        kept, count = keep(piece), len(next(iter(piece.values()))) if piece else 0
+        rows = np.arange(count) if kept is None else np.flatnonzero(kept)
+        numbers.append(first + rows)
+        first += count
+        for name, column in piece.items():
+            codes[name].append(known_codes(column, column.codes[rows], found[name]))
+    return {name: column_of(list(found[name]), joined_codes(codes.pop(name))) for name in needed}, np.concatenate(
+        numbers
+    )
+
+
+def joined_codes(codes: list[npt.NDArray[Any]]) -> npt.NDArray[Any]:
+    """The codes of all pieces, which are dropped."""
+    whole: npt.NDArray[Any] = np.concatenate(codes)
+    codes.clear()
+    return whole
+
+
+def known_codes(column: Column, codes: npt.NDArray[Any], known: dict[str, int]) -> npt.NDArray[Any]:
+    """The codes of a piece as those of the whole column, whose texts are numbered as they come."""
+    used = np.flatnonzero(np.bincount(codes, minlength=len(column.categories)))
+    texts = column.categories.to_numpy()[used].tolist()
+    taken = np.zeros(len(column.categories), dtype=np.int32)
+    taken[used] = [known.setdefault(text, len(known)) for text in texts]
+    narrow: npt.NDArray[Any] = taken.astype(np.min_scalar_type(-len(known) - 1))[codes]
+    return narrow
+
+
+def columns_by_records(path: str | Path, needed: Sequence[str]) -> Columns:
+    """The same where records have more fields than the header, or quotes that pandas doesn't take."""
+    found: list[dict[str, int]] = [{} for _ in needed]
+    codes: list[list[int]] = [[] for _ in needed]
+    for _, fields in rows(path, needed):
+        for place, field in enumerate(fields):
+            codes[place].append(found[place].setdefault(field, len(found[place])))
+    return {name: column_of(list(found[at]), np.array(codes[at], np.int32)) for at, name in enumerate(needed)}
+
+
+def is_long(path: str | Path) -> bool:
+    """Whether a file is read by pandas: a long one without lines that pandas counts in another way than `ttm`."""
+    return os.path.getsize(path) >= SMALL and not has_odd_lines(path)
+
+
+def all_columns(path: str | Path) -> Columns:
+    """All columns of a file by their names."""
+    return (columns if is_long(path) else columns_by_records)(path, names_of(path))
+
+
+def columns_in(path: str | Path, layout: Layout) -> Columns:
+    """The columns of a layout that a file has; a needed one that it lacks is an error."""
+    there = names_of(path)
+    return columns(path, [*layout.needed, *(name for name in layout.taken if name in there)])
+
+
+def has_odd_lines(path: str | Path) -> bool:
+    """Whether a file has lines of blanks alone, which are records, or bytes 0."""
+    last = b"\n"
+    with open(path, "rb") as file:
+        while block := file.read(1 << 24):
+            whole = last + block
+            if b"\0" in block or (any(it in whole for it in BEGINS) and BLANKS.search(whole)):
+                return True
+            last = block[-1000:]
+    return False

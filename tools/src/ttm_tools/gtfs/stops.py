@@ -1,0 +1,149 @@
+"""The stops of an unpacked feed, with their names and places."""
+
+import math
+import os
+from dataclasses import dataclass, field
+from functools import cached_property
+from typing import Any, Mapping, Sequence
+
+import numpy as np
+import numpy.typing as npt
+
+from ..faults import BadInput
+from ..records import number_of, rows, shown
+from . import fields
+from .fields import Floats
+
+Area = Sequence[Sequence[Floats]]  # polygons, each an outer ring and its holes: rows of longitude and latitude
+EARTH = 6_371_008.8  # mean radius in metres
+
+
+@dataclass(frozen=True)
+class Stops:
+    """The locations of a feed, in the order of stops.txt."""
+
+    path: str
+    identifiers: list[str]
+    names: list[str]  # for people; the identifier where there is none
+    latitudes: Floats  # degrees; NaN where the feed has no place, none on earth, or 0 and 0, as some feeds write that
+    longitudes: Floats  # the same
+    kinds: npt.NDArray[np.int8]  # location_type; -1 where it is none
+    stations: list[str]  # parent_station, "" where none is named
+    widths: Floats | None = None  # of cells that are drawn in place of marks, metres; NaN where there is none
+    heights: Floats | None = None  # of these cells, metres; NaN where one is as high as it is wide
+    areas: Mapping[str, Area] = field(default_factory=dict)  # of cells that have another shape, by identifier
+
+    @cached_property
+    def places(self) -> dict[str, int]:
+        """Where each identifier stands."""
+        return {name: place for place, name in enumerate(self.identifiers)}
+
+    def of(self, identifiers: Sequence[str]) -> "Stops":
+        """These stops alone, in this order, which are all there."""
+        lost = [name for name in identifiers if name not in self.places]
+        if lost:
+            raise BadInput(self.path, f"no stop {shown(lost[0])}, which the matrix has: is it of another feed?")
+        chosen = np.array([self.places[name] for name in identifiers], dtype=np.intp)
+        names, stations = ([texts[place] for place in chosen] for texts in (self.names, self.stations))
+        places = (self.latitudes[chosen], self.longitudes[chosen])
+        wide, high = (None if it is None else it[chosen] for it in (self.widths, self.heights))
+        areas = {name: self.areas[name] for name in identifiers if name in self.areas} if self.areas else {}
+        return Stops(self.path, list(identifiers), names, *places, self.kinds[chosen], stations, wide, high, areas)
+
+    def sides(self) -> Floats:
+        """How wide and how high the cell of each stop is, in metres; NaN for a stop that has none."""
+        none = np.full(len(self.identifiers), np.nan)
+        wide, high = (none if it is None else it for it in (self.widths, self.heights))
+        return np.stack([wide, np.where(np.isnan(high), wide, high)], axis=1)
+
+    @property
+    def placed(self) -> npt.NDArray[np.bool_]:
+        return ~np.isnan(self.latitudes)
+
+    def name_of(self, identifier: str) -> str:
+        """A stop's name with its identifier."""
+        name, told = self.names[self.places[identifier]], shown(identifier)
+        return name if name == told else f"{name} ({told})"
+
+
+def in_folder(folder: str, name: str) -> str:
+    if not os.path.isdir(folder):
+        raise BadInput(folder, "no folder of a feed (unzip it first)")
+    return os.path.join(folder, name)
+
+
+def has_file(folder: str, name: str) -> bool:
+    return os.path.isfile(os.path.join(folder, name))
+
+
+def place_of(latitude: str, longitude: str) -> tuple[float, float]:
+    """A place in degrees; NaN for both where the texts state none."""
+    place = (number_of(latitude), number_of(longitude))
+    right = abs(place[0]) <= 90 and abs(place[1]) <= 180 and any(place)
+    return place if right else (math.nan, math.nan)
+
+
+def kind_of(text: str) -> int:
+    """A location_type: 0 where it is empty, -1 where it is none that the reference names."""
+    kind = fields.number(text)
+    return 0 if kind == fields.EMPTY else kind if kind <= 4 else fields.NONE
+
+
+WANTED = ("stop_name", "stop_lat", "stop_lon", "location_type", "parent_station")
+
+
+def read_stops(folder: str) -> Stops:
+    """The stops of a feed; identifiers are bytes, and names are text of whatever encoding."""
+    path = in_folder(folder, "stops.txt")
+    identifiers: dict[str, None] = {}
+    names, places, kinds, stations = [], [], [], []
+    for number, (stop, name, latitude, longitude, kind, station) in rows(path, ["stop_id"], WANTED):
+        if stop in identifiers:
+            raise BadInput(path, f"{shown(stop)} is there twice", record=number)
+        identifiers[stop] = None
+        names.append(shown(name.strip() or stop))
+        places.append(place_of(latitude, longitude))
+        kinds.append(kind_of(kind))
+        stations.append(station)
+    found = np.array(places, dtype=np.float64).reshape(-1, 2)
+    return Stops(path, list(identifiers), names, found[:, 0], found[:, 1], np.array(kinds, np.int8), stations)
+
+
+def read_list(path: str, known: Sequence[str], kind: str) -> list[str]:
+    """The stops that a file with the column stop_id names; each must be known as an origin, a stop .. of the matrix."""
+    among, named = set(known), []
+    for number, (stop,) in rows(path, ["stop_id"]):
+        if stop not in among:
+            raise BadInput(path, f"{shown(stop)} is no {kind} of the matrix", record=number)
+        named.append(stop)
+    return named
+
+
+class Projection:
+    """Degrees to kilometres east and north of the middle of some places (one at least), true to scale around it; across
+    the date line too.
+    """
+
+    def __init__(self, latitudes: Floats, longitudes: Floats) -> None:
+        placed = ~np.isnan(latitudes)
+        self.latitude = float(latitudes[placed].min() + latitudes[placed].max()) / 2
+        self.longitude = float(longitudes[placed][0])
+        self.degree = math.pi * EARTH / 180_000
+        self.narrow = math.cos(math.radians(min(abs(self.latitude), 89)))
+
+    def east(self, longitudes: Floats) -> Floats:
+        return ((longitudes - self.longitude + 180) % 360 - 180) * self.degree * self.narrow
+
+    def north(self, latitudes: Floats) -> Floats:
+        return (latitudes - self.latitude) * self.degree
+
+    def longitudes(self, east: Floats) -> Floats:
+        """The degrees of places so many kilometres east."""
+        return (east / (self.degree * self.narrow) + self.longitude + 180) % 360 - 180
+
+    def latitudes(self, north: Floats) -> Floats:
+        return north / self.degree + self.latitude
+
+    def kilometres(self, longitudes: Any, latitudes: Any) -> tuple[Floats, Floats]:
+        """Places as shapely hands them on."""
+        return self.east(np.asarray(longitudes)), self.north(np.asarray(latitudes))

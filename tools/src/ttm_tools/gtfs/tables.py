@@ -1,0 +1,146 @@
+"""A file of a feed as a frame: a categorical for each of its columns, and the number of each record as its index.
+
+A table that nothing changed is copied byte for byte. A column takes one to four bytes for each record beside its texts,
+each of which is kept once.
+"""
+
+from dataclasses import dataclass
+from pathlib import Path
+from typing import BinaryIO, Iterable, Mapping, Sequence
+
+import numpy as np
+import numpy.typing as npt
+import pandas
+
+from ..records import field as quoted
+from .columns import Column, behind, coded, column_of, constant, texts_at, texts_of
+from .fields import Layout, Mask, Whole
+from .reading import all_columns, columns_in
+
+ROWS_AT_ONCE = 1 << 18
+
+
+def frame_of(columns: Mapping[str, Column], records: Whole) -> pandas.DataFrame:
+    """Columns as a frame, without a copy."""
+    return pandas.DataFrame(dict(columns), index=pandas.Index(records, dtype=np.int64), copy=False)
+
+
+@dataclass
+class Table:
+    """A file of a feed."""
+
+    name: str
+    frame: pandas.DataFrame  # the index has the number of each record as it was published; the header is record 1
+    source: Path | None = None  # the file, as long as nothing was changed
+
+    def __len__(self) -> int:
+        return len(self.frame)
+
+    def __contains__(self, name: str) -> bool:
+        """Whether the file has a column."""
+        return name in self.frame.columns
+
+    def __getitem__(self, name: str) -> Column:
+        """A column; one that the file hasn't is empty throughout."""
+        return self.frame[name].array if name in self else constant("", len(self))
+
+    @property
+    def columns(self) -> list[str]:
+        return list(self.frame.columns)
+
+    @property
+    def records(self) -> Whole:
+        numbers: Whole = self.frame.index.to_numpy()
+        return numbers
+
+    def text(self, name: str, row: int) -> str:
+        column = self[name]
+        return str(column.categories[column.codes[row]])
+
+    def texts(self, name: str) -> list[str]:
+        """The text of each record in a column."""
+        return texts_of(self[name])
+
+    def rows(self, chosen: Sequence[int] | None = None) -> list[dict[str, str]]:
+        """The records, or some of them, each with its texts by the columns' names."""
+        every = [self[name] for name in self.columns]
+        columns = [texts_at(it, it.codes if chosen is None else it.codes[list(chosen)]) for it in every]
+        return [dict(zip(self.columns, row)) for row in zip(*columns)]
+
+    def keep(self, kept: Mask) -> None:
+        """Removes all records but some."""
+        if not kept.all():
+            self.frame, self.source = self.frame[kept].copy(deep=False), None
+
+    def replace(self, name: str, column: Column) -> None:
+        """Puts a column in the place of one, or behind all."""
+        self.frame, self.source = self.frame.copy(deep=False), None
+        self.frame[name] = column
+
+    def put(self, name: str, rows: npt.NDArray[np.intp], texts: Sequence[str]) -> None:
+        """Writes texts into the fields of some records."""
+        if not len(rows):
+            return
+        column = self[name]
+        known = {text: code for code, text in enumerate(column.categories)}
+        codes = column.codes.astype(np.int32)
+        codes[rows] = [known.setdefault(text, len(known)) for text in texts]
+        self.replace(name, column_of(list(known), codes))
+
+    def copy(self) -> "Table":
+        """The same table, which changes by itself."""
+        return Table(self.name, self.frame, self.source)
+
+
+def no_table(name: str, source: Path | None = None) -> Table:
+    """A table without columns and records."""
+    return Table(name, frame_of({}, np.zeros(0, np.int64)), source)
+
+
+def table_of(name: str, columns: Sequence[str], rows: Iterable[Mapping[str, str]]) -> Table:
+    """A table of a few records that no file has; a field that isn't named is empty."""
+    records = list(rows)
+    made = {column: coded(row.get(column, "") for row in records) for column in columns}
+    return Table(name, frame_of(made, np.zeros(len(records), np.int64)))
+
+
+def read_table(name: str, path: Path, layout: Layout | None = None) -> Table:
+    """A file with all its columns; or with those of a layout, which has to have the needed ones."""
+    columns = all_columns(path) if layout is None else columns_in(path, layout)
+    count = len(next(iter(columns.values()))) if columns else 0
+    return Table(name, frame_of(columns, np.arange(2, count + 2, dtype=np.int64)), path)
+
+
+def joined(first: Table, second: Table) -> Table:
+    """The records of one table behind those of another, with the columns of both."""
+    if not first.columns or not second.columns:
+        return first if first.columns else second
+    names = dict.fromkeys((*first.columns, *second.columns))
+    columns = {name: behind(first[name], second[name]) for name in names}
+    return Table(first.name, frame_of(columns, np.concatenate([first.records, second.records])))
+
+
+def write_table(table: Table, file: BinaryIO) -> None:
+    """Writes a table, some records at a time."""
+    file.write(b",".join(map(quoted, table.columns)) + b"\n")
+    write_lines(table, file)
+
+
+def write_lines(table: Table, file: BinaryIO) -> None:
+    """Writes the records of a table without its header."""
+    texts = {}
+    for place, name in enumerate(table.columns):
+        categories = table[name].categories
+        made = np.empty(len(categories), dtype=object)
+        made[:] = [(b"," if place else b"") + quoted(value) for value in categories]
+        texts[name] = made, table[name].codes
+    alone = len(table.columns) == 1
+    for first in range(0, len(table), ROWS_AT_ONCE):
+        rows = slice(first, first + ROWS_AT_ONCE)
+        lines = np.empty((len(table.records[rows]), len(texts) + 1), dtype=object)
+        for place, (made, codes) in enumerate(texts.values()):
+            lines[:, place] = made[codes[rows]]
+        if alone:
+            lines[lines[:, 0] == b"", 0] = b'""'  # an empty line is no record
+        lines[:, -1] = b"\n"
+        file.write(b"".join(lines.ravel()))
