@@ -50,7 +50,7 @@ IsWhy decides was_told e i s out printed =
 abbrev pub works_at_each : Decides
 works_at_each lease verdict = verdict ≡ Work
 
--- what they were told is no part of a promise
+-- no promise depends on what they were told of a lease
 abbrev pub told_anything : WasTold
 told_anything lease settled = ⊤
 
