@@ -1,7 +1,7 @@
 -- What the program leaves behind: what its two outputs hold, and the exit status.
 -- "The whole matrix and status 0; or one line that tells why there is none, with the status of what it tells. Help and
 -- the version go out whole, with status 0, or their loss is told." (The program's own rule.)
-use Rattle.std.specs.Prelude.{◌≡◌, ◌≢◌, ◌≤◌, ◌⊎◌, ◌++◌, ℕ, List, Option, codes, length, map}
+use Rattle.std.specs.Prelude.{◌≡◌, ◌≢◌, ◌≤◌, ◌⊎◌, ◌++◌, ℕ, List, Option, codes, length, map, ⊤}
 use Rattle.std.specs.Io.KnownBytes.{Appends}
 use Rattle.clap.specs.Words.{Text}
 use Rattle.command_line.specs.Lines.{line, line_of, opt_text, status_of}
@@ -15,10 +15,12 @@ use Rattle.matrix_text.specs.Prefixes.{PutsPart, PutsPrefix}
 use Rattle.matrix_text.specs.declared.faults.TextFault.TheVariants as text
 use Rattle.studies.specs.Inputs.{InputFiles}
 use Rattle.studies.specs.NamedFile.{NamedBytes}
-use Rattle.studies.specs.Study.{IsStudyText, Tells}
+use Rattle.studies.specs.Study.{IsStudyText, TellsBy}
 use Rattle.studies.specs.declared.fault.StudyFault.{StudyFault}
 use Rattle.studies.specs.declared.fault.StudyFault.TheVariants as fault
 use Rattle.studies.specs.declared.settings.Settings.{Settings}
+use Rattle.workers.specs.Held.{Decides, WasTold}
+use Rattle.workers.specs.declared.gates.Verdict.TheVariants.{Work}
 use Rattle.ttm.specs.Files.{AreNamed, AreUnread, Finds, IsShort, TellsLine, asks_of}
 
 -- the whole matrix of the study that the files and settings mean is out
@@ -38,16 +40,25 @@ pub record IsCutShort (i : InputFiles) (s : Settings) (out printed : Option (Lis
   pub text_is : IsStudyText i s text
   pub part : PutsPart out printed text
 
--- why the matrix isn't out whole: the first fault of the inputs, or out of memory, or a run of workers that left a
--- place without a row, and nothing is out; or the output took no more
-abbrev pub IsWhy : StudyFault → InputFiles → Settings → Option (List ℕ) → Option (List ℕ) → Type 0
-IsWhy e i s out printed = ((printed ≡ out) × Tells e i s) ⊎ ((e ≡ fault.Text text.Write) × IsCutShort i s out printed)
+-- why the matrix isn't out whole: the first fault of the inputs, or out of memory, or a run of workers that gave no
+-- matrix, where a gate decides so of the leases, and nothing is out; or the output took no more
+abbrev pub IsWhy : Decides → WasTold → StudyFault → InputFiles → Settings → Option (List ℕ) → Option (List ℕ) → Type 0
+IsWhy decides was_told e i s out printed =
+    ((printed ≡ out) × TellsBy decides was_told e i s) ⊎ ((e ≡ fault.Text text.Write) × IsCutShort i s out printed)
+
+-- what the program's gates decide: every lease is worked at. So none is lost, and no worker vanishes
+abbrev pub works_at_each : Decides
+works_at_each lease verdict = verdict ≡ Work
+
+-- no promise depends on what they were told of a lease
+abbrev pub told_anything : WasTold
+told_anything lease settled = ⊤
 
 -- the matrix isn't out whole, and it is told why
 pub record IsRefused (i : InputFiles) (s : Settings) (out printed err told : Option (List ℕ)) (status : ℕ) : Type 0
   where
     pub fault : StudyFault
-    pub why : IsWhy fault i s out printed
+    pub why : IsWhy works_at_each told_anything fault i s out printed
     pub is_told : IsTold fault i err told status
 
 -- what a study leaves behind

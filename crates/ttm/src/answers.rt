@@ -2,7 +2,8 @@
 //! asked for.
 //!
 //! A report is told on a console, and is neither of the two outputs. What is put out, what is told and the exit status
-//! are promised in the same words with a report and without.
+//! are promised in the same words with a report and without. So is why the workers gave no matrix: the program's gates
+//! let every lease be worked at.
 
 ghost use Rattle.std.specs.Prelude.{◌≡◌, ◌≤◌, IfErr, OnOk};
 ghost use Rattle.std.specs.Process.{exit_status};
@@ -18,7 +19,28 @@ use std::alloc::Global;
 use std::io::Write;
 use std::process::ExitCode;
 use studies::{Inputs, Settings, StudyFault, Unwatched, Watch, watch_study};
-use workers::{Gate, Open};
+use work_book::{Lease, Settled};
+use workers::{Gate, Open, Verdict};
+
+/// The gate of a run with a report. It decides as [`Open`] does, and reports each row that is kept.
+#[derive_where(Clone, Copy)]
+struct ReportGate<'a, 'b, H> {
+    report: &'b Report<'a, H>,
+}
+
+impl<'a, 'b, H: Host> Gate for ReportGate<'a, 'b, H> {
+    ghost use Rattle.workers.specs.declared.gates.Verdict.TheVariants.{Work};
+
+    ghost decides = { λ _ _ verdict. verdict ≡ Work };
+
+    fn before(&self, lease: &Lease) -> Verdict {
+        Open.before(lease)
+    }
+
+    fn after(&self, lease: &Lease, settled: Settled) {
+        self.report.after(lease, settled);
+    }
+}
 
 /// Puts out the matrix of a task whose files are read, or tells why there is none; and reports it, if the task says so.
 /// The matrix is the same with a report and without, and no promise of it or of the status asks whether there is one.
@@ -83,7 +105,8 @@ fn answer_and_report<'a, H: Host, O: Write, E: Write>(
     ensures quiet { exit_status result ≡ DONE → err.new ≡ err.old }
 {
     let report = Report::new(host.alloc(), host, inputs);
-    match put_matrix(host, inputs, &task.settings, &report, &report, out) {
+    let gate = ReportGate { report: &report };
+    match put_matrix(host, inputs, &task.settings, &gate, &report, out) {
         Ok(()) => {
             report.ended();
             ExitCode::from(DONE)
@@ -96,7 +119,8 @@ fn answer_and_report<'a, H: Host, O: Write, E: Write>(
     }
 }
 
-/// Puts out the matrix of a study. At an error it isn't out whole.
+/// Puts out the matrix of a study. At an error it isn't out whole. If the workers gave no matrix, the error says why, by
+/// what this gate may decide.
 fn put_matrix<H: Host, G: Gate + Sync, W: Watch, O: Write>(
     host: &H,
     inputs: &Inputs<'_>,
@@ -109,8 +133,8 @@ fn put_matrix<H: Host, G: Gate + Sync, W: Watch, O: Write>(
     requires settings { SettingsFit settings.now }
     ensures printed { OnOk result (spec.IsPrinted (inputs_of inputs.now) settings.now (O.contents out.old)
         (O.contents out.new)) }
-    ensures why { IfErr result (λ fault. spec.IsWhy fault (inputs_of inputs.now) settings.now (O.contents out.old)
-        (O.contents out.new)) }
+    ensures why { IfErr result (λ fault. spec.IsWhy (G.decides gate.now) (G.was_told gate.now) fault
+        (inputs_of inputs.now) settings.now (O.contents out.old) (O.contents out.new)) }
 {
     match watch_study(host, host.alloc(), inputs, settings, gate, watch) {
         Ok(text) => match put_all(&text, out) {
