@@ -204,7 +204,7 @@ def test_a_part_that_a_network_refuses_is_named_and_the_others_are_kept(
 ) -> None:
     monkeypatch.setenv("TTM_PROGRAM", canned(tmp_path))
     run = Run("feed", "20260504", ("00:05", "00:06"))
-    with standing_in(tmp_path), Kept(run, 2) as network:
+    with standing_in(tmp_path), Kept(run) as network:
         os.mkdir("stages")
         parts = parts_for(["A", "fault", "end", "B"], 4, "key")
         failed = network.run_parts(run, parts, Shape(4, 2, 1))
