@@ -204,7 +204,7 @@ def test_a_part_that_a_network_refuses_is_named_and_the_others_are_kept(
 ) -> None:
     monkeypatch.setenv("TTM_PROGRAM", canned(tmp_path))
     run = Run("feed", "20260504", ("00:05", "00:06"))
-    with standing_in(tmp_path), Kept(run, 2) as network:
+    with standing_in(tmp_path), Kept(run) as network:
         os.mkdir("stages")
         parts = parts_for(["A", "fault", "end", "B"], 4, "key")
         failed = network.run_parts(run, parts, Shape(4, 2, 1))
@@ -250,3 +250,20 @@ def test_a_matrix_of_a_window_tells_its_day_and_departures(place: Place) -> None
     told = place.ran(*words, place.path("nine/windows/20260505_night.omx"))[1]
     assert "(scenario base, 2026-05-05, 21:00 to 21:01); matrix is" in told
     assert "(scenario base, 2026-05-04, 08:00 to 08:00)" in told
+
+
+def test_windows_are_computed_by_slurm_too(place: Place, monkeypatch: pytest.MonkeyPatch) -> None:  # noqa: F811
+    path = laid_out(place)
+    assert place.ran("study", path)[2] == 0
+    tools = place.folder / "bin"
+    tools.mkdir()
+    script(tools / "squeue", "#!/bin/sh\n")
+    array = "for n in 1 2 3 4; do SLURM_ARRAY_TASK_ID=$n sh"
+    script(tools / "sbatch", f'#!/bin/sh\nfor last; do :; done\n{array} "$last" >&2; done\necho 1\n')
+    monkeypatch.setenv("PATH", f"{tools}:{os.environ['PATH']}")
+    monkeypatch.setattr("ttm_tools.study.elsewhere.SECONDS_BETWEEN_LOOKS", 0.1)
+    _, told, status = place.ran("study", path, "--slurm", "--out", place.path("array"))
+    assert status == 0, told
+    for name in ("20260504_night", "20260505_early", "20260505_night"):
+        same_matrix(place, f"nine/windows/{name}.omx", f"array/windows/{name}.omx")
+    assert not (place.folder / "array/parts").exists()

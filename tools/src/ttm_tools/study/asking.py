@@ -49,8 +49,8 @@ class Asked:
 class Kept:
     """The network of a day: its processes begin with the first question, and end with the block."""
 
-    def __init__(self, run: Run, at_once: int) -> None:
-        self.run, self.at_once = run, at_once
+    def __init__(self, run: Run) -> None:
+        self.run = run
         self.processes: Processes | None = None
         self.seconds: dict[str, float] = {}  # that the part of a matrix took
         self.is_ending = False  # whether no more parts begin, since somebody pressed Ctrl-C
@@ -77,10 +77,10 @@ class Kept:
         """Asks for the parts of a window that aren't done; one that fails is told at once, and the others go on."""
         missing = missing_of(parts)
         if missing and self.processes is None:
-            self.processes = Processes(command_of(program_at(None), kept_words(self.run)), self.at_once)
+            self.processes = Processes(command_of(program_at(None), kept_words(self.run)), shape.at_once)
         asked = [Asked(it, question_of(with_origins(run, str(it.origins_file), shape.threads))) for it in missing]
         with ends_gently(self.end):
-            failed = [it for it in shown(self.answered(asked), len(missing)) if it is not None]
+            failed = [it for it in shown(self.answered(asked, shape.at_once), len(missing)) if it is not None]
         if self.is_ending:
             raise Interrupted(signal.SIGINT)
         return failed
@@ -89,11 +89,11 @@ class Kept:
         """Has no more parts begin."""
         self.is_ending = True
 
-    def answered(self, asked: Sequence[Asked]) -> Iterator[Failed | None]:
+    def answered(self, asked: Sequence[Asked], at_once: int) -> Iterator[Failed | None]:
         """What became of each part, as answers come; all processes end where this is left."""
         for it in asked:
             it.part.begin()
-        with ThreadPoolExecutor(self.at_once) as pool:
+        with ThreadPoolExecutor(at_once) as pool:
             begun = {pool.submit(self.ask, it): it.part for it in asked}
             waiting, told = set(begun), False
             try:

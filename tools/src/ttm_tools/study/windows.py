@@ -46,7 +46,7 @@ def make_windows(study: Study, inputs: Inputs, folder: Folder, machine: Machine)
     made = dict[str, Record]()
     for _, questions in itertools.groupby(study.questions[1:], lambda it: it.date):
         own = list(questions)
-        with Kept(asked_of(inputs, own[0]).run, machine.means.at_once) as network:
+        with Kept(asked_of(inputs, own[0]).run) as network:
             for question in own:
                 stage = window_stage(study, inputs, question, machine, network)
                 made[stage.name] = folder.do(stage)

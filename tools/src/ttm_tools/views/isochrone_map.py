@@ -17,7 +17,6 @@ from .pictures import Mark, Picture, shades
 from .texts import text_alone
 
 BANDS = (15.0, 30.0, 45.0, 60.0)  # minutes
-OPACITY = 0.75
 
 
 @dataclass(frozen=True)
@@ -66,16 +65,15 @@ def draw_bands(
     figure, axes = drawing.empty_map(drawing.limits_of(np.concatenate([points[stops.placed], *corners])), width)
     drawing.write_head(figure, picture)
     colours = [drawing.colour_of(Mark("", shade)) for shade in shades(len(bands))]
-    how: dict[str, Any] = {"edgecolors": "none", "alpha": OPACITY}
     for above, (path, colour) in enumerate(reversed(list(zip(paths, colours)))):
         if path is not None:
-            axes.add_collection(PathCollection([path], facecolors=colour, zorder=0.5 + above / 1000, **how))
+            axes.add_collection(PathCollection([path], facecolors=colour, edgecolors="none", zorder=0.5 + above / 1000))
     for number, kind in enumerate(lines):
         drawing.draw_lines(axes, replace(kind, colour=drawing.over_squares(kind.colour)), 1 + number / 10)
     drawing.draw_names(axes, picture, stops, points)
     drawing.draw_scale(axes)
     place = axes.get_position()
-    key = [Patch(facecolor=colour, alpha=OPACITY, label=band.label) for band, colour in zip(bands, colours)]
+    key = [Patch(facecolor=colour, label=band.label) for band, colour in zip(bands, colours)]
     key.append(Line2D([], [], label="origin", linestyle="none", markersize=15, markeredgecolor="white", **drawing.STAR))
     key += [Line2D([], [], color=it.colour, linewidth=2.0, linestyle=it.style, label=it.label) for it in lines]
     drawing.write_key(figure, (place.x1 + drawing.EDGE / drawing.INCHES, place.y1), key, picture.key)

@@ -92,6 +92,7 @@ def figure_by_time(columns: Sequence[Column], scenarios: Sequence[str], people: 
     panels[0, 0].set(ylim=(0, None), xlim=(hours[0], hours[-1]), xticks=hours[:: 1 + len(hours) // 9])
     for axes in panels[:, 0]:
         axes.set_ylabel(told.unit, parse_math=False)
+        axes.yaxis.set_major_formatter("{x:,.10g}")
     panels[0, 0].legend(frameon=False, fontsize=8)
     figure.text(0.5, 0.12 / high, "departure, hour of the day", ha="center", fontsize=9)
     return figure
@@ -127,6 +128,7 @@ def figure_of_heat(columns: Sequence[Column], scenario: int, told: Told) -> Any:
         axes.axvline(begin - 0.5, color="white", linewidth=2.0)
     bar = figure.colorbar(image, cax=figure.add_axes((0.87, 0.17, 0.025, 0.72)))
     bar.set_label(told.unit, parse_math=False)
+    bar.ax.yaxis.set_major_formatter("{x:,.10g}")
     return figure
 
 
@@ -152,4 +154,5 @@ def figure_of_maps(columns: Sequence[Column], scenario: int, stops: Stops, told:
         axes.set_title(f"{it.day} {it.name}", fontsize=9, parse_math=False)
     bar = figure.colorbar(marks, cax=figure.add_axes((0.89, 0.2 / high, 0.022, 1 - (HEAD + 0.2) / high)))
     bar.set_label(told.unit, parse_math=False)
+    bar.ax.yaxis.set_major_formatter("{x:,.10g}")
     return figure

@@ -1,0 +1,78 @@
+#!/usr/bin/env python3
+"""Makes a study of a grid of cells in four windows on three dates, and says what it takes.
+
+    window_times.py FEED FOLDER [METRES]      the cells are METRES wide (without it, 425: 2,981 in the made city)
+
+FEED is a made feed (feedgen.py), whose jobs lie at its stops. It wants the built program (TTM_PROGRAM, or that of this
+clone), numpy, pandas, h5py, matplotlib and jinja2.
+"""
+import csv
+import os
+import resource
+import subprocess
+import sys
+import time
+from pathlib import Path
+
+HERE = Path(__file__).resolve().parent
+TOOLS = str(HERE.parent / "tools" / "ttm-tools")
+PROGRAM = os.environ.get("TTM_PROGRAM", str(HERE.parent / "crates" / "ttm" / "out" / "ttm"))
+PYTHON = "/usr/bin/python3"  # that of Debian's packages
+STUDY = """\
+title = "Times of day"
+[feed]
+files = ["{feed}"]
+ready = true
+[run]
+dates = [2026-05-04, 2026-05-09, 2026-05-10]
+windows = [
+    {{ name = "early", from = "05:30", to = "05:59" }},
+    {{ name = "peak", from = "08:00", to = "08:29" }},
+    {{ name = "midday", from = "12:00", to = "12:29" }},
+    {{ name = "evening", from = "21:00", to = "21:29" }},
+]
+[points]
+grid = {metres}
+grid_people = ["addresses.csv"]
+[opportunities]
+columns = ["jobs"]
+groups = ["residents"]
+[results]
+nearest = [1000]
+"""
+
+
+def write_addresses(feed: Path, path: Path) -> None:
+    """Jobs and residents at the stops."""
+    with open(feed / "opportunities.csv", newline="") as file:
+        jobs = {it["stop_id"]: it["opportunities"] for it in csv.DictReader(file)}
+    with open(feed / "stops.txt", newline="") as file, open(path, "w", newline="") as out:
+        writer = csv.writer(out, lineterminator="\n")
+        writer.writerow(["id", "lat", "lon", "jobs", "residents"])
+        there = [it for it in csv.DictReader(file) if it["stop_id"] in jobs]
+        writer.writerows(
+            [it["stop_id"], it["stop_lat"], it["stop_lon"], jobs[it["stop_id"]], 50 + 37 * number % 90]
+            for number, it in enumerate(there)
+        )
+
+
+def main(words: list[str]) -> int:
+    if len(words) not in (2, 3):
+        print(__doc__, file=sys.stderr)
+        return 2
+    feed, folder, metres = Path(words[0]).resolve(), Path(words[1]), words[2] if len(words) > 2 else "425"
+    folder.mkdir(parents=True, exist_ok=True)
+    write_addresses(feed, folder / "addresses.csv")
+    (folder / "windows.toml").write_text(STUDY.format(feed=feed, metres=metres), encoding="utf-8")
+    begin = time.monotonic()
+    ran = subprocess.run(
+        [PYTHON, TOOLS, "study", str(folder / "windows.toml")], env={**os.environ, "TTM_PROGRAM": PROGRAM}
+    )
+    used = resource.getrusage(resource.RUSAGE_CHILDREN)
+    busy = used.ru_utime + used.ru_stime
+    print(f"{time.monotonic() - begin:.0f} s by the clock, {busy:.0f} s of processor time")
+    return ran.returncode
+
+
+if __name__ == "__main__":
+    sys.exit(main(sys.argv[1:]))
