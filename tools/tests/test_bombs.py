@@ -69,6 +69,11 @@ def points_far_from_any_stop(folder: Path) -> tuple[list[str], str]:
     return [*words, points_of(folder, 40_000, 0.001)], ""
 
 
+def points_close_together(folder: Path) -> tuple[list[str], str]:
+    words = ["points", "--leave-out", "--out", str(folder / "out"), feed_of(folder)]
+    return [*words, points_of(folder, 150_000, 0.00002)], "more than the 65,535 that ttm takes"
+
+
 def many_walks(folder: Path) -> tuple[list[str], str]:
     words = ["points", "--limit", "2400", "--out", str(folder / "out"), feed_of(folder)]
     return [*words, points_of(folder, 60_000, 0.0005)], "more than the 4,000,000 walks that ttm takes"
@@ -111,6 +116,7 @@ BOMBS: list[Bomb] = [
     a_field_without_an_end,
     a_million_points,
     points_far_from_any_stop,
+    points_close_together,
     many_walks,
     a_wide_matrix,
     a_deep_open_matrix,

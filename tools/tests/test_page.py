@@ -406,3 +406,24 @@ def test_cells_have_a_height_of_their_own(town: Town, browser: Browser) -> None:
         "return [...numbers.widths].map((wide, place) => [head.identifiers[place], wide, numbers.heights[place]])"
     )
     assert sorted(sides) == [["A", 200, 800], ["D", 300, 300]]
+
+
+@pytest.mark.parametrize("stops, wanted", [(1990, ["#b9b9b9", 1.1]), (2020, ["#dcdcdc", 0.55])])
+def test_lines_of_a_city_leave_its_places_visible(
+    town: Town, browser: Browser, stops: int, wanted: list[str | float]
+) -> None:
+    """From 2,000 pieces of lines on they are thinner and fainter."""
+    town.matrix(town_matrix(True))
+    names = [*"ABCD", *[f"X{n}" for n in range(stops)]]
+    rows = [[name, 0.0001 * n, 9.0 + 0.0001 * (n % 7)] for n, name in enumerate(names)]
+    town.write("stops.txt", "stop_id,stop_lat,stop_lon", rows)
+    times = [["T", "", "", name, n] for n, name in enumerate(names)]
+    town.write("stop_times.txt", "trip_id,arrival_time,departure_time,stop_id,stop_sequence", times)
+    browser.open(page(town, *jobs(town)))
+    script = "const found = [], kind = CanvasRenderingContext2D.prototype, stroke = kind.stroke;"
+    script += "kind.stroke = function () { found.push([this.strokeStyle, this.lineWidth]); return stroke.call(this) };"
+    script += "page.map.fire('viewreset'); kind.stroke = stroke; return found"
+    drawn = browser.run(script)
+    assert any(colour == wanted[0] and width == pytest.approx(wanted[1]) for colour, width in drawn), drawn[:9]
+    both = [it[0] for it in drawn if it[0] in ("#b9b9b9", "#dcdcdc")]
+    assert set(both) == {wanted[0]}

@@ -289,8 +289,9 @@ def test_a_broken_log_is_read_as_far_as_it_is_whole(place: Place) -> None:
     assert place.ran("study", path)[2] == 0
     with open(place.folder / "nine/stages/log.jsonl", "ab") as file:
         file.write(b'5\n[]\n{}\n{"kind": 1}\n\xff\n' + b"[" * 9000 + b'\n{"kind": "part"')
-    (place.folder / "nine/access.csv").unlink()
+    (place.folder / "nine/study.json").unlink()  # it is written again, with the times of the log
     assert place.ran("study", path)[2] == 0
+    assert "matrix" in json.loads((place.folder / "nine/study.json").read_text())["times"]["seconds"]
 
 
 def test_files_of_names_never_meet() -> None:

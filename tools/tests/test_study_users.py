@@ -97,6 +97,17 @@ def test_files_that_do_not_fit_are_told_before_any_work(
     assert not (bare.folder / "nine" / "inputs").exists()
 
 
+def test_opportunities_are_called_as_their_file(place: Place) -> None:  # noqa: F811
+    study = STUDY.replace('column = "jobs"\n', "").replace("page = false", "page = true")
+    path = place.lay_out(study.replace("csv = true", "maps = false"))
+    place.write("jobs.csv", "stop_id,opportunities", [[f"S{n}", n] for n in range(9)])
+    _, told, status = place.ran("study", path)
+    assert status == 0, told
+    assert {line.split(",")[2] for line in Path(place.path("nine/access.csv")).read_text().splitlines()[1:]} == {"jobs"}
+    names = re.findall(r'"of":"([^"]*)"', Path(place.path("nine/page.html")).read_text())
+    assert "jobs" in names and not [it for it in names if "opportunities" in it]
+
+
 def test_a_plan_of_one_scenario_neither_warns_nor_runs_base(place: Place) -> None:  # noqa: F811
     assert place.ran("study", planned(place))[2] == 0
     report = report_of(place)

@@ -112,6 +112,18 @@ def test_each_pair_that_is_near_enough_is_found(room: Room, limit: int) -> None:
         assert seconds == pytest.approx(math.dist(places[int(a)], places[int(b)]) + 0.5, abs=0.52)
 
 
+@pytest.mark.parametrize("first", [5, 30, 300])
+def test_walks_of_the_first_stops_are_those_among_all(room: Room, first: int) -> None:
+    draw = random.Random(first)
+    stations: list[list[Any]] = [[f"s{n}", *[draw.uniform(-900, 900) for _ in "ne"], 1] for n in range(9)]
+    doors: list[list[Any]] = [[f"d{n}", *[draw.uniform(-900, 900) for _ in "ne"], 2, f"s{n % 5}"] for n in range(12)]
+    stops = [[str(n), *[draw.uniform(-900, 900) for _ in "ne"], 0, draw.choice(["", f"s{n % 9}"])] for n in range(300)]
+    room.stops(*stops, *stations, *doors)
+    read = read_stops(str(room.folder))
+    every, some = (set(straight_walks(read, Pace(300.0), it).rows()) for it in (None, first))
+    assert some == {(a, b, seconds) for a, b, seconds in every if int(a) < first or int(b) < first} != set()
+
+
 def test_a_table_of_walks_is_rounded_up_and_counted(room: Room) -> None:
     room.stops(("A", 0, 0), ("B", 99.5, 0), ("C", 0, 600))
     table = room.write("osrm.csv", "from_stop_id,to_stop_id,seconds", [["A", "B", 120.2], ["B", "A", "119.0"]])

@@ -19,7 +19,8 @@ from ..gtfs.stops import EARTH, Stops
 from ..records import Rounded, rows, shown
 from .counting import Found, Places, Ways
 
-HALF = [step for step in itertools.product((-1, 0, 1), repeat=3) if step >= (0, 0, 0)]
+ROUND = list(itertools.product((-1, 0, 1), repeat=3))  # a cube and those that touch it
+HALF = [step for step in ROUND if step >= (0, 0, 0)]
 PAIRS_AT_ONCE = 1_000_000
 
 
@@ -87,18 +88,42 @@ def near_pairs(points: Floats, metres: float) -> Iterator[tuple[Places, Places]]
     """Pairs of points that may be at most so many metres apart, each once, some at a time, by a grid of cubes of that
     side.
     """
-    cubes = np.floor(points / max(metres, 1.0)).astype(np.int64)
-    cubes -= cubes.min(axis=0, initial=0) - 1
-    keys = (cubes[:, 0] * (1 << 21) + cubes[:, 1]) * (1 << 21) + cubes[:, 2]
+    keys = cubes_of(points, metres)
     order = np.argsort(keys, kind="stable")
     sorted_keys = keys[order]
-    for x, y, z in HALF:
-        others = sorted_keys + ((x * (1 << 21)) + y) * (1 << 21) + z
-        begin, end = np.searchsorted(sorted_keys, others, "left"), np.searchsorted(sorted_keys, others, "right")
-        if (x, y, z) == (0, 0, 0):
+    for step in HALF:
+        begin, end = cube_beside(sorted_keys, sorted_keys, step)
+        if step == (0, 0, 0):
             begin = np.arange(1, len(order) + 1)
         for a, b in ranges(begin, np.maximum(begin, end)):
             yield order[a], order[b]
+
+
+def near_some(points: Floats, some: Places, metres: float) -> Iterator[tuple[Places, Places]]:
+    """The same pairs, but those alone that have one of some points, and two of these twice: where points are many, and
+    these are few, all other pairs would take hours.
+    """
+    keys = cubes_of(points, metres)
+    order = np.argsort(keys, kind="stable")
+    sorted_keys = keys[order]
+    for step in ROUND:
+        for a, b in ranges(*cube_beside(keys[some], sorted_keys, step)):
+            yield some[a], order[b]
+
+
+def cubes_of(points: Floats, metres: float) -> Places:
+    """The cube of each point, as one number."""
+    cubes = np.floor(points / max(metres, 1.0)).astype(np.int64)
+    cubes -= cubes.min(axis=0, initial=0) - 1
+    made: Places = (cubes[:, 0] * (1 << 21) + cubes[:, 1]) * (1 << 21) + cubes[:, 2]
+    return made
+
+
+def cube_beside(keys: Places, sorted_keys: Places, step: tuple[int, ...]) -> tuple[Places, Places]:
+    """Where the points of the cube that is a step away begin and end among all."""
+    x, y, z = step
+    others = keys + ((x * (1 << 21)) + y) * (1 << 21) + z
+    return np.searchsorted(sorted_keys, others, "left"), np.searchsorted(sorted_keys, others, "right")
 
 
 def ranges(begin: Places, end: Places) -> Iterator[tuple[Places, Places]]:
@@ -131,7 +156,10 @@ def ways(points: Floats, stations: list[str], entrances: dict[str, Floats], metr
     numbers = {station: number for number, station in enumerate(dict.fromkeys(stations))}
     station = np.array([numbers[name] for name in stations], dtype=np.int64)
     entered = np.array([name in entrances for name in stations], dtype=np.bool_)
-    for one, other in near_pairs(doors.point, metres):
+    pairs = near_pairs(doors.point, metres)
+    if found.first is not None:
+        pairs = near_some(doors.point, np.flatnonzero(doors.stop < found.first), metres)
+    for one, other in pairs:
         a, b = doors.stop[one], doors.stop[other]
         outside = (a != b) & ~(entered[a] & (station[a] == station[b]))
         a, b, one, other = a[outside], b[outside], one[outside], other[outside]
