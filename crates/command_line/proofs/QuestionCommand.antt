@@ -6,8 +6,7 @@ use Rattle.table_records.specs.Faults.{IsFirst}
 use Rattle.studies.specs.declared.settings.Settings.{Settings}
 use Rattle.command_line.specs.declared.task.Opt.{Opt}
 use Rattle.command_line.specs.declared.task.QuestionTask.{QuestionTask}
-use Rattle.command_line.specs.declared.task.Task.{Task}
-use Rattle.command_line.specs.Questions.{IsAskedOver, NamesFilesOver, bad_options_over, question_app}
+use Rattle.command_line.specs.Questions.{IsAskedOver, NamesFiles, bad_options_over, question_app}
 
 pub question_simple : is_simple question_app ≡ true
 unfolding clap_on_literals
@@ -21,9 +20,8 @@ question_free = refl
 pub same_settings_over : (a b : List Row) (base s : Settings) → a ≡ b → IsAskedOver a base s → IsAskedOver b base s
 same_settings_over a b base s is h = subst (λ rows. IsAskedOver rows base s) is h
 
-pub same_paths_over : (a b : List Row) (t : Task) (q : QuestionTask) → a ≡ b → NamesFilesOver a t q →
-    NamesFilesOver b t q
-same_paths_over a b t q is h = subst (λ rows. NamesFilesOver rows t q) is h
+pub same_paths : (a b : List Row) (q : QuestionTask) → a ≡ b → NamesFiles a q → NamesFiles b q
+same_paths a b q is h = subst (λ rows. NamesFiles rows q) is h
 
 pub same_bad_over : (a b : List Row) (base : Settings) (o : Opt) → a ≡ b → IsFirst o (bad_options_over a base) →
     IsFirst o (bad_options_over b base)

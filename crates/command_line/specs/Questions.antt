@@ -18,7 +18,6 @@ use Rattle.command_line.specs.declared.statuses.TheConstants.{NO_ROOM, REFUSED}
 use Rattle.command_line.specs.declared.task.Opt.{Opt}
 use Rattle.command_line.specs.declared.task.Opt.TheVariants as opt
 use Rattle.command_line.specs.declared.task.QuestionTask.{QuestionTask}
-use Rattle.command_line.specs.declared.task.Task.{Task}
 use Rattle.command_line.specs.declared.task.WordFault.{WordFault}
 use Rattle.command_line.specs.declared.task.WordFault.TheVariants as fault
 
@@ -83,25 +82,17 @@ pub record IsAskedOver (rows : List Row) (base s : Settings) : Type 0 where
   pub workers : workers_over rows base ≡ Some s.workers
   pub tries : tries_over rows base ≡ Some s.tries
 
--- the path of a text, where there is one, and else the command line's
-abbrev pub path_over : Option Text → Option Text → Option Text
-path_over None stays = stays
-path_over (Some path) stays = Some path
-
--- each path is its text, or the command line's
-pub record NamesFilesOver (rows : List Row) (t : Task) (q : QuestionTask) : Type 0 where
-  pub origins : path_over (text_at rows (codes "origins")) (option_map string_bytes t.origins)
-      ≡ option_map string_bytes q.origins
-  pub opportunities : path_over (text_at rows (codes "opportunities")) (option_map string_bytes t.opportunities)
-      ≡ option_map string_bytes q.opportunities
-  pub destinations : path_over (text_at rows (codes "destinations")) (option_map string_bytes t.destinations)
-      ≡ option_map string_bytes q.destinations
+-- each path of the question's own files is its text
+pub record NamesFiles (rows : List Row) (q : QuestionTask) : Type 0 where
+  pub origins : text_at rows (codes "origins") ≡ option_map string_bytes q.origins
+  pub opportunities : text_at rows (codes "opportunities") ≡ option_map string_bytes q.opportunities
+  pub destinations : text_at rows (codes "destinations") ≡ option_map string_bytes q.destinations
 
 -- what the words of a question ask for, beside the command line
-pub record Asks (words : List Text) (t : Task) (q : QuestionTask) : Type 0 where
+pub record Asks (words : List Text) (base : Settings) (q : QuestionTask) : Type 0 where
   pub taken : fault_of question_app words ≡ []
-  pub settings : IsAskedOver (rows_of_question words) t.settings q.settings
-  pub paths : NamesFilesOver (rows_of_question words) t q
+  pub settings : IsAskedOver (rows_of_question words) base q.settings
+  pub paths : NamesFiles (rows_of_question words) q
 
 -- ---- what is wrong
 

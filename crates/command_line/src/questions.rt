@@ -14,7 +14,7 @@ ghost use Rattle.command_line.specs.Words as words;
 use crate::lines::bad_line;
 use crate::options::question_command;
 use crate::statuses::{NO_ROOM, REFUSED};
-use crate::task::{Opt, QuestionTask, Task, WordFault};
+use crate::task::{Opt, QuestionTask, WordFault};
 use crate::window::{minute, window_from};
 use crate::words::{copy_at, shares_at, text_at, within, withins_at};
 use clap::ArgMatches;
@@ -24,23 +24,27 @@ use std::alloc::{AllocError, Global};
 use studies::{MOST_WORKERS, Settings};
 use work_book::MOST_TRIES;
 
-/// What the words of a question ask for, beside the task of the command line.
+/// What the words of a question ask for, beside the settings of the command line.
 ///
 /// The words are taken as those of the command line are, but for the options that no question changes, and with no
 /// program's name before them.
-pub fn question_of(alloc: Global, task: &Task, words: &[String]) -> Result<QuestionTask, WordFault>
-    requires { SettingsFit task.now.settings }
-    ensures asked { IfOk result (λ question. spec.Asks (map string_bytes words.now) task.now question) }
+pub fn question_of(
+    alloc: Global,
+    base: &Settings,
+    words: &[String],
+) -> Result<QuestionTask, WordFault>
+    requires { SettingsFit base.now }
+    ensures asked { IfOk result (λ question. spec.Asks (map string_bytes words.now) base.now question) }
     ensures fits { IfOk result (λ question. SettingsFit question.settings) }
-    ensures fault { IfErr result (λ fault. spec.TellsQuestion fault (map string_bytes words.now) task.now.settings) }
+    ensures fault { IfErr result (λ fault. spec.TellsQuestion fault (map string_bytes words.now) base.now) }
 {
     let matches = matched(alloc, words)?;
-    let settings = match settings_over(alloc, &matches, &task.settings) {
+    let settings = match settings_over(alloc, &matches, base) {
         Ok(Ok(settings)) => settings,
         Ok(Err(opt)) => return Err(WordFault::Bad(opt)),
         Err(_) => return Err(WordFault::Memory),
     };
-    match with_paths_over(alloc, &matches, task, settings) {
+    match with_paths(alloc, &matches, settings) {
         Ok(question) => Ok(question),
         Err(_) => Err(WordFault::Memory),
     }
@@ -264,38 +268,18 @@ fn withins_over(
 }
 
 /// The question of some settings, with copies of the paths.
-fn with_paths_over(
+fn with_paths(
     alloc: Global,
     matches: &ArgMatches<'_>,
-    task: &Task,
     settings: Settings,
 ) -> Result<QuestionTask, AllocError>
     ensures settings { IfOk result (λ question. question.settings ≡ settings) }
-    ensures paths { IfOk result (λ question. spec.NamesFilesOver (rows_of (found_of matches.now)) task.now question) }
+    ensures paths { IfOk result (λ question. spec.NamesFiles (rows_of (found_of matches.now)) question) }
 {
     Ok(QuestionTask {
         settings,
-        origins: path_over(alloc, matches, "origins", &task.origins)?,
-        opportunities: path_over(alloc, matches, "opportunities", &task.opportunities)?,
-        destinations: path_over(alloc, matches, "destinations", &task.destinations)?,
+        origins: copy_at(alloc, matches, "origins")?,
+        opportunities: copy_at(alloc, matches, "opportunities")?,
+        destinations: copy_at(alloc, matches, "destinations")?,
     })
-}
-
-/// A copy of the path of an option, if it is given, and else of the one that stays.
-fn path_over(
-    alloc: Global,
-    matches: &ArgMatches<'_>,
-    id: &str,
-    stays: &Option<String>,
-) -> Result<Option<String>, AllocError>
-    ensures { IfOk result (λ path. spec.path_over (words.text_at (rows_of (found_of matches.now)) id.now)
-        (option_map string_bytes stays.now) ≡ option_map string_bytes path) }
-{
-    match copy_at(alloc, matches, id)? {
-        Some(path) => Ok(Some(path)),
-        None => match stays {
-            Some(path) => Ok(Some(String::from_str(alloc, path.as_str())?)),
-            None => Ok(None),
-        },
-    }
 }

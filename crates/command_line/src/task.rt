@@ -37,7 +37,7 @@ pub struct Task {
     pub asks: bool,
 }
 
-/// What a question asks for beside what is kept: its settings, and the paths of its own files.
+/// What a question asks for: its settings, and the paths of the files that it names.
 #[derive(Drop)]
 pub struct QuestionTask {
     pub settings: Settings,
