@@ -184,7 +184,10 @@ fn words_among(alloc: Global, lines: &[&[u8]]) -> Result<Vec<String>, BlockFault
     let mut words = Vec::new(alloc);
     for line in lines {
         if !line.is_empty() {
-            words.push(word(alloc, line)?)?;
+            let word = word(alloc, line)?;
+            if words.push(word).is_err() {
+                return Err(BlockFault::Memory);
+            }
         }
     }
     Ok(words)

@@ -71,7 +71,7 @@ pub(crate) fn converse<'a, H: Host, I: Read, O: Write, E: Write>(
 
 /// Tells why a conversation ended before its input did, if it did.
 fn end<E: Write>(ended: Result<(), TalkFault>, err: &mut E) -> ExitCode
-    ensures { spec.IsEnd ended (E.contents err.old) (E.contents err.new) (exit_status result) }
+    ensures ended { spec.IsEnd ended (E.contents err.old) (E.contents err.new) (exit_status result) }
     ensures quiet { exit_status result ≡ DONE → err.new ≡ err.old }
 {
     match ended {
