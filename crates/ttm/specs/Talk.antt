@@ -4,7 +4,7 @@
 -- those that the question names. Out of memory may be told in place of any answer. An answer depends on its question
 -- alone." (The program's own rule.)
 use Rattle.std.specs.Prelude.{◌≡◌, ◌≢◌, ◌≤◌, ◌<◌, ◌⊎◌, ◌++◌, ℕ, Bool, true, false, List, [], ◌∷◌, Option, Some, None, Ok, Err, codes, decimal, length}
-use Rattle.std.specs.Prelude.{Result, map, option_map, string_bytes, ⊤, ⊥}
+use Rattle.std.specs.Prelude.{Result, map, option_map, string_bytes, ⊤}
 use Rattle.std.specs.Io.KnownBytes.{Appends, Consumes, IsAtEnd}
 use Rattle.std.specs.List.{concat}
 use Rattle.gtfs_tables.specs.Files.{IsWithinLimit}
