@@ -2,7 +2,7 @@
 //! tables, in the order of the help.
 
 ghost use Rattle.std.specs.Prelude.{◌≡◌, IfOk, false, map};
-ghost use Rattle.clap.specs.Words.{app_of, rule_of};
+ghost use Rattle.clap.specs.Words.{app_of, rule_of, with_rule};
 ghost use Rattle.command_line.specs.Questions as questions;
 ghost use Rattle.command_line.specs.Words as spec;
 
@@ -197,10 +197,8 @@ pub(crate) fn command<'a>(alloc: Global) -> Result<Command<'a>, AllocError>
         .version(VERSION)
         .about(ABOUT)
         .after_help(EXAMPLE);
-    with_options(alloc, command, OPTIONS, true)?
-        .arg(flag(alloc, "report", REPORT))?
-        .arg(flag(alloc, "ask", ASK))?
-        .arg(scenario_files(alloc))
+    let command = with_options(alloc, command, OPTIONS, true)?;
+    with_flags(alloc, command)?.arg(scenario_files(alloc))
 }
 
 /// The command that takes the words of a question. It has no help and no version to tell, and each of its words is one
@@ -242,6 +240,16 @@ fn argument<'a>(alloc: Global, option: &OptionText, must: bool) -> Arg<'a>
         .value_name(option.value)
         .help(option.help)
         .required(must && option.is_needed)
+}
+
+/// The command with the flags of a run.
+fn with_flags<'a>(alloc: Global, command: Command<'a>) -> Result<Command<'a>, AllocError>
+    ensures { IfOk result (λ c. app_of c
+        ≡ with_rule (with_rule (app_of command.entry) spec.report_rule) spec.ask_rule) }
+{
+    command
+        .arg(flag(alloc, "report", REPORT))?
+        .arg(flag(alloc, "ask", ASK))
 }
 
 /// A flag. It has no text.

@@ -205,7 +205,7 @@ fn window_over(matches: &ArgMatches<'_>, base: &Settings) -> Result<(u32, u32), 
 /// The minute of the day of a text, if there is one, and else the one that stays.
 fn minute_over(text: Option<&str>, stays: u32) -> Option<u32>
     requires { stays < 1440 }
-    ensures value { result ≡ spec.minute_over (option_map (λ text. text.now) text) stays }
+    ensures value { result ≡ spec.minute_over (option_map (λ t. t.now) text.entry) stays }
     ensures small { IfSome result (λ minute. minute < 1440) }
 {
     match text {
@@ -218,11 +218,11 @@ fn minute_over(text: Option<&str>, stays: u32) -> Option<u32>
 fn number_over(text: Option<&str>, opt: Opt, high: u32, stays: u32) -> Result<u32, Opt>
     requires low { 1 ≤ stays }
     requires high { stays ≤ high }
-    ensures ok { IfOk result (λ n. spec.over (words.number_in 1 high) (option_map (λ text. text.now) text) stays
+    ensures ok { IfOk result (λ n. spec.over (words.number_in 1 high) (option_map (λ t. t.now) text.entry) stays
         ≡ Some n) }
     ensures limits { IfOk result (λ n. (1 ≤ n) × (n ≤ high)) }
     ensures bad { IfErr result (λ o. (o ≡ opt)
-        × (spec.over (words.number_in 1 high) (option_map (λ text. text.now) text) stays ≡ None)) }
+        × (spec.over (words.number_in 1 high) (option_map (λ t. t.now) text.entry) stays ≡ None)) }
 {
     let Some(text) = text else {
         return Ok(stays);
