@@ -111,8 +111,7 @@ more_blocks [] xs ys h some rest =
     subst (λ zs. AreBlocks (zs ++ ys) (block_at true ys ∷ [])) (sym h) (some, refl, rest)
 more_blocks (block ∷ blocks) xs ys h some rest =
     let p = closed_before true xs ys h.0 in
-    let later = more_blocks blocks (rest_at true xs) ys h.2 some rest in
-    (
+    let later = more_blocks blocks (rest_at true xs) ys h.2 some rest in (
       some_before xs ys (not_nothing xs h.0),
       h.1 ∙ sym p.1,
       subst (λ zs. AreBlocks zs (blocks ++ block_at true ys ∷ [])) (sym p.2) later,
