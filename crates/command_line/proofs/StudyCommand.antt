@@ -1,5 +1,5 @@
 -- What `clap` says of the command of a study.
-use Rattle.std.proofs.Common.{◌≡◌, ◌∙◌, ◌<◌, ◌+◌, ℕ, zero, suc, List, [], ◌∷◌, map, take, length, true, false, Some}
+use Rattle.std.proofs.Common.{◌≡◌, ◌∙◌, ◌<◌, ◌+◌, ℕ, Bool, zero, suc, List, [], ◌∷◌, map, take, length, true, false, Some}
 use Rattle.std.proofs.Common.{refl, sym, ap, ap₂, subst, arith, codes}
 use Rattle.std.specs.List.{slice_index_or}
 use Rattle.std.specs.Prelude.{slice_get}
@@ -16,8 +16,8 @@ use Rattle.command_line.specs.declared.option_text.OptionText.{OptionText}
 use Rattle.command_line.specs.declared.task.Opt.{Opt}
 use Rattle.command_line.specs.declared.task.Task.{Task}
 use Rattle.command_line.proofs.Required.{is_fit}
-use Rattle.command_line.specs.Words.{study_app, needed, rule_in, with_rules, is_reported, IsAsked, NamesFiles}
-use Rattle.command_line.specs.Words.{bad_options}
+use Rattle.command_line.specs.Words.{study_app, needed, rule_in, with_rules, is_conversation, is_reported, IsAsked}
+use Rattle.command_line.specs.Words.{NamesFiles, bad_options}
 
 pub study_simple : is_simple study_app ≡ true
 unfolding clap_on_literals
@@ -40,20 +40,20 @@ pub added : (old next : Command) (arg : Arg) (rule : Rule) (app : App) → AddsA
 added old next arg rule app adds local is was = adds.shape local ∙ ap₂ with_rule was is
 
 -- the options up to one, and that one
-next : (a : App) (xs : List OptionText) (i : ℕ) (d : OptionText) → i < length xs
-    → with_rules a (map rule_in (take (suc i) xs))
-    ≡ with_rule (with_rules a (map rule_in (take i xs))) (rule_in (slice_index_or xs i d))
-next a [] i d few = absurd (omega arith)
-next a (x ∷ xs) zero d few = refl
-next a (x ∷ xs) (suc i) d few = next (with_rule a (rule_in x)) xs i d (omega arith)
+next : (a : App) (must : Bool) (xs : List OptionText) (i : ℕ) (d : OptionText) → i < length xs
+    → with_rules a (map (rule_in must) (take (suc i) xs))
+    ≡ with_rule (with_rules a (map (rule_in must) (take i xs))) (rule_in must (slice_index_or xs i d))
+next a must [] i d few = absurd (omega arith)
+next a must (x ∷ xs) zero d few = refl
+next a must (x ∷ xs) (suc i) d few = next (with_rule a (rule_in must x)) must xs i d (omega arith)
 
-pub next_rule : (a : App) (xs : List OptionText) (i : ℕ) (d : OptionText) → i < length xs
-    → with_rules a (map rule_in (take (i + 1) xs))
-    ≡ with_rule (with_rules a (map rule_in (take i xs))) (rule_in (slice_index_or xs i d))
-next_rule a xs i d few =
-    subst (λ n. with_rules a (map rule_in (take n xs))
-    ≡ with_rule (with_rules a (map rule_in (take i xs))) (rule_in (slice_index_or xs i d))) (suc_is i)
-    (next a xs i d few)
+pub next_rule : (a : App) (must : Bool) (xs : List OptionText) (i : ℕ) (d : OptionText) → i < length xs
+    → with_rules a (map (rule_in must) (take (i + 1) xs))
+    ≡ with_rule (with_rules a (map (rule_in must) (take i xs))) (rule_in must (slice_index_or xs i d))
+next_rule a must xs i d few =
+    subst (λ n. with_rules a (map (rule_in must) (take n xs))
+    ≡ with_rule (with_rules a (map (rule_in must) (take i xs))) (rule_in must (slice_index_or xs i d))) (suc_is i)
+    (next a must xs i d few)
   where
     suc_is : (n : ℕ) → suc n ≡ n + 1
     suc_is n = omega arith
@@ -80,6 +80,9 @@ same_settings a b s is h = subst (λ rows. IsAsked rows s) is h
 
 pub same_report : (a b : List Row) (t : Task) → a ≡ b → t.report ≡ is_reported a → t.report ≡ is_reported b
 same_report a b t is h = h ∙ ap is_reported is
+
+pub same_ask : (a b : List Row) (t : Task) → a ≡ b → t.asks ≡ is_conversation a → t.asks ≡ is_conversation b
+same_ask a b t is h = h ∙ ap is_conversation is
 
 pub same_bad : (a b : List Row) (o : Opt) → a ≡ b → IsFirst o (bad_options a) → IsFirst o (bad_options b)
 same_bad a b o is h = subst (λ rows. IsFirst o (bad_options rows)) is h

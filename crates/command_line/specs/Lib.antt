@@ -4,3 +4,4 @@ pub mod Numbers
 pub mod Lines
 pub mod Paths
 pub mod Words
+pub mod Questions

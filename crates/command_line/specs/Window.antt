@@ -23,7 +23,10 @@ minute_of text =
     else None
 
 -- the first minute and the number of minutes, both ends included
+abbrev pub minutes_between : ℕ → ℕ → Option (ℕ × ℕ)
+minutes_between first last = if nat_le first last then Some (first, last - first + 1) else None
+
+-- ... of two texts
 abbrev pub window_between : List ℕ → List ℕ → Option (ℕ × ℕ)
 window_between from to =
-    option_and_then (λ first. option_and_then
-    (λ last. if nat_le first last then Some (first, last - first + 1) else None) (minute_of to)) (minute_of from)
+    option_and_then (λ first. option_and_then (minutes_between first) (minute_of to)) (minute_of from)

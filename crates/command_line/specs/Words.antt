@@ -1,5 +1,5 @@
 -- The command line of a study: its options, and what their texts ask for.
--- "Options have one text each; the flag of a report has none. A date is YYYYMMDD, a window two times of the day, the
+-- "Options have one text each; the flags of a report and of a conversation have none. A date is YYYYMMDD, a window two times of the day, the
 -- shares and the limits of access are lists of numbers, all else is a number within its limits; spaces around a number
 -- or a date don't count. The first option that is bad is told." (The program's own rules; how words are split into
 -- options is the rule of the `clap` crate.)
@@ -51,13 +51,20 @@ needed name = option_rule true name
 abbrev pub optional : Text → Rule
 optional name = option_rule false name
 
--- an option of the table
-abbrev pub rule_in : OptionText → Rule
-rule_in option = option_rule option.is_needed option.name.now
+-- an option of the table, which must be given where the table says so and `must` is true
+abbrev pub rule_in : Bool → OptionText → Rule
+rule_in must option = option_rule (must && option.is_needed) option.name.now
 
--- the flag that asks for a report
+-- a flag, which has no text
+abbrev pub flag_rule : Text → Rule
+flag_rule name = record (new_rule name) { long = Some name; action = Some SetTrue }
+
+-- the flag that asks for a report, and the one that asks for a conversation
 abbrev pub report_rule : Rule
-report_rule = record (new_rule (codes "report")) { long = Some (codes "report"); action = Some SetTrue }
+report_rule = flag_rule (codes "report")
+
+abbrev pub ask_rule : Rule
+ask_rule = flag_rule (codes "ask")
 
 -- the scenario files: the words that belong to no option
 abbrev pub scenario_rule : Rule
@@ -88,8 +95,9 @@ option_rules =
     (codes "destinations") ∷ optional (codes "footpaths") ∷ []
 
 abbrev pub study_app : App
-study_app = with_rule (with_rule (with_rules (with_version (new_app (codes "ttm"))) option_rules) report_rule)
-    scenario_rule
+study_app =
+    with_rule (with_rule (with_rule (with_rules (with_version (new_app (codes "ttm"))) option_rules) report_rule)
+    ask_rule) scenario_rule
 
 -- what the words give each option, by `clap`
 abbrev pub rows_of_words : List Text → List Row
@@ -105,9 +113,16 @@ text_at rows id = first_of id rows
 abbrev pub scenarios_at : List Row → List Text
 scenarios_at rows = unwrap_or (all_of (codes "scenario") rows) []
 
--- whether a report is asked for: `clap` gives the flag the text "true" where the words have it, and else "false"
+-- whether the words have a flag: `clap` gives it the text "true" where they have it, and else "false"
+abbrev pub has_flag : List Row → Text → Bool
+has_flag rows id = option_map_or (λ t. bytes_eq t (codes "true")) (text_at rows id) false
+
+-- whether a report is asked for, and whether a conversation is
 abbrev pub is_reported : List Row → Bool
-is_reported rows = option_map_or (λ t. bytes_eq t (codes "true")) (text_at rows (codes "report")) false
+is_reported rows = has_flag rows (codes "report")
+
+abbrev pub is_conversation : List Row → Bool
+is_conversation rows = has_flag rows (codes "ask")
 
 -- the day of a text
 abbrev pub day_in : Option Text → Option ℤ

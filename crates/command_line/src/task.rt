@@ -33,6 +33,17 @@ pub struct Task {
     pub scenarios: Vec<String>,
     /// Whether the standard error is to tell what was read and how far the rows are. The matrix doesn't depend on it.
     pub report: bool,
+    /// Whether questions are asked of what is kept, in place of one study that is made.
+    pub asks: bool,
+}
+
+/// What a question asks for: its settings, and the paths of the files that it names.
+#[derive(Drop)]
+pub struct QuestionTask {
+    pub settings: Settings,
+    pub origins: Option<String>,
+    pub opportunities: Option<String>,
+    pub destinations: Option<String>,
 }
 
 /// Why the arguments ask for no study.

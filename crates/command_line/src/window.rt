@@ -1,7 +1,7 @@
 //! The departure window that two texts of the command line name.
 
 ghost use Rattle.std.specs.Prelude.{◌≡◌, ◌<◌, ◌≤◌, ◌+◌, IfSome};
-ghost use Rattle.command_line.specs.Window.{below_of, minute_of, window_between};
+ghost use Rattle.command_line.specs.Window.{below_of, minute_of, minutes_between, window_between};
 
 /// The hours of a day.
 const HOURS: u32 = 24;
@@ -19,6 +19,16 @@ pub fn window_of(from: &[u8], to: &[u8]) -> Option<(u32, u32)>
 {
     let first = minute(from)?;
     let last = minute(to)?;
+    window_from(first, last)
+}
+
+/// The same of two minutes of the day.
+pub(crate) fn window_from(first: u32, last: u32) -> Option<(u32, u32)>
+    requires first { first < 1440 }
+    requires last { last < 1440 }
+    ensures window { result ≡ minutes_between first last }
+    ensures within { IfSome result (λ window. (1 ≤ window.1) × (window.0 + window.1 ≤ 1440)) }
+{
     if last < first {
         return None;
     }
@@ -26,7 +36,7 @@ pub fn window_of(from: &[u8], to: &[u8]) -> Option<(u32, u32)>
 }
 
 /// The minute of the day that a text writes.
-fn minute(text: &[u8]) -> Option<u32>
+pub(crate) fn minute(text: &[u8]) -> Option<u32>
     ensures value { result ≡ minute_of text.now }
     ensures small { IfSome result (λ minute. minute < 1440) }
 {

@@ -42,6 +42,8 @@ pub fn task_of(alloc: Global, words: &[String]) -> Result<Task, WordFault>
     ensures paths { IfOk result (λ task. spec.NamesFiles (spec.rows_of_words (map string_bytes words.now)) task) }
     ensures reported { IfOk result (λ task. task.report
         ≡ spec.is_reported (spec.rows_of_words (map string_bytes words.now))) }
+    ensures asks { IfOk result (λ task. task.asks
+        ≡ spec.is_conversation (spec.rows_of_words (map string_bytes words.now))) }
     ensures fault { IfErr result (λ fault. spec.Tells fault (map string_bytes words.now)) }
 {
     let matches = matched(alloc, words)?;
@@ -101,7 +103,7 @@ fn matched<'a>(alloc: Global, words: &'a [String]) -> Result<ArgMatches<'a>, Wor
 }
 
 /// The text of an option.
-fn text_at<'a>(matches: &ArgMatches<'a>, id: &str) -> Option<&'a str>
+pub(crate) fn text_at<'a>(matches: &ArgMatches<'a>, id: &str) -> Option<&'a str>
     ensures { option_map (λ text. text.now) result ≡ spec.text_at (rows_of (found_of matches.now)) id.now }
 {
     matches.get_str(id)
@@ -140,7 +142,7 @@ fn window_at(matches: &ArgMatches<'_>) -> Result<(u32, u32), Opt>
 }
 
 /// The number of a text, if it is within its limits.
-fn within(low: u32, high: u32, text: &str) -> Option<u32>
+pub(crate) fn within(low: u32, high: u32, text: &str) -> Option<u32>
     ensures value { result ≡ spec.number_in low high (Some text.now) }
     ensures limits { IfSome result (λ n. (low ≤ n) × (n ≤ high)) }
 {
@@ -189,7 +191,10 @@ fn days_at(matches: &ArgMatches<'_>, opt: Opt, id: &str) -> Result<u32, Opt>
 }
 
 /// The shares that their option lists, if its text lists some.
-fn shares_at(alloc: Global, matches: &ArgMatches<'_>) -> Result<Option<Vec<u32>>, AllocError>
+pub(crate) fn shares_at(
+    alloc: Global,
+    matches: &ArgMatches<'_>,
+) -> Result<Option<Vec<u32>>, AllocError>
     ensures value { IfOk result (λ list. option_map (λ shares. shares.items) list
         ≡ spec.shares_of (rows_of (found_of matches.now))) }
     ensures fits { IfOk result (λ list. IfSome list (λ shares. SharesFit shares.items)) }
@@ -208,7 +213,10 @@ fn shares_at(alloc: Global, matches: &ArgMatches<'_>) -> Result<Option<Vec<u32>>
 }
 
 /// The limits of access that their option lists, if its text lists some.
-fn withins_at(alloc: Global, matches: &ArgMatches<'_>) -> Result<Option<Vec<u32>>, AllocError>
+pub(crate) fn withins_at(
+    alloc: Global,
+    matches: &ArgMatches<'_>,
+) -> Result<Option<Vec<u32>>, AllocError>
     ensures value { IfOk result (λ list. option_map (λ withins. withins.items) list
         ≡ spec.withins_of (rows_of (found_of matches.now))) }
     ensures fits { IfOk result (λ list. IfSome list (λ withins. LimitsFit withins.items)) }
@@ -276,7 +284,11 @@ fn settings_with(
 }
 
 /// A copy of the text of an option, if it is given.
-fn copy_at(alloc: Global, matches: &ArgMatches<'_>, id: &str) -> Result<Option<String>, AllocError>
+pub(crate) fn copy_at(
+    alloc: Global,
+    matches: &ArgMatches<'_>,
+    id: &str,
+) -> Result<Option<String>, AllocError>
     ensures { IfOk result (λ text. spec.text_at (rows_of (found_of matches.now)) id.now
         ≡ option_map string_bytes text) }
 {
@@ -307,11 +319,11 @@ fn scenarios_at(alloc: Global, matches: &ArgMatches<'_>) -> Result<Vec<String>, 
     }
 }
 
-/// Whether a report is asked for.
-fn report_at(matches: &ArgMatches<'_>) -> bool
-    ensures { result ≡ spec.is_reported (rows_of (found_of matches.now)) }
+/// Whether a flag is given.
+fn flag_at(matches: &ArgMatches<'_>, id: &str) -> bool
+    ensures { result ≡ spec.has_flag (rows_of (found_of matches.now)) id.now }
 {
-    match text_at(matches, "report") {
+    match text_at(matches, id) {
         Some(text) => text == "true",
         None => false,
     }
@@ -327,6 +339,7 @@ fn with_paths(
     ensures settings { IfOk result (λ task. task.settings ≡ settings) }
     ensures paths { IfOk result (λ task. spec.NamesFiles (rows_of (found_of matches.now)) task) }
     ensures reported { IfOk result (λ task. task.report ≡ spec.is_reported (rows_of (found_of matches.now))) }
+    ensures asks { IfOk result (λ task. task.asks ≡ spec.is_conversation (rows_of (found_of matches.now))) }
 {
     let Some(feed) = text_at(matches, "feed") else {
         unreachable!();
@@ -339,6 +352,7 @@ fn with_paths(
         opportunities: copy_at(alloc, matches, "opportunities")?,
         destinations: copy_at(alloc, matches, "destinations")?,
         scenarios: scenarios_at(alloc, matches)?,
-        report: report_at(matches),
+        report: flag_at(matches, "report"),
+        asks: flag_at(matches, "ask"),
     })
 }

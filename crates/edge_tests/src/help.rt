@@ -34,6 +34,7 @@ Options:
       --destinations <F>   File of the stops that have a column of travel times [default: all stops]
       --footpaths <F>      File of further footpaths, in seconds [default: none]
       --report             Tell on standard error what was read, what seems wrong, and how far the rows are
+      --ask                Keep the network, read questions from the standard input, and answer each of them
   -h, --help               Print help
   -V, --version            Print version
 

@@ -1,2 +1,4 @@
 pub mod FirstUnread
 pub mod Scenarios
+pub mod BlockFacts
+pub mod TalkFacts

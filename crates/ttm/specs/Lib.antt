@@ -1,3 +1,5 @@
 pub mod Answers
 pub mod Disk
 pub mod Files
+pub mod Blocks
+pub mod Talk

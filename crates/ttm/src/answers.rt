@@ -146,7 +146,7 @@ fn put_matrix<H: Host, G: Gate + Sync, W: Watch, O: Write>(
 }
 
 /// Tells why the matrix isn't out.
-fn tell_why<E: Write>(
+pub(crate) fn tell_why<E: Write>(
     alloc: Global,
     fault: &StudyFault,
     inputs: &Inputs<'_>,

@@ -12,6 +12,7 @@ ghost use Rattle.std.specs.IoError.{error_kind};
 ghost use Rattle.std.specs.Process.{exit_status};
 ghost use Rattle.std.specs.declared.io.ErrorKind.TheVariants.{OutOfMemory};
 ghost use Rattle.clap.specs.Words.{Text};
+ghost use Rattle.studies.specs.Inputs.{AreWithinLimit, inputs_of};
 ghost use Rattle.studies.specs.Settings.{SettingsFit};
 ghost use Rattle.ttm.specs.Answers as spec;
 ghost use Rattle.ttm.specs.Files.{IsShort};
@@ -21,6 +22,7 @@ use crate::example::example_settings;
 use crate::host::Host;
 use crate::reading::read_files;
 use crate::study_files::StudyFiles;
+use crate::talk::converse;
 use clap::Error;
 use command_line::{
     DONE, NOT_MOVED, REFUSED, Task, WordFault, bad_line, explain_option, task_of, tell, tell_short,
@@ -30,17 +32,24 @@ use matrix_text::put_all;
 use reports::explain_folder;
 use small_feed::{FROM_A, small_files};
 use std::alloc::Global;
-use std::io::{ErrorKind, Write};
+use std::io::{ErrorKind, Read, Write};
 use std::process::ExitCode;
 use std::{env, io};
 use studies::Inputs;
 
-/// What the program does: it has its arguments of its host, and the two outputs.
-pub(crate) fn run<H: Host, O: Write, E: Write>(host: &H, out: &mut O, err: &mut E) -> ExitCode
+/// What the program does: it has its arguments of its host, the standard input, which a conversation alone reads, and
+/// the two outputs.
+pub(crate) fn run<H: Host, I: Read, O: Write, E: Write>(
+    host: &H,
+    input: &mut I,
+    out: &mut O,
+    err: &mut E,
+) -> ExitCode
     ensures success { exit_status result ≡ DONE →
-        (words : List Text) × spec.EndsWell (H.finds host.now) words (O.contents out.old) (O.contents out.new) }
-    ensures ended { ((words : List Text) × spec.Ends (H.finds host.now) words (O.contents out.old) (O.contents out.new)
-        (E.contents err.old) (E.contents err.new) (exit_status result))
+        (words : List Text) × spec.EndsWell (H.finds host.now) words (I.remaining input.old) (I.remaining input.new)
+        (O.contents out.old) (O.contents out.new) }
+    ensures ended { ((words : List Text) × spec.Ends (H.finds host.now) words (I.remaining input.old) (I.remaining input.new)
+        (O.contents out.old) (O.contents out.new) (E.contents err.old) (E.contents err.new) (exit_status result))
         ⊎ spec.EndsUnread (O.contents out.old) (O.contents out.new) (E.contents err.old) (E.contents err.new)
         (exit_status result) }
     ensures quiet { exit_status result ≡ DONE → err.new ≡ err.old }
@@ -50,7 +59,7 @@ pub(crate) fn run<H: Host, O: Write, E: Write>(host: &H, out: &mut O, err: &mut 
         Err(error) => return tell_unread(&error, err),
     };
     match words.collect::<Vec<String>>(host.alloc()) {
-        Ok(words) => run_words(host, &words, out, err),
+        Ok(words) => run_words(host, &words, input, out, err),
         Err(_) => tell_short(err),
     }
 }
@@ -69,22 +78,24 @@ fn tell_unread<E: Write>(error: &io::Error, err: &mut E) -> ExitCode
 }
 
 /// What the program does with its arguments: its name, and those after it.
-pub(crate) fn run_words<H: Host, O: Write, E: Write>(
+pub(crate) fn run_words<H: Host, I: Read, O: Write, E: Write>(
     host: &H,
     words: &[String],
+    input: &mut I,
     out: &mut O,
     err: &mut E,
 ) -> ExitCode
     ensures success { exit_status result ≡ DONE →
-        spec.EndsWell (H.finds host.now) (map string_bytes words.now) (O.contents out.old) (O.contents out.new) }
-    ensures ended { spec.Ends (H.finds host.now) (map string_bytes words.now) (O.contents out.old) (O.contents out.new)
-        (E.contents err.old) (E.contents err.new) (exit_status result) }
+        spec.EndsWell (H.finds host.now) (map string_bytes words.now) (I.remaining input.old) (I.remaining input.new)
+        (O.contents out.old) (O.contents out.new) }
+    ensures ended { spec.Ends (H.finds host.now) (map string_bytes words.now) (I.remaining input.old)
+        (I.remaining input.new) (O.contents out.old) (O.contents out.new) (E.contents err.old) (E.contents err.new) (exit_status result) }
     ensures quiet { exit_status result ≡ DONE → err.new ≡ err.old }
 {
     if words.len() <= 1 {
         example(host, out, err)
     } else {
-        asked(host, words, out, err)
+        asked(host, words, input, out, err)
     }
 }
 
@@ -110,22 +121,24 @@ fn example<H: Host, O: Write, E: Write>(host: &H, out: &mut O, err: &mut E) -> E
 }
 
 /// The study that the arguments ask for.
-fn asked<H: Host, O: Write, E: Write>(
+fn asked<H: Host, I: Read, O: Write, E: Write>(
     host: &H,
     words: &[String],
+    input: &mut I,
     out: &mut O,
     err: &mut E,
 ) -> ExitCode
     ensures success { exit_status result ≡ DONE →
-        spec.Succeeds (H.finds host.now) (map string_bytes words.now) (O.contents out.old) (O.contents out.new) }
-    ensures ended { spec.EndsWords (H.finds host.now) (map string_bytes words.now) (O.contents out.old)
-        (O.contents out.new) (E.contents err.old) (E.contents err.new) (exit_status result) }
+        spec.Succeeds (H.finds host.now) (map string_bytes words.now) (I.remaining input.old) (I.remaining input.new)
+        (O.contents out.old) (O.contents out.new) }
+    ensures ended { spec.EndsWords (H.finds host.now) (map string_bytes words.now) (I.remaining input.old)
+        (I.remaining input.new) (O.contents out.old) (O.contents out.new) (E.contents err.old) (E.contents err.new) (exit_status result) }
     ensures quiet { exit_status result ≡ DONE → err.new ≡ err.old }
 {
     match task_of(host.alloc(), words) {
         Ok(task) => {
             let mut files = StudyFiles::none(host.alloc());
-            let code = read_and_answer(host, &task, &mut files, out, err);
+            let code = read_and_answer(host, &task, &mut files, input, out, err);
             // Dropped here and not on the way out, where the prover would follow each file and each string.
             drop(files);
             drop(task);
@@ -194,24 +207,26 @@ fn put_help<O: Write, E: Write>(text: &[u8], out: &mut O, err: &mut E) -> ExitCo
     }
 }
 
-/// Reads the files of a task, and answers its study.
-fn read_and_answer<H: Host, O: Write, E: Write>(
+/// Reads the files of a task, and answers its study, or the questions of its conversation.
+fn read_and_answer<H: Host, I: Read, O: Write, E: Write>(
     host: &H,
     task: &Task,
     files: &mut StudyFiles,
+    input: &mut I,
     out: &mut O,
     err: &mut E,
 ) -> ExitCode
     requires settings { SettingsFit task.now.settings }
     requires no_scenarios { files.old.scenarios.items ≡ [] }
     ensures success { exit_status result ≡ DONE →
-        spec.IsMade (H.finds host.now) task.now (O.contents out.old) (O.contents out.new) }
-    ensures ended { spec.EndsTask (H.finds host.now) task.now (O.contents out.old) (O.contents out.new)
+        spec.IsDone (H.finds host.now) task.now (I.remaining input.old) (I.remaining input.new) (O.contents out.old)
+        (O.contents out.new) }
+    ensures ended { spec.EndsTask (H.finds host.now) task.now (I.remaining input.old) (I.remaining input.new) (O.contents out.old) (O.contents out.new)
         (E.contents err.old) (E.contents err.new) (exit_status result) }
     ensures quiet { exit_status result ≡ DONE → err.new ≡ err.old }
 {
     match read_files(host.alloc(), host, task, files) {
-        Ok(()) => answer_task(host, task, &files.inputs(), out, err),
+        Ok(()) => answer_files(host, task, &files.inputs(), input, out, err),
         Err(unread) => {
             let code = unread.tell(host.alloc(), err);
             if task.report {
@@ -219,5 +234,30 @@ fn read_and_answer<H: Host, O: Write, E: Write>(
             }
             code
         }
+    }
+}
+
+/// Answers the study of a task whose files are read, or the questions of its conversation.
+fn answer_files<'a, H: Host, I: Read, O: Write, E: Write>(
+    host: &'a H,
+    task: &'a Task,
+    inputs: &Inputs<'a>,
+    input: &mut I,
+    out: &mut O,
+    err: &mut E,
+) -> ExitCode
+    requires files { AreWithinLimit (inputs_of inputs.now) }
+    requires settings { SettingsFit task.now.settings }
+    ensures ended { spec.EndsFiles (H.finds host.now) (inputs_of inputs.now) task.now (I.remaining input.old)
+        (I.remaining input.new) (O.contents out.old) (O.contents out.new) (E.contents err.old) (E.contents err.new)
+        (exit_status result) }
+    ensures success { exit_status result ≡ DONE → spec.IsDoneOf (H.finds host.now) (inputs_of inputs.now) task.now
+        (I.remaining input.old) (I.remaining input.new) (O.contents out.old) (O.contents out.new) }
+    ensures quiet { exit_status result ≡ DONE → err.new ≡ err.old }
+{
+    if task.asks {
+        converse(host, task, inputs, input, out, err)
+    } else {
+        answer_task(host, task, inputs, out, err)
     }
 }

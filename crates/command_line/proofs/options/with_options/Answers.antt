@@ -8,4 +8,4 @@ loop-option-preserved c =
     added c.loop-option.command c.in_ok-command.command c.argument.result _ _ c.in_ok-command.ensures
     c.argument.ensures.local c.argument.ensures.rule
     c.loop-option.invariant
-    ∙ sym (next_rule (app_of c.args.command) c.args.options.now c.loop-option.option-index _ (omega arith))
+    ∙ sym (next_rule (app_of c.args.command) c.args.must c.args.options.now c.loop-option.option-index _ (omega arith))

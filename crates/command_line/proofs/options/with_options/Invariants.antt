@@ -5,4 +5,4 @@ use Rattle.command_line.proofs.options.with_options.Given as goal
 
 abbrev pub invariant-loop-option : goal.invariant-loop-option
 invariant-loop-option l = app_of l.command
-    ≡ with_rules (app_of l.fn.command) (map rule_in (take l.option-index l.options))
+    ≡ with_rules (app_of l.fn.command) (map (rule_in l.must) (take l.option-index l.options))

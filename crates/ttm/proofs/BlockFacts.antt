@@ -1,0 +1,128 @@
+-- Blocks of lines, byte after byte and block after block.
+use Rattle.std.proofs.Common.{◌≡◌, ◌∙◌, ◌++◌, ◌==◌, ◌&&◌, ◌<◌, ◌≤◌, ℕ, Bool, true, false, List, [], ◌∷◌, length, refl, sym}
+use Rattle.std.proofs.Common.{ap, subst, if◌then◌else◌, Option, Some, None, append_assoc, arith}
+use Rattle.std.specs.Io.KnownBytes.{Consumes}
+use Rattle.ttm.specs.Blocks.{AreBlocks, Gathers, block_at, is_closed, rest_at}
+use Rattle.ttm.specs.declared.blocks.Gathered.{Gathered}
+
+-- whether a line begins after these bytes
+abbrev pub begins_after : Bool → List ℕ → Bool
+begins_after begins [] = begins
+begins_after begins (b ∷ bs) = begins_after (b == 10) bs
+
+-- bytes that were read, in which no empty line came, and what is kept of them
+pub record AreGathered (known left : Option (List ℕ)) (g : Gathered) (begins : Bool) : Type 0 where
+  pub bytes : List ℕ
+  pub consumed : Consumes known left bytes
+  pub gathers : Gathers bytes g
+  pub open_still : is_closed true bytes ≡ false
+  pub begins_is : begins_after true bytes ≡ begins
+
+pub begins_next : (n : Bool) (xs : List ℕ) (b : ℕ) → begins_after n (xs ++ b ∷ []) ≡ (b == 10)
+begins_next n [] b = refl
+begins_next n (x ∷ xs) b = begins_next (x == 10) xs b
+
+-- where no empty line came before, one more byte decides
+pub closed_next : (n : Bool) (xs : List ℕ) (b : ℕ) → is_closed n xs ≡ false →
+    is_closed n (xs ++ b ∷ []) ≡ (begins_after n xs && (b == 10))
+closed_next n [] b e = go (n && (b == 10))
+  where
+    go : (t : Bool) → (if t then true else false) ≡ t
+    go true = refl
+    go false = refl
+closed_next n (x ∷ xs) b e = go (n && (x == 10)) e
+  where
+    go : (t : Bool) → (if t then true else is_closed (x == 10) xs) ≡ false →
+        (if t then true else is_closed (x == 10) (xs ++ b ∷ [])) ≡ (begins_after (x == 10) xs && (b == 10))
+    go true bad = absurd (let no : true ≡ false = bad in cc)
+    go false open_still = closed_next (x == 10) xs b open_still
+
+-- where no empty line comes, all bytes are the block
+pub block_open : (n : Bool) (xs : List ℕ) → is_closed n xs ≡ false → (block_at n xs ≡ xs) × (rest_at n xs ≡ [])
+block_open n [] e = (refl, refl)
+block_open n (x ∷ xs) e = go (n && (x == 10)) e
+  where
+    go : (t : Bool) → (if t then true else is_closed (x == 10) xs) ≡ false →
+        ((if t then [] else x ∷ block_at (x == 10) xs) ≡ x ∷ xs)
+        × ((if t then xs else rest_at (x == 10) xs) ≡ [])
+    go true bad = absurd (let no : true ≡ false = bad in cc)
+    go false open_still =
+        let p = block_open (x == 10) xs open_still in
+        (ap (λ l. x ∷ l) p.0, p.1)
+
+-- where the empty line comes last, all bytes before it are the block
+pub block_end : (n : Bool) (xs : List ℕ) (b : ℕ) → is_closed n xs ≡ false → (begins_after n xs && (b == 10)) ≡ true →
+    (block_at n (xs ++ b ∷ []) ≡ xs) × (rest_at n (xs ++ b ∷ []) ≡ [])
+block_end n [] b e ends = go (n && (b == 10)) ends
+  where
+    go : (t : Bool) → t ≡ true → ((if t then [] else b ∷ []) ≡ []) × ((if t then [] else []) ≡ [])
+    go true yes = (refl, refl)
+    go false no = absurd (let bad : false ≡ true = no in cc)
+block_end n (x ∷ xs) b e ends = go (n && (x == 10)) e
+  where
+    go : (t : Bool) → (if t then true else is_closed (x == 10) xs) ≡ false →
+        ((if t then [] else x ∷ block_at (x == 10) (xs ++ b ∷ [])) ≡ x ∷ xs)
+        × ((if t then xs ++ b ∷ [] else rest_at (x == 10) (xs ++ b ∷ [])) ≡ [])
+    go true bad = absurd (let no : true ≡ false = bad in cc)
+    go false open_still =
+        let p = block_end (x == 10) xs b open_still ends in
+        (ap (λ l. x ∷ l) p.0, p.1)
+
+-- after an empty line, further bytes change nothing of the block
+pub closed_before : (n : Bool) (xs ys : List ℕ) → is_closed n xs ≡ true →
+    (is_closed n (xs ++ ys) ≡ true) × (block_at n (xs ++ ys) ≡ block_at n xs)
+    × (rest_at n (xs ++ ys) ≡ rest_at n xs ++ ys)
+closed_before n [] ys e = absurd (let bad : false ≡ true = e in cc)
+closed_before n (x ∷ xs) ys e = go (n && (x == 10)) e
+  where
+    go : (t : Bool) → (if t then true else is_closed (x == 10) xs) ≡ true →
+        ((if t then true else is_closed (x == 10) (xs ++ ys)) ≡ true)
+        × ((if t then [] else x ∷ block_at (x == 10) (xs ++ ys)) ≡ (if t then [] else x ∷ block_at (x == 10) xs))
+        × ((if t then xs ++ ys else rest_at (x == 10) (xs ++ ys)) ≡ (if t then xs else rest_at (x == 10) xs) ++ ys)
+    go true yes = (refl, refl, refl)
+    go false closed =
+        let p = closed_before (x == 10) xs ys closed in
+        (p.0, ap (λ l. x ∷ l) p.1, p.2)
+
+-- these are the blocks of the bytes, and an empty line ended each
+abbrev pub AreClosed : List ℕ → List (List ℕ) → Type 0
+AreClosed bytes [] = bytes ≡ []
+AreClosed bytes (block ∷ blocks) =
+    (is_closed true bytes ≡ true) × (block ≡ block_at true bytes) × AreClosed (rest_at true bytes) blocks
+
+not_nothing : (xs : List ℕ) → is_closed true xs ≡ true → xs ≡ [] → ⊥
+not_nothing xs closed nothing =
+    let bad : false ≡ true = sym (ap (is_closed true) nothing) ∙ closed in
+    absurd (cc)
+
+some_before : (xs ys : List ℕ) → (xs ≡ [] → ⊥) → xs ++ ys ≡ [] → ⊥
+some_before [] ys some e = some refl
+some_before (x ∷ xs) ys some e = cc
+
+pub closed_are_blocks : (blocks : List (List ℕ)) (bytes : List ℕ) → AreClosed bytes blocks → AreBlocks bytes blocks
+closed_are_blocks [] bytes h = h
+closed_are_blocks (block ∷ blocks) bytes h =
+    (not_nothing bytes h.0, h.1, closed_are_blocks blocks (rest_at true bytes) h.2)
+
+-- one more block, which the input's end may have ended
+pub more_blocks : (blocks : List (List ℕ)) (xs ys : List ℕ) → AreClosed xs blocks → (ys ≡ [] → ⊥) →
+    rest_at true ys ≡ [] → AreBlocks (xs ++ ys) (blocks ++ block_at true ys ∷ [])
+more_blocks [] xs ys h some rest =
+    subst (λ zs. AreBlocks (zs ++ ys) (block_at true ys ∷ [])) (sym h) (some, refl, rest)
+more_blocks (block ∷ blocks) xs ys h some rest =
+    let p = closed_before true xs ys h.0 in
+    let later = more_blocks blocks (rest_at true xs) ys h.2 some rest in (
+      some_before xs ys (not_nothing xs h.0),
+      h.1 ∙ sym p.1,
+      subst (λ zs. AreBlocks zs (blocks ++ block_at true ys ∷ [])) (sym p.2) later,
+    )
+
+-- one more block, which an empty line ended
+pub more_closed : (blocks : List (List ℕ)) (xs ys : List ℕ) → AreClosed xs blocks → is_closed true ys ≡ true →
+    rest_at true ys ≡ [] → AreClosed (xs ++ ys) (blocks ++ block_at true ys ∷ [])
+more_closed [] xs ys h closed rest =
+    subst (λ zs. AreClosed (zs ++ ys) (block_at true ys ∷ [])) (sym h) (closed, refl, rest)
+more_closed (block ∷ blocks) xs ys h closed rest =
+    let p = closed_before true xs ys h.0 in
+    let later = more_closed blocks (rest_at true xs) ys h.2 closed rest in
+    (p.0, h.1 ∙ sym p.1, subst (λ zs. AreClosed zs (blocks ++ block_at true ys ∷ [])) (sym p.2) later)
