@@ -13,9 +13,11 @@ use std::alloc::{AllocError, Global};
 
 const ABOUT: &str = "Travel time matrices over a GTFS feed, for a base network and for scenarios.";
 
-const EXAMPLE: &str =
+/// The end of the help: an example, and how a refusal is explained.
+const END: &str =
     "Example: ttm --feed town --date 20260504 --from 08:00 --to 08:59 --trips 3 --walk 600 --share 50 \
-    --within 1800 --workers 4 --tries 2 cut.csv";
+    --within 1800 --workers 4 --tries 2 cut.csv\n\n\
+    After a refusal, the same command with --report explains it: the value that is wrong, and what is allowed.";
 
 /// The folder of the feed.
 const FEED: OptionText = OptionText {
@@ -196,7 +198,7 @@ pub(crate) fn command<'a>(alloc: Global) -> Result<Command<'a>, AllocError>
     let command = Command::new(alloc, "ttm")
         .version(VERSION)
         .about(ABOUT)
-        .after_help(EXAMPLE);
+        .after_help(END);
     let command = with_options(alloc, command, OPTIONS, true)?;
     with_flags(alloc, command)?.arg(scenario_files(alloc))
 }

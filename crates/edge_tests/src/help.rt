@@ -40,6 +40,8 @@ Options:
 
 Example: ttm --feed town --date 20260504 --from 08:00 --to 08:59 --trips 3 --walk 600 --share 50 \
     --within 1800 --workers 4 --tries 2 cut.csv
+
+After a refusal, the same command with --report explains it: the value that is wrong, and what is allowed.
 ";
 
 /// The whole text of the version.
