@@ -4,7 +4,7 @@ ghost use Rattle.std.specs.Prelude.{◌<◌};
 use crate::asked::Asked;
 use crate::figures::micros;
 use crate::telling::{refuse, tell, tell_origin};
-use rounds::{Durations, MOST_RIDES, durations};
+use rounds::{Durations, MOST_RIDES, Search};
 use std::io;
 use std::time::Instant;
 use timetable::{NEVER, Network, StopNo};
@@ -19,13 +19,14 @@ pub(crate) fn time_origins(
     if !asked.window.fits() || asked.rides > MOST_RIDES {
         return refuse(rt, "the window or the rides are past their limits");
     }
+    let mut search = Search::new(rt.alloc());
     let mut sum = 0;
     for (at, origin) in origins.iter().enumerate() {
         if origin.0 >= network.stops() {
             return refuse(rt, "an origin is no stop of the network");
         }
         let start = Instant::now(rt)?;
-        let found = durations(rt.alloc(), network, *origin, asked.window, asked.rides)?;
+        let found = search.durations(rt.alloc(), network, *origin, asked.window, asked.rides)?;
         tell_origin(rt, at, micros(start.elapsed(rt)?))?;
         sum = sum_with(sum, &found);
     }

@@ -52,20 +52,39 @@ fn bound_of<R: Row>(bound: u32, base: u32) -> R
     R::all(if since < R::NEVER { since } else { R::NEVER })
 }
 
+/// Lowers the labels of one stop to its bound. Where there is none, they stay as they are.
+#[inline(always)]
+fn lower_one<R: Row>(labels: &mut [R], stop: usize, bound: u32, base: u32)
+    requires stop { stop < length labels.old }
+    requires base { base + R.NEVER ≤ NEVER_VALUE }
+    requires fits { (l : ℕ) → l < R.LANES →
+        slice_index (lane l (labels_in R.labels labels.old)) stop ≤ R.NEVER }
+    ensures { (l : ℕ) → l < R.LANES → Lowers (λ p x. (p ≡ stop) × (x ≡ cut base R.NEVER bound))
+        (lane l (labels_in R.labels labels.old)) (lane l (labels_in R.labels labels.new)) }
+{
+    if bound != NEVER {
+        labels[stop] = labels[stop].lower_of(bound_of(bound, base));
+    }
+}
+
 /// Lowers each label to the bound of its stop.
 fn lower_to<R: Row>(labels: &mut [R], bound: &[u32], base: u32)
-    requires { length bound.now ≡ length labels.old }
+    requires same { length bound.now ≡ length labels.old }
+    requires base { base + R.NEVER ≤ NEVER_VALUE }
+    requires fits { (l p : ℕ) → l < R.LANES → slice_index (lane l (labels_in R.labels labels.old)) p ≤ R.NEVER }
     ensures { (l : ℕ) → l < R.LANES → Lowers (Bounds (bounds_in base R.NEVER bound.now))
         (lane l (labels_in R.labels labels.old)) (lane l (labels_in R.labels labels.new)) }
 {
     for stop in 0..labels.len() {
-        labels[stop] = labels[stop].lower_of(bound_of(bound[stop], base));
+        lower_one(labels, stop, bound[stop], base);
     }
 }
 
 /// Lowers each label to the bound of its stop; no fall is noted any more.
 fn begin<R: Row>(labels: &mut [R], fallen: &mut [bool], bound: &[u32], base: u32)
     requires bound { length bound.now ≡ length labels.old }
+    requires base { base + R.NEVER ≤ NEVER_VALUE }
+    requires fits { (l p : ℕ) → l < R.LANES → slice_index (lane l (labels_in R.labels labels.old)) p ≤ R.NEVER }
     ensures lanes { (l : ℕ) → l < R.LANES → Lowers (Bounds (bounds_in base R.NEVER bound.now))
         (lane l (labels_in R.labels labels.old)) (lane l (labels_in R.labels labels.new)) }
     ensures fallen { length fallen.new ≡ length fallen.old }

@@ -21,8 +21,8 @@ use std::alloc::{AllocError, Global};
 use timetable::{NEVER, Network, StopNo};
 use trip_lanes::{LANES, Lanes, Narrow, Row};
 
-/// After a search that narrow labels couldn't tell, how many go by wide ones at once.
-const WIDE_AT_ONCE: u32 = 15;
+/// After searches in a row that narrow labels couldn't tell, how many go by wide ones at once, at most.
+const MOST_AT_ONCE: u32 = 15;
 
 /// The tables of a search: labels and marks, of each stop or line.
 ///
@@ -36,6 +36,8 @@ pub struct Search {
     wide: Tables<Lanes>,
     /// How many searches go by wide labels at once, since the narrow ones didn't do.
     wide_left: u32,
+    /// How many will after the next search that the narrow ones don't do for.
+    at_once: u32,
 }
 
 impl Search {
@@ -45,6 +47,7 @@ impl Search {
             narrow: Tables::new(alloc),
             wide: Tables::new(alloc),
             wide_left: 0,
+            at_once: 0,
         }
     }
 
@@ -143,9 +146,11 @@ impl Search {
     {
         if are_ranked::<Narrow>(most) && is_narrow_turn(&mut self.wide_left) {
             if by_narrow(alloc, query, &mut self.narrow, &mut self.wide, last, labels)? {
+                self.at_once = 0;
                 return Ok(());
             }
-            self.wide_left = WIDE_AT_ONCE;
+            self.wide_left = self.at_once;
+            self.at_once = more_at_once(self.at_once);
         }
         by_wide(alloc, query, &mut self.wide, last, labels)
     }
@@ -165,6 +170,12 @@ fn is_narrow_turn(wide_left: &mut u32) -> bool {
         return false;
     }
     true
+}
+
+/// How many searches go by wide labels at once after one more, in a row, that narrow labels couldn't tell: none after
+/// the first, and then twice as many and one each time.
+fn more_at_once(count: u32) -> u32 {
+    count.saturating_mul(2).saturating_add(1).min(MOST_AT_ONCE)
 }
 
 /// Writes the least durations of the searched minutes by narrow labels, unless these can't tell all of them.

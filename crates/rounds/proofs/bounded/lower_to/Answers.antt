@@ -1,16 +1,23 @@
-use Rattle.std.proofs.Common.{◌≤◌, length, slice_index, arith}
+use Rattle.std.proofs.Common.{◌≤◌, length, slice_index, refl, arith}
 use Rattle.std.proofs.lemmas.List.{length-map}
 use Rattle.timetable.proofs.Lowering.{lowers_alike_in}
-use Rattle.trip_lanes.specs.Lane.{labels_in}
-use Rattle.rounds.proofs.Bounding.{one_more_row}
+use Rattle.trip_lanes.specs.Lane.{lane, labels_in}
+use Rattle.rounds.proofs.Bounding.{one_more_kept}
+use Rattle.rounds.proofs.LabelTables.{fits_after}
 use Rattle.rounds.proofs.bounded.lower_to.Goals as goal
+
+pub lower_one-requires-clause-fits : goal.lower_one-requires-clause-fits
+lower_one-requires-clause-fits g c l h =
+    let rows = labels_in g.R.Row.labels in
+    fits_after g.R.Row.NEVER (lane l (rows c.args.labels.now)) (lane l (rows c.loop-stop.labels))
+    (λ p. c.requires.fits l p h) (c.loop-stop.invariant l h) c.loop-stop.stop
 
 pub loop-stop-preserved : goal.loop-stop-preserved
 loop-stop-preserved g c l h =
-    one_more_row g.R.Row.labels c.loop-stop.labels c.loop-stop.stop l c.index-labels-stop.result c.lower_of.result
-    c.args.base g.R.Row.NEVER c.args.bound.now (slice_index (g.R.Row.labels c.bound_of.result) l)
-    c.index-labels-stop.is (omega arith) (omega arith) (c.lower_of.ensures l h) (c.bound_of.ensures l h)
-    (c.loop-stop.invariant l h)
+    let kept = c.args.bound.now in
+    let stop = c.loop-stop.stop in
+    one_more_kept c.args.base g.R.Row.NEVER kept stop (slice_index kept stop) (omega arith) refl
+    (c.loop-stop.invariant l h) (c.lower_one.ensures l h)
 
 pub returns : goal.returns
 returns g c l h =

@@ -44,8 +44,8 @@ kept_long base never k n o x s = (
   sym (length-map x.ready.items (cut base never)) ∙ s.ready_len,
 )
 
-pub begin-requires : goal.begin-requires
-begin-requires g c =
+pub begin-requires-clause-bound : goal.begin-requires-clause-bound
+begin-requires-clause-bound g c =
     let never = g.R.Row.NEVER in
     let base = c.args.batch.base in
     let n = c.args.query.network.now in
@@ -65,6 +65,14 @@ begin-requires g c =
       ap length c.as_mut_slice-ready.ensures.value,
       c.requires.tables.ready,
     )
+
+pub begin-requires-clause-fits : goal.begin-requires-clause-fits
+begin-requires-clause-fits g c l p h =
+    let never = g.R.Row.NEVER in
+    let stops = c.args.query.network.now.stops in
+    rw (sym (cleared never (length c.as_mut_slice-ready.result.now) stops l (labels_in g.R.Row.labels c.clear-2.new.labels)
+    (c.clear-2.ensures l h) (ap length c.as_mut_slice-ready.ensures.value ∙ c.requires.tables.ready)))
+    at (fits_of never stops p)
 
 pub walk_marked-requires-clause-fits : goal.walk_marked-requires-clause-fits
 walk_marked-requires-clause-fits g c l p h =
@@ -239,8 +247,8 @@ loop-k-init g c =
       );
     }
 
-pub lower_to-requires : goal.lower_to-requires
-lower_to-requires g c =
+pub lower_to-requires-clause-same : goal.lower_to-requires-clause-same
+lower_to-requires-clause-same g c =
     let never = g.R.Row.NEVER in
     let base = c.args.batch.base in
     let n = c.args.query.network.now in
@@ -252,6 +260,9 @@ lower_to-requires g c =
     (c.loop-k.invariant.bounds (k + 1) x (omega arith) (omega arith)
     (slice_get-get_or was (k + 1) c.index-kept-k.result (omega (arith, c.loop-k.invariant.many)))) in
     omega (arith, long.0, ap length c.as_slice-in-loop-k.ensures.value, c.loop-k.invariant.rides)
+
+pub lower_to-requires-clause-fits : goal.lower_to-requires-clause-fits
+lower_to-requires-clause-fits g c l p h = (c.loop-k.invariant.lanes l h).ride_fits p
 
 pub scan_lines-requires-clause-fits : goal.scan_lines-requires-clause-fits
 scan_lines-requires-clause-fits g c l p h =
@@ -274,8 +285,8 @@ scan_lines-requires-clause-before g c l h =
           o.carries;
     }
 
-pub begin-requires-in-loop-k : goal.begin-requires-in-loop-k
-begin-requires-in-loop-k g c =
+pub begin-requires-in-loop-k-clause-bound : goal.begin-requires-in-loop-k-clause-bound
+begin-requires-in-loop-k-clause-bound g c =
     let never = g.R.Row.NEVER in
     let base = c.args.batch.base in
     let n = c.args.query.network.now in
@@ -287,6 +298,9 @@ begin-requires-in-loop-k g c =
     (c.loop-k.invariant.bounds (k + 1) x (omega arith) (omega arith)
     (slice_get-get_or was (k + 1) c.index-kept-k.result (omega (arith, c.loop-k.invariant.many)))) in
     omega (arith, long.1, ap length c.as_slice-in-loop-k-2.ensures.value, c.loop-k.invariant.readies)
+
+pub begin-requires-in-loop-k-clause-fits : goal.begin-requires-in-loop-k-clause-fits
+begin-requires-in-loop-k-clause-fits g c l p h = (c.loop-k.invariant.lanes l h).ready_fits p
 
 pub transfer_marked-requires-clause-fits : goal.transfer_marked-requires-clause-fits
 transfer_marked-requires-clause-fits g c l p h =
