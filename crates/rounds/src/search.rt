@@ -21,7 +21,7 @@ use std::alloc::{AllocError, Global};
 use timetable::{NEVER, Network, StopNo};
 use trip_lanes::{LANES, Lanes, Narrow, Row};
 
-/// After searches in a row that narrow labels couldn't tell, how many go by wide ones at once, at most.
+/// The most searches that use wide labels at once, after several in a row that narrow labels could not represent.
 const MOST_AT_ONCE: u32 = 15;
 
 /// The tables of a search: labels and marks, of each stop or line.
@@ -34,9 +34,9 @@ pub struct Search {
     narrow: Tables<Narrow>,
     /// Of labels that reach as far as times go; they grow when the others don't do.
     wide: Tables<Lanes>,
-    /// How many searches go by wide labels at once, since the narrow ones didn't do.
+    /// How many searches still use wide labels at once.
     wide_left: u32,
-    /// How many will after the next search that the narrow ones don't do for.
+    /// How many will after the next search that narrow labels cannot represent.
     at_once: u32,
 }
 
@@ -172,8 +172,8 @@ fn is_narrow_turn(wide_left: &mut u32) -> bool {
     true
 }
 
-/// How many searches go by wide labels at once after one more, in a row, that narrow labels couldn't tell: none after
-/// the first, and then twice as many and one each time.
+/// How many searches use wide labels at once after one more failure of narrow ones in a row, where this many did after
+/// the failure before.
 fn more_at_once(count: u32) -> u32 {
     count.saturating_mul(2).saturating_add(1).min(MOST_AT_ONCE)
 }
