@@ -52,21 +52,7 @@ fn bound_of<R: Row>(bound: u32, base: u32) -> R
     R::all(if since < R::NEVER { since } else { R::NEVER })
 }
 
-/// Lowers the labels of one stop to these times. They are written only if one falls: most stay in later rounds.
-#[inline(always)]
-fn lower_at<R: Row>(labels: &mut [R], stop: usize, times: R)
-    requires stop { stop < length labels.old }
-    ensures { (l : ℕ) → l < R.LANES → Lowers (λ p x. (p ≡ stop) × (x ≡ slice_index (R.labels times) l))
-        (lane l (labels_in R.labels labels.old)) (lane l (labels_in R.labels labels.new)) }
-{
-    let old = labels[stop];
-    let new = old.lower_of(times);
-    if new.changed(old) {
-        labels[stop] = new;
-    }
-}
-
-/// Lowers the labels of one stop to its bound. Without one, they stay as they are.
+/// Lowers the labels of one stop to its bound. Where there is none, they stay as they are.
 #[inline(always)]
 fn lower_one<R: Row>(labels: &mut [R], stop: usize, bound: u32, base: u32)
     requires stop { stop < length labels.old }
@@ -77,7 +63,7 @@ fn lower_one<R: Row>(labels: &mut [R], stop: usize, bound: u32, base: u32)
         (lane l (labels_in R.labels labels.old)) (lane l (labels_in R.labels labels.new)) }
 {
     if bound != NEVER {
-        lower_at(labels, stop, bound_of(bound, base));
+        labels[stop] = labels[stop].lower_of(bound_of(bound, base));
     }
 }
 

@@ -1,12 +1,16 @@
-use Rattle.std.proofs.Common.{◌≡◌, slice_index, arith}
+use Rattle.std.proofs.Common.{◌≡◌, slice_index, min, ap, ◌∙◌, arith}
 use Rattle.std.proofs.lemmas.List.{length-map}
 use Rattle.trip_lanes.specs.Cut.{cut}
 use Rattle.trip_lanes.specs.Lane.{lane, labels_in}
-use Rattle.rounds.proofs.Bounding.{stays}
+use Rattle.rounds.proofs.Bounding.{row_lowered, stays}
 use Rattle.rounds.proofs.bounded.lower_one.Goals as goal
 
 pub returns-then-bound-ne-NEVER : goal.returns-then-bound-ne-NEVER
-returns-then-bound-ne-NEVER g c l h = rw (c.bound_of.ensures l h) at (c.lower_at.ensures l h)
+returns-then-bound-ne-NEVER g c l h =
+    row_lowered g.R.Row.labels c.args.labels.now c.args.stop l c.index-labels-stop.result c.lower_of.result
+    (cut c.args.base g.R.Row.NEVER c.args.bound) c.index-labels-stop.is (omega arith)
+    (c.lower_of.ensures l h
+    ∙ ap (min (slice_index (g.R.Row.labels c.index-labels-stop.result) l)) (c.bound_of.ensures l h))
 
 pub returns-else-bound-ne-NEVER : goal.returns-else-bound-ne-NEVER
 returns-else-bound-ne-NEVER g c l h =
