@@ -80,6 +80,7 @@ def test_help_is_a_success_on_the_standard_output_alone(program: str) -> None:
     out, err, status = left_by(program, ["--help"])
     first = "Travel time matrices over a GTFS feed, for a base network and for scenarios."
     assert (out.splitlines()[:1], err, status) == ([first], "", 0)
+    assert "--report explains it" in out.splitlines()[-1]
 
 
 def test_the_version_names_the_toolchain_that_readme_does_of_the_logic_at_hand(program: str) -> None:

@@ -82,3 +82,10 @@ def test_broken_links_and_private_words_are_found(tmp_path: Path) -> None:
     assert PRIVATE.findall(prose_of(page)) == ["told", "whence"]
     assert anchors_of(page) == {"a-page", "its-2nd-part"}
     assert [is_broken(page, it) for it in ("#a-page", "page.md#its-2nd-part", "#b", "other.md")] == [0, 0, 1, 1]
+
+
+@pytest.mark.parametrize("name", ["README.md", "docs/tutorial.md"])
+def test_runs_that_beginners_copy_explain_what_they_refuse(name: str) -> None:
+    text = re.sub(r"\\\n *", "", (ROOT / name).read_text())
+    runs = re.findall(r"^ {4}(?:\$ )?(ttm --feed .*)$", text, re.MULTILINE)
+    assert runs and [it for it in runs if "--report" not in it] == []

@@ -9,7 +9,7 @@ from typing import Any
 import numpy as np
 import pytest
 
-from helpers import METRE, Room, Town, town_matrix
+from helpers import METRE, Room, Table, Town, town_matrix
 from test_points import PACE, feed, place
 
 NEAR = ["--limit", "300", *PACE]  # 300 metres
@@ -123,9 +123,9 @@ def test_negative_numbers_of_polygons_are_refused(room: Room) -> None:
 
 
 def test_cells_are_squares_for_a_geographic_information_system(town: Town) -> None:
-    rows = [["A", 60, 7], ["B", 60.01, 7], ["C", 59.99, 7]]
+    rows: Table = [["A", 60, 7], ["B", 60.01, 7], ["C", 59.99, 7]]
     town.write("stops.txt", "stop_id,stop_lat,stop_lon", [*rows, ["D", "", ""]])
-    sides = [[200, ""], [200, 100], ["", ""]]
+    sides: Table = [[200, ""], [200, 100], ["", ""]]
     town.write("points.csv", "id,lat,lon,width,height", [[*row, *side] for row, side in zip(rows, sides)])
     town.matrix(town_matrix(False))
     out = town.path("cells.geojson")

@@ -15,9 +15,11 @@ import pytest
 from asking import canned, script, standing_in
 from helpers import CALENDAR, read
 from test_study import STUDY, Place, bare, killed_after, place  # noqa: F401
+from ttm_tools.conversation import Answer
 from ttm_tools.engine import Run
+from ttm_tools.files import Interrupted
 from ttm_tools.matrices import open_matrix
-from ttm_tools.study.asking import Kept, kept_words, question_of
+from ttm_tools.study.asking import Asked, Kept, kept_words, question_of
 from ttm_tools.study.cutting import Shape, parts_for
 from ttm_tools.study.elsewhere import Means
 from ttm_tools.study.study_file import read_study
@@ -215,6 +217,26 @@ def test_a_part_that_a_network_refuses_is_named_and_the_others_are_kept(
         assert [part.is_done() for part in parts] == [True, False, False, True]
         assert parts[0].matrix.read_text() == "scenario,origin,share,access_1800,A\nbase,A,50,1,300\n"
         assert len(network.run_parts(run, parts, Shape(4, 2, 1))) == 2
+
+
+def test_the_first_ctrl_c_keeps_the_parts_that_are_asked_for(tmp_path: Path, monkeypatch: pytest.MonkeyPatch) -> None:
+    monkeypatch.setenv("TTM_PROGRAM", canned(tmp_path))
+    run = Run("feed", "20260504", ("00:05", "00:06"))
+    with standing_in(tmp_path), Kept(run) as network:
+        os.mkdir("stages")
+        parts = parts_for(["slow", "B"], 2, "key")
+        kept = network.ask
+
+        def ask(asked: Asked) -> Answer:
+            made = kept(asked)
+            network.is_ending = True  # as the handler of the signal does
+            return made
+
+        monkeypatch.setattr(network, "ask", ask)
+        with pytest.raises(Interrupted):
+            network.run_parts(run, parts, Shape(2, 1, 1))
+        assert [part.is_done() for part in parts] == [True, False]
+        assert not [path for path in Path(".").rglob(".part.*")]
 
 
 def test_levels_are_the_mean_and_that_of_the_tenth_that_has_least() -> None:

@@ -6,7 +6,7 @@ import os
 import signal
 import subprocess
 from pathlib import Path
-from typing import Iterator, Sequence
+from typing import Any, Iterator, Sequence
 
 from ..faults import needs_program, say
 from .cutting import PARTS, Part
@@ -31,7 +31,7 @@ class Hosts:
         called = [*own, command(os.getcwd()), ":::", *[str(part.number) for part in missing]]
         self.missing, self.is_ending, self.has_said_so = missing, False, False
         with open(f"{PARTS}/hosts.txt", "wb") as told:
-            how = {"stdin": subprocess.DEVNULL, "stdout": told, "stderr": told}
+            how: dict[str, Any] = {"stdin": subprocess.DEVNULL, "stdout": told, "stderr": told}
             self.process = subprocess.Popen(called, **how, start_new_session=True)
 
     def end(self) -> None:
