@@ -3,14 +3,14 @@
 from dataclasses import astuple, dataclass
 from typing import BinaryIO, Iterator, Sequence
 
-from ..escaping import markdown
 from ..faults import BadInput
 from ..gtfs.fields import Floats
 from ..measures.access_table import AccessTable, Kind
 from ..measures.fairness import Concentration, Poverty, Theil, concentration, poverty, theil_of_all, theil_of_group
 from ..measures.opportunities import Counts
-from ..records import shown, write_rows
-from .equity import CSV, told
+from ..records import shown
+from .equity import told
+from .tables import write_table
 
 HEADS = ["opportunity", "percentile", "cutoff", "group", "scenario"]
 THEIL, CONCENTRATION, POVERTY = "theil", "concentration", "poverty"
@@ -64,11 +64,4 @@ def measured(access: Floats, people: Floats, asked: Asked) -> Found:
 
 def write_fairness(out: BinaryIO, lines: Iterator[list[str]], measure: str, form: str) -> None:
     """Writes the table."""
-    header, made = [*HEADS, *COLUMNS[measure]], list(lines)
-    if form == CSV:
-        write_rows(out, header, made)
-        return
-    bars = ["---"] * 5 + ["---:"] * (len(header) - 5)
-    for line in (header, bars, *made):
-        cells = [text if line is bars else markdown(shown(text)) for text in line]
-        out.write(f"| {' | '.join(cells)} |\n".encode("utf-8", "backslashreplace"))
+    write_table(out, [*HEADS, *COLUMNS[measure]], list(lines), form)
