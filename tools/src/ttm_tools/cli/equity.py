@@ -96,7 +96,7 @@ def further(words: argparse.Namespace, table: "AccessTable", people: "Counts", k
     from ..files import output
     from ..measures.opportunities import identifier_of, read_counts
     from ..records import rows, shown
-    from ..views.fairness import Asked, lines_of, write_fairness
+    from ..views.fairness import FairnessOptions, lines_of, write_fairness
 
     rank = None
     if words.rank:
@@ -110,6 +110,9 @@ def further(words: argparse.Namespace, table: "AccessTable", people: "Counts", k
             raise BadInput(words.rank, f"has no rank of {len(lost):,} origins of {words.access}: {some(lost)}")
     with output(words.out) as file:
         write_fairness(
-            file, lines_of(table, people, Asked(words.measure, kinds, rank, words.line)), words.measure, words.form
+            file,
+            lines_of(table, people, FairnessOptions(words.measure, kinds, rank, words.line)),
+            words.measure,
+            words.form,
         )
     return 0

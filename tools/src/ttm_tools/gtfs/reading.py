@@ -107,13 +107,18 @@ def is_long(path: str | Path) -> bool:
 
 def all_columns(path: str | Path) -> Columns:
     """All columns of a file by their names."""
-    return (columns if is_long(path) else columns_by_records)(path, names_of(path))
+    return columns_alike(path, names_of(path))
+
+
+def columns_alike(path: str | Path, needed: Sequence[str]) -> Columns:
+    """The needed columns, by pandas or record by record, whose records are those of `ttm`."""
+    return (columns if is_long(path) else columns_by_records)(path, needed)
 
 
 def columns_in(path: str | Path, layout: Layout) -> Columns:
     """The columns of a layout that a file has; a needed one that it lacks is an error."""
     there = names_of(path)
-    return columns(path, [*layout.needed, *(name for name in layout.taken if name in there)])
+    return columns_alike(path, [*layout.needed, *(name for name in layout.taken if name in there)])
 
 
 def has_odd_lines(path: str | Path) -> bool:

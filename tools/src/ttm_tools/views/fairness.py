@@ -24,7 +24,7 @@ Found = Theil | Concentration | Poverty
 
 
 @dataclass(frozen=True)
-class Asked:
+class FairnessOptions:
     """What is measured."""
 
     measure: str
@@ -33,7 +33,7 @@ class Asked:
     line: float | None = None  # of poverty
 
 
-def lines_of(table: AccessTable, people: Counts, asked: Asked) -> Iterator[list[str]]:
+def lines_of(table: AccessTable, people: Counts, asked: FairnessOptions) -> Iterator[list[str]]:
     """A line for each kind, group and scenario; of Theil's T one more for all groups together."""
     if table.of_times:
         raise BadInput(table.path, f"{asked.measure} is measured of access, not of times to the nearest")
@@ -53,7 +53,7 @@ def line_of(kind: Kind, group: str, scenario: str, found: Found) -> list[str]:
     return [*astuple(kind), group, scenario, *map(told, astuple(found))]
 
 
-def measured(access: Floats, people: Floats, asked: Asked) -> Found:
+def measured(access: Floats, people: Floats, asked: FairnessOptions) -> Found:
     if asked.measure == THEIL:
         return theil_of_group(access, people)
     if asked.rank is not None:
