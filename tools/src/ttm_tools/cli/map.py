@@ -7,7 +7,7 @@ from typing import TYPE_CHECKING
 from .options import add_base, add_matrix, add_number, add_points, add_share, add_text, add_within, opened
 
 if TYPE_CHECKING:
-    from ..feed import Stops
+    from ..gtfs.stops import Stops
     from ..matrices import Matrix
     from ..views.maps import Areas
     from ..views.nearest import Nearest

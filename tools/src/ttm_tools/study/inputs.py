@@ -11,7 +11,7 @@ from typing import Any, Callable, Sequence
 
 from ..engine import Run
 from ..faults import BadInput
-from ..feed import Stops, read_stops
+from ..gtfs.stops import Stops, read_stops
 from ..files import copy_file, many_written_aside
 from ..matrices import BASE, TODAY
 from ..parts import origins_in, origins_of_feed, write_stops

@@ -4,8 +4,8 @@ from typing import BinaryIO, Sequence
 
 from ..escaping import markdown
 from ..records import shown, write_rows
-from .equity import CSV
 
+CSV, MARKDOWN = "csv", "markdown"
 WORDS = 5  # columns, which come first
 
 
