@@ -125,7 +125,7 @@ def test_negative_numbers_of_polygons_are_refused(room: Room) -> None:
 def test_cells_are_squares_for_a_geographic_information_system(town: Town) -> None:
     rows = [["A", 60, 7], ["B", 60.01, 7], ["C", 59.99, 7]]
     town.write("stops.txt", "stop_id,stop_lat,stop_lon", [*rows, ["D", "", ""]])
-    sides = [[200, ""], [200, 100], ["", ""]]
+    sides: list[list[object]] = [[200, ""], [200, 100], ["", ""]]
     town.write("points.csv", "id,lat,lon,width,height", [[*row, *side] for row, side in zip(rows, sides)])
     town.matrix(town_matrix(False))
     out = town.path("cells.geojson")

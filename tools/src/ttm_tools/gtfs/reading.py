@@ -107,18 +107,16 @@ def is_long(path: str | Path) -> bool:
 
 def all_columns(path: str | Path) -> Columns:
     """All columns of a file by their names."""
-    return columns_alike(path, names_of(path))
-
-
-def columns_alike(path: str | Path, needed: Sequence[str]) -> Columns:
-    """The needed columns, by pandas or record by record, whose records are those of `ttm`."""
-    return (columns if is_long(path) else columns_by_records)(path, needed)
+    return (columns if is_long(path) else columns_by_records)(path, names_of(path))
 
 
 def columns_in(path: str | Path, layout: Layout) -> Columns:
-    """The columns of a layout that a file has; a needed one that it lacks is an error."""
+    """The columns of a layout that a file has; a needed one that it lacks is an error. The file is one that `ttm`
+    takes, so lines that pandas counts in another way aren't looked for.
+    """
     there = names_of(path)
-    return columns_alike(path, [*layout.needed, *(name for name in layout.taken if name in there)])
+    needed = [*layout.needed, *(name for name in layout.taken if name in there)]
+    return (columns if os.path.getsize(path) >= SMALL else columns_by_records)(path, needed)
 
 
 def has_odd_lines(path: str | Path) -> bool:
