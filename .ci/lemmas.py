@@ -18,6 +18,8 @@ from collections.abc import Iterator
 from dataclasses import dataclass, field
 from pathlib import Path
 
+import repository
+
 ROOT = Path(__file__).resolve().parent.parent
 LINES_ALIKE = 4
 FOR_THE_PROVER = ("Answers.antt", "Invariants.antt")
@@ -193,15 +195,5 @@ def judged(root: Path) -> Iterator[tuple[str, bool]]:
     yield from doubled(root, proofs)
 
 
-def main() -> int:
-    passed = failed = 0
-    for what, holds in judged(ROOT):
-        passed, failed = passed + holds, failed + (not holds)
-        if not holds:
-            print(f"FAILED: {what}")
-    print(f"{passed} passed, {failed} failed")
-    return 1 if failed else 0
-
-
 if __name__ == "__main__":
-    sys.exit(main())
+    sys.exit(repository.counted(judged(ROOT)))

@@ -7,6 +7,7 @@
   that goes by names (`calls.py` says what it misses).
 - Each spec that the table or definitions.md name is a file, and so is each must-fail edit that proofs.md names; the
   functions, types and constants that proofs.md names exist.
+- Each module that the table of the tools names in architecture.md is there, and has the names of its row.
 - Each planted bug can be planted, and a test or a planted bug names each public function (`public.py`).
 
 The last line is 'N passed, M failed'. Standard library only.
@@ -30,6 +31,9 @@ NAME = re.compile(r"`((?:\w+::)*[A-Za-z]\w*)`")
 ITEM = re.compile(r"\d+\. \*\*(.+?)\*\*(.*)", re.DOTALL)
 EDIT = re.compile(r"`(\w+)/(\w+\.\w+\.\w+)`")
 SPEC = re.compile(r"(?:\b(\w+)/)?\b([A-Z]\w*)\b")
+MODULE = re.compile(r"`([\w/]+\.py)`")
+TOOLS = "tools/src/ttm_tools"
+PYTHON = r"(?m)^(?:(?:def|class) {0}\b|{0}(?:: [^=\n]+)? = )"
 FUNCTION = r"(?m)^( *)(?:pub(?:\([a-z]+\))? )?(?:(?:const|unsafe|final) )*fn {}\b"
 OTHER = r"(?m)^(?:pub(?:\([a-z]+\))? )?(?:struct|enum|trait|type|const) {}\b"
 
@@ -158,6 +162,17 @@ def judged_assurance(root: Path, sources: Sources) -> Iterator[tuple[str, bool]]
         yield f"proofs.md: nothing is called {name}", name in known or there or bool(word)
 
 
+def judged_tools(root: Path, architecture: str) -> Iterator[tuple[str, bool]]:
+    """The modules of the tools that the table names, and what the table says that they define."""
+    for line in architecture.partition("\n## The tools\n")[2].split("\n## ", 1)[0].splitlines():
+        cells = line.strip("|").split("|") if line.startswith("|") else []
+        modules = [root / TOOLS / name for name in MODULE.findall(cells[1])] if len(cells) == 3 else []
+        yield from ((f"architecture.md: no module {it.relative_to(root)}", it.is_file()) for it in modules)
+        text = "\n".join(it.read_text() for it in modules if it.is_file())
+        for name in NAME.findall(cells[2]) if modules else ():
+            yield f"architecture.md: {cells[1].strip()} has no {name}", bool(re.search(PYTHON.format(name), text))
+
+
 def judged(root: Path) -> Iterator[tuple[str, bool]]:
     """Each thing that is looked at, and whether it is as it should be."""
     sources = Sources(root)
@@ -176,17 +191,9 @@ def judged(root: Path) -> Iterator[tuple[str, bool]]:
     for claim in specs_of_table(architecture, sources.names) + specs:
         yield f"{claim.page}: {claim.crate} has no spec {claim.name}", sources.has_spec(claim)
     yield from judged_assurance(root, sources)
+    yield from judged_tools(root, architecture)
     yield from public.judged(root)
 
 
-def main() -> int:
-    looked = list(judged(ROOT))
-    wrong = [why for why, right in looked if not right]
-    for why in wrong:
-        print(why)
-    print(f"{len(looked) - len(wrong)} passed, {len(wrong)} failed")
-    return 1 if wrong or not looked else 0
-
-
 if __name__ == "__main__":
-    sys.exit(main())
+    sys.exit(repository.counted(judged(ROOT)))

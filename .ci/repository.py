@@ -3,7 +3,7 @@
 from __future__ import annotations
 
 import re
-from collections.abc import Iterator
+from collections.abc import Iterable, Iterator
 from dataclasses import dataclass
 from pathlib import Path
 
@@ -88,3 +88,14 @@ def test_modules(folder: Path) -> set[str]:
     """The files of a crate that are read for its tests alone."""
     root = "\n".join(it.read_text() for it in [folder / "lib.rt", folder / "main.rt"] if it.is_file())
     return {f"{name}.rt" for name in re.findall(r"#\[cfg\(test\)\]\s*(?:pub )?mod (\w+);", root)}
+
+
+def counted(judged: Iterable[tuple[str, bool]]) -> int:
+    """Prints what isn't as it should be, and how many are; the exit status, 1 also if nothing was looked at."""
+    holds = []
+    for what, right in judged:
+        holds.append(right)
+        if not right:
+            print(f"FAILED: {what}")
+    print(f"{sum(holds)} passed, {len(holds) - sum(holds)} failed")
+    return 0 if holds and all(holds) else 1

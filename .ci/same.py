@@ -79,15 +79,5 @@ def judged(root: Path) -> Iterator[tuple[str, bool]]:
         yield f"help: '{text}'", bool(re.search(re.escape(text) + r"(?!\d)", sources["command_line"]))
 
 
-def main() -> int:
-    passed = failed = 0
-    for what, holds in judged(ROOT):
-        passed, failed = passed + holds, failed + (not holds)
-        if not holds:
-            print(f"FAILED: {what}")
-    print(f"{passed} passed, {failed} failed")
-    return 1 if failed else 0
-
-
 if __name__ == "__main__":
-    sys.exit(main())
+    sys.exit(repository.counted(judged(ROOT)))

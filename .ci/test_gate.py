@@ -273,6 +273,18 @@ def test_a_name_that_is_not_there_or_has_no_contract_or_is_not_reached_is_report
     )
 
 
+def test_modules_and_names_of_the_tools_that_are_not_there_are_reported(tmp_path: Path) -> None:
+    (tmp_path / names.TOOLS).mkdir(parents=True)
+    (tmp_path / names.TOOLS / "days.py").write_text(
+        "MOST: int = 3\nLEAST = 1\n\n\ndef day_of() -> int:\n    return 1\n"
+    )
+    rows = "| days | `days.py` | `MOST`, `LEAST`, `day_of`, `day` |\n| others | `lost.py` | |\n"
+    judged = list(names.judged_tools(tmp_path, f"\n## The tools\n\n{rows}\n## Folders\n\n| a | `b.py` | `c` |\n"))
+    wrong = [why for why, right in judged if not right]
+    assert (len(judged), len(wrong)) == (6, 2)
+    assert wrong == ["architecture.md: `days.py` has no day", f"architecture.md: no module {names.TOOLS}/lost.py"]
+
+
 def test_a_method_of_a_type_that_is_not_met_is_not_reached(tmp_path: Path) -> None:
     wrong = wrong_names(tmp_path / "r", COUNT + "pub fn make() -> u32 {\n    MOST\n}\n")
     assert "architecture.md: ttm doesn't come to lower's Count::up" in wrong

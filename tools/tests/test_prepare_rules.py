@@ -1,6 +1,7 @@
 """Feeds that are written: from zip files and folders, as they are or mended by rules."""
 
 import csv
+import importlib
 import os
 import re
 import resource
@@ -17,7 +18,8 @@ from damages import Damaged, damage_stays, right_feed_differs
 from helpers import CALENDAR, LAUNCHER, STOP_TIMES, Room, Table
 from ttm_tools.gtfs import feeds, tables
 from ttm_tools.prepare.check import check
-from ttm_tools.prepare.rules import repair
+from ttm_tools.prepare.repair import repair
+from ttm_tools.prepare.rules import RULES, help_table, markdown_table
 
 HEAD = "stop_id,stop_name,location_type,parent_station"
 STOPS = [["A", "Alpha", "", ""], ["B", "Beta", "", "S"], ["C", "Gamma", "0", ""], ["S", "Square", "1", ""]]
@@ -313,3 +315,18 @@ def test_a_right_feed_gives_the_same_matrix(program: str, tmp_path: Path, first:
 def test_a_mended_feed_is_taken(program: str, tmp_path: Path, first: int) -> None:
     for seed in range(first, first + 50):
         assert damage_stays(program, seed, tmp_path) == ""
+
+
+def test_the_page_lists_the_rules_that_run() -> None:
+    page = Path(__file__).resolve().parents[2] / "docs/howto/feed.md"
+    assert markdown_table() in page.read_text()
+    functions = {rule.apply.partition(".") for rule in RULES}
+    modules = {module: importlib.import_module(f"ttm_tools.prepare.{module}") for module, _, _ in functions}
+    assert all(callable(getattr(modules[module], function)) for module, _, function in functions)
+
+
+def test_help_lists_each_rule(feed: Room) -> None:
+    out, _, status = feed.ran("prepare", "--help")
+    assert status == 0 and help_table() in out
+    named = [line.split()[0] for line in help_table().splitlines() if line[2] != " "]
+    assert named == [rule.name for rule in RULES]

@@ -14,6 +14,7 @@ import helpers
 import ttm_tools
 from helpers import Cell, Room, Town, read, town_matrix
 from test_damages import damaged
+from ttm_tools.plans.action_list import LISTED, help_table, markdown_table
 from ttm_tools.walks import Walks
 
 STOPS = [["A", "Alpha", 50.0, 8.0], ["B", "Beta", 50.0, 8.014], ["C", "", 50.0, 8.028], ["D", "Delta", 50.0, 8.042]]
@@ -676,3 +677,12 @@ def test_the_journey_behind_a_cell_of_a_scenario_beside_today(small: Room, progr
     assert (told, status) == ("", 0)
     (heads,) = [line for line in out.splitlines() if line.startswith("today: ")]
     assert heads.split() == ["today:", "1200", "seconds", "fast:", "900", "seconds"]
+
+
+def test_help_and_the_page_list_the_actions_that_there_are(small: Room) -> None:
+    page = Path(__file__).resolve().parents[2] / "docs/reference/plan-file.md"
+    assert markdown_table() in page.read_text()
+    out, _, status = small.ran("scenarios", "--help")
+    assert status == 0 and help_table() in out
+    assert all(callable(action.carry_out()) for action in LISTED)
+    assert len({action.name for action in LISTED}) == len(LISTED)

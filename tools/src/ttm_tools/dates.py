@@ -13,7 +13,7 @@ def day_of(text: str | datetime.date) -> datetime.date:
         return text.date() if isinstance(text, datetime.datetime) else text
     if not FORM.fullmatch(text):
         raise ValueError(text)
-    return datetime.datetime.strptime(text.replace("-", ""), "%Y%m%d").date()
+    return datetime.date.fromisoformat(text)
 
 
 def as_ttm_reads(day: str | datetime.date) -> str:

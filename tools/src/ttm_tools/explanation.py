@@ -16,7 +16,7 @@ from .records import shown
 from .gtfs.fields import Whole
 from .gtfs.footpaths import Walks, read_walks
 from .gtfs.timetable import DAY, Timetable, read_edits, read_timetable, runs_of
-from .views.journeys import Asked, Found
+from .views.journeys import ExplainOptions, Found
 
 
 def found_of(
@@ -27,7 +27,7 @@ def found_of(
     *,
     program: Pathlike | None = None,
     matrix: str | None = None,
-) -> tuple[Asked, list[Found]]:
+) -> tuple[ExplainOptions, list[Found]]:
     """What is found for the base and each scenario. The travel times beside are those of a matrix, or of a run of the
     program.
     """
@@ -42,7 +42,7 @@ def all_found(
     *,
     program: Pathlike | None = None,
     matrix: str | None = None,
-) -> Iterator[tuple[Asked, list[Found]]]:
+) -> Iterator[tuple[ExplainOptions, list[Found]]]:
     """The same of several pairs of an origin and a destination, one after the other, by one run of the program."""
     stops = read_stops(str(asked.feed))
     for name in dict.fromkeys(name for pair in pairs for name in pair):
@@ -61,7 +61,7 @@ def all_found(
     ends = [(timetable.stops.index(one), timetable.stops.index(other)) for one, other in pairs]
     walks = Walked(timetable, None if footpaths is None else str(footpaths), asked.walk)
     for pair, (begin, end) in zip(pairs, ends):
-        what = Asked(timetable, begin, end, departures, asked.back, asked.shares[0], told_of(asked, date))
+        what = ExplainOptions(timetable, begin, end, departures, asked.back, asked.shares[0], told_of(asked, date))
         found = []
         for name, seconds in cells[pair].items():
             found.append(found_in(what, asked, date, name, files[name], *walks.of(begin)))
@@ -129,7 +129,13 @@ def cells_of(matrix: Matrix, names: Sequence[str], share: int, pairs: Pairs) -> 
 
 
 def found_in(
-    what: Asked, asked: Run, date: datetime.date, name: str, path: Pathlike | None, walks: Walks, changes: Whole
+    what: ExplainOptions,
+    asked: Run,
+    date: datetime.date,
+    name: str,
+    path: Pathlike | None,
+    walks: Walks,
+    changes: Whole,
 ) -> Found:
     """What this search finds in a scenario."""
     edits = read_edits(None if path is None else str(path))

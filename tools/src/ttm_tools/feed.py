@@ -1,4 +1,4 @@
-"""The stops and lines of an unpacked feed, for rooms that import them together from here; they are in `gtfs`."""
+"""Names of `gtfs` that rooms imported from here before there was that package."""
 
 from .gtfs.fields import Floats
 from .gtfs.lines import GRID, Points, Trips, lines_of, pieces, read_trips, removed_trips

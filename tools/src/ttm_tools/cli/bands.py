@@ -2,7 +2,7 @@
 
 import argparse
 
-from .options import add_number, add_numbers, add_out, add_text
+from .options import add_number, add_numbers, add_out, add_people, add_text
 
 TOLD = "how many people have at least so many opportunities, or the nearest within so many minutes"
 HELP = """\
@@ -18,10 +18,7 @@ and 300 bytes for each line of the table."""
 
 def describe(parser: argparse.ArgumentParser) -> None:
     parser.add_argument("access", metavar="ACCESS", help="a table of ttm-tools access in its long form")
-    told = "a file with how many people are at each origin; may be given more than once (needed)"
-    parser.add_argument("--people", metavar="FILE", action="append", required=True, help=told)
-    told = "a group of people, a column of these files; may be given more than once (without it, all)"
-    parser.add_argument("--column", metavar="NAME", action="append", default=[], help=told)
+    add_people(parser)
     told = "where bands begin: opportunities, or minutes of a table of the nearest; ascending"
     add_numbers(parser, "--bands", told, "", (0, 1e15), without="there are none, which is refused")
     add_text(parser, "--opportunity", "NAME", "the opportunity that is taken", without="all")

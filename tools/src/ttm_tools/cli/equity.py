@@ -3,7 +3,7 @@
 import argparse
 from typing import TYPE_CHECKING, Sequence
 
-from .options import add_base, add_number, add_out, add_text, is_file_of_base
+from .options import add_base, add_number, add_out, add_people, add_text, is_file_of_base
 
 if TYPE_CHECKING:
     from ..measures.access_table import AccessTable, Kind
@@ -34,10 +34,7 @@ needs matplotlib. Memory: some 100 MB, and 300 bytes for each line of the table.
 
 def describe(parser: argparse.ArgumentParser) -> None:
     parser.add_argument("access", metavar="ACCESS", help="a table of ttm-tools access in its long form")
-    told = "a file with how many people are at each origin; may be given more than once (needed)"
-    parser.add_argument("--people", metavar="FILE", action="append", required=True, help=told)
-    told = "a group of people, a column of these files; may be given more than once (without it, all)"
-    parser.add_argument("--column", metavar="NAME", action="append", default=[], help=told)
+    add_people(parser)
     add_text(parser, "--opportunity", "NAME", "the opportunity that is taken", without="all")
     add_number(parser, "--percentile", "the percentile that is taken", "percent", (1, 100), without="all")
     add_number(parser, "--cutoff", "the cutoff that is taken", "minutes", (0, 1e15), without="all", whole=False)
@@ -99,7 +96,7 @@ def further(words: argparse.Namespace, table: "AccessTable", people: "Counts", k
     from ..files import output
     from ..measures.opportunities import identifier_of, read_counts
     from ..records import rows, shown
-    from ..views.fairness import Asked, lines_of, write_fairness
+    from ..views.fairness import FairnessOptions, lines_of, write_fairness
 
     rank = None
     if words.rank:
@@ -113,6 +110,9 @@ def further(words: argparse.Namespace, table: "AccessTable", people: "Counts", k
             raise BadInput(words.rank, f"has no rank of {len(lost):,} origins of {words.access}: {some(lost)}")
     with output(words.out) as file:
         write_fairness(
-            file, lines_of(table, people, Asked(words.measure, kinds, rank, words.line)), words.measure, words.form
+            file,
+            lines_of(table, people, FairnessOptions(words.measure, kinds, rank, words.line)),
+            words.measure,
+            words.form,
         )
     return 0

@@ -7,7 +7,7 @@ from typing import TYPE_CHECKING
 from .options import add_base, add_matrix, add_number, add_points, add_share, add_text, add_within, opened
 
 if TYPE_CHECKING:
-    from ..feed import Stops
+    from ..gtfs.stops import Stops
     from ..matrices import Matrix
     from ..views.maps import Areas
     from ..views.nearest import Nearest
@@ -53,13 +53,8 @@ def describe(parser: argparse.ArgumentParser) -> None:
     parser.add_argument("--feed", metavar="FOLDER", required=True, help="the unpacked feed of the matrix (needed)")
     add_points(parser)
     add_text(parser, "--origin", "STOP", "the stop from which one starts", without="access is drawn; times needs it")
-    add_text(
-        parser,
-        "--scenario",
-        "NAME",
-        "the scenario that is drawn",
-        without="the base, in a difference the only other one",
-    )
+    missing = "the base, in a difference the only other one"
+    add_text(parser, "--scenario", "NAME", "the scenario that is drawn", without=missing)
     add_base(parser)
     told = "a file with what each stop has, for nearest: a column stop_id (or id), and columns of numbers"
     add_text(parser, "--opportunities", "FILE", told, without="nearest isn't drawn")
@@ -72,13 +67,7 @@ def describe(parser: argparse.ArgumentParser) -> None:
         "a scenario file, named as its scenario, whose trips are drawn; may be given more than once (without it, none)"
     )
     parser.add_argument("--edits", metavar="FILE", action="append", default=[], help=told)
-    add_number(parser, "--walk", "how long you walk on from a stop at most, in isochrones", "seconds", (0, 7200), 600)
-    add_number(parser, "--speed", "how fast you walk there", "m/s", (0.01, 100), default=1.33, whole=False)
-    told = "metres of way for a metre of straight line"
-    add_number(parser, "--detour", told, "", (1, 100), default=1.3, whole=False)
-    add_text(parser, "--streets", "FILE", "a file of OpenStreetMap, along whose ways you walk on", without="circles")
-    told = "the greatest distance of a stop from a way"
-    add_number(parser, "--near", told, "metres", (0, 10000), default=100, whole=False)
+    add_walking(parser)
     add_text(parser, "--unit", "WORD", "what is counted as access, such as jobs", default="opportunities")
     told = "where classes begin, ascending numbers above 0 between commas: of minutes, of access, or of percent"
     missing = (
@@ -92,6 +81,17 @@ def describe(parser: argparse.ArgumentParser) -> None:
     add_text(
         parser, "--out", "FILE", "where the picture is written; it gets its name when it is whole", default="map.png"
     )
+
+
+def add_walking(parser: argparse.ArgumentParser) -> None:
+    """How isochrones go on from a stop."""
+    add_number(parser, "--walk", "how long you walk on from a stop at most, in isochrones", "seconds", (0, 7200), 600)
+    add_number(parser, "--speed", "how fast you walk there", "m/s", (0.01, 100), default=1.33, whole=False)
+    told = "metres of way for a metre of straight line"
+    add_number(parser, "--detour", told, "", (1, 100), default=1.3, whole=False)
+    add_text(parser, "--streets", "FILE", "a file of OpenStreetMap, along whose ways you walk on", without="circles")
+    told = "the greatest distance of a stop from a way"
+    add_number(parser, "--near", told, "metres", (0, 10000), default=100, whole=False)
 
 
 def run(words: argparse.Namespace) -> int:

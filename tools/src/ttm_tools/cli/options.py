@@ -206,3 +206,11 @@ def scenarios_of(matrix: "Matrix", named: Sequence[str] | None) -> list[str]:
     if not named and matrix.left_out:
         say(matrix.left_out)
     return [matrix.scenario(name) for name in named or matrix.compared]
+
+
+def add_people(parser: argparse.ArgumentParser) -> None:
+    """The files with how many people are at each origin, and which of their columns count."""
+    told = "a file with how many people are at each origin; may be given more than once (needed)"
+    parser.add_argument("--people", metavar="FILE", action="append", required=True, help=told)
+    told = "a group of people, a column of these files; may be given more than once (without it, all)"
+    parser.add_argument("--column", metavar="NAME", action="append", default=[], help=told)

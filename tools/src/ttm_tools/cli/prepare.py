@@ -3,6 +3,7 @@
 import argparse
 import datetime
 
+from ..prepare.rules import help_table
 from .options import add_number, add_text, day
 
 TOLD = "a folder that ttm reads, from published feeds: checked, repaired, clipped, merged"
@@ -22,28 +23,7 @@ run. The exit status is 1, and no folder is written, if a rule (except `same`) r
 records, if a required file has no record left, or if no trip runs on any day, or on --date. --allow-loss writes the
 folder anyway.
 
-  column      a known column's name with other capitals, spaces or signs            corrected
-  text        a text, not an identifier, that isn't UTF-8                           read as Windows-1252
-  number      1.0 and +1; decimals of headways and transfers                        rounded up
-  time        8:5:00, 8:05 and 08:05:00.0                                           rewritten
-  date        2026-05-04, 2026/5/4; 31.12.2026 and 31/12/2026, if all dates of the  rewritten
-              file agree on the order of day and month
-  spaces      an identifier that is known without its spaces                        spaces removed
-  station     a call at a station                                                   moved to its first stop, or the
-                                                                                    station becomes a stop
-  value       any other text that is no number, time or date                        emptied if the field may be
-                                                                                    empty, else the record is removed
-  identifier  an empty identifier                                                   record removed
-  same        a repeated record                                                     second removed
-  duplicate   a repeated identifier, or a repeated stop_sequence of a trip          second removed
-  unknown     a record that names an unknown stop, route or trip                    record removed
-  trip        a record of a removed trip                                            record removed
-  ends        calls before a trip's first time and after its last one               removed, with a trip without any
-                                                                                    time
-  midnight    times that fall by more than half a day                               a day later from there on
-  back        other times that go back                                              trip removed
-  headway     an empty row of frequencies.txt, or one that begins before another    begins later, or is removed
-              of its trip ends
+{rules}
 
 Several feeds are merged: each is checked and repaired by itself. If identifiers of one kind (stops, routes, trips,
 services, agencies, shapes, fares, zones ..) collide with those of an earlier feed, all those of the later feed begin
@@ -63,6 +43,7 @@ No rule replaces a missing file or column. Memory: some 250 bytes for each recor
 
 
 def describe(parser: argparse.ArgumentParser) -> None:
+    parser.description = HELP.replace("{rules}", help_table())
     only = "report errors, and write no folder (without it, --out is needed)"
     parser.add_argument("--check", action="store_true", help=only)
     add_text(parser, "--faults", "FILE", "with --check, a line for each single error, as CSV", without="none")

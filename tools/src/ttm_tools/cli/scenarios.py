@@ -4,6 +4,7 @@ import argparse
 import os
 import sys
 
+from ..plans.action_list import help_table
 from .options import add_text
 
 TOLD = "a feed with scenario files, from a plan of new lines, headways and speeds"
@@ -16,22 +17,7 @@ what each action did; actions.csv, changes.csv and new_stops.csv, the same as li
 A plan is a TOML file. Each [[scenario]] has a name, and [[scenario.action]] tables, carried out in their order; `do` is
 one of:
 
-  remove_route   route
-  remove_trip    trip
-  remove_stop    stop; trips (of route ..) no longer call there
-  shift_route    route, seconds (negative for earlier)
-  shift_trip     trip, seconds
-  add_line       route (new), name, type (of the GTFS, default 3, a bus), agency; stops, in order; seconds between them,
-                 or speed (km/h along straight lines) and dwell (seconds at stops between the ends, default 0); both
-                 (directions, default true); departures = [{ first, last, every (seconds) }, ..]; days ("daily",
-                 "weekdays", "weekend" or a list such as ["monday"]) or service
-  headway        route .., every (seconds), from, to: departures from the first time on, before the second; copies of a
-                 typical trip, which is printed, replace the trips that leave in between
-  speed          route .., factor of the run times, or dwell (seconds to add at each stop, negative to remove), between
-                 the ends or from_stop and to_stop; sums of run times are rounded to the nearest second
-  extend         route .., after (the stop at which trips end) or before (at which they begin), stops, seconds or speed
-                 and dwell as above
-  cut            route .., after or before: the stop at which trips now end or begin
+{actions}
 
 "route .." is a route or several, of which direction (0 or 1, as the feed states it), pattern (a trip: those that call
 at its stops) and service select some trips. Times are "HH:MM" or "HH:MM:SS". A [[stop]] with id, name, lat and lon is
@@ -43,6 +29,7 @@ is written."""
 
 
 def describe(parser: argparse.ArgumentParser) -> None:
+    parser.description = HELP.replace("{actions}", help_table())
     parser.add_argument("feed", metavar="FEED", help="the folder of a feed")
     parser.add_argument("plan", metavar="PLAN", help="the plan, a TOML file")
     told = "the folder to write; it must be new or empty (needed)"

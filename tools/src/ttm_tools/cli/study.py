@@ -43,10 +43,9 @@ def describe(parser: argparse.ArgumentParser) -> None:
     add_number(parser, "--seed", "chooses the rows of --verify", "", (0, 4294967295), without="drawn, and printed")
 
 
-def run(words: argparse.Namespace) -> int:
-    from pathlib import Path
-
-    from ..faults import WrongWords, needs
+def refuse_others(words: argparse.Namespace) -> None:
+    """Refuses options that don't go together."""
+    from ..faults import WrongWords
 
     if sum([words.new, words.verify is not None, words.study is not None]) != 1:
         raise WrongWords("one of STUDY, --new and --verify is needed")
@@ -58,6 +57,14 @@ def run(words: argparse.Namespace) -> int:
         raise WrongWords("--slurm and --hosts are two ways: one of them")
     if words.option and not (words.slurm or words.hosts):
         raise WrongWords("--option goes with --slurm and --hosts")
+
+
+def run(words: argparse.Namespace) -> int:
+    from pathlib import Path
+
+    from ..faults import needs
+
+    refuse_others(words)
     needs("numpy", "pandas")
     if words.new:
         from ..study.template import template

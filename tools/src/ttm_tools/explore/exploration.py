@@ -7,7 +7,7 @@ from pathlib import Path
 from typing import Any
 
 from ..faults import BadInput
-from ..feed import Stops, read_stops
+from ..gtfs.stops import Stops, read_stops
 from ..measures.opportunities import Counts, read_counts
 from ..plans.base import Base, read_base
 from ..plans.plan_file import read_plan

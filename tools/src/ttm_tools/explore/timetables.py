@@ -10,7 +10,7 @@ from ..measures.journeys import Leg
 from ..records import shown
 from ..gtfs.footpaths import read_walks
 from ..gtfs.timetable import DAY, Timetable, read_timetable
-from ..views.journeys import Asked, Found, names_of_routes
+from ..views.journeys import ExplainOptions, Found, names_of_routes
 from .standing import Standing
 from .wish import Wish
 
@@ -58,7 +58,7 @@ class Journeys:
         walks, changes = read_walks(kept.timetable, wish.footpaths, standing.plan.walk, begin)
         first, last = (60 * int(text[:2]) + int(text[3:]) for text in window)
         departures = [DAY * wish.back + 60 * minute for minute in range(first, last + 1)]
-        asked = Asked(kept.timetable, begin, end, departures, wish.back, share, told_of(run, wish.date))
+        asked = ExplainOptions(kept.timetable, begin, end, departures, wish.back, share, told_of(run, wish.date))
         path = next((path for path in standing.plan.files if path.endswith(f"/{name}.csv")), None)
         found = found_in(asked, run, wish.date, name, path, walks, changes)
         seconds = standing.ask(ends[0], window, trips, [share]).times(name).at[ends[0], ends[1]]
@@ -67,7 +67,7 @@ class Journeys:
         return as_json(asked, found, kept, [numbers.get(stop, -1) for stop in kept.timetable.stops])
 
 
-def as_json(asked: Asked, found: Found, kept: Kept, places: Sequence[int]) -> dict[str, Any]:
+def as_json(asked: ExplainOptions, found: Found, kept: Kept, places: Sequence[int]) -> dict[str, Any]:
     """What the page shows of it; stops by their numbers there."""
     made: dict[str, Any] = {
         "cell": found.cell,
@@ -84,7 +84,9 @@ def as_json(asked: Asked, found: Found, kept: Kept, places: Sequence[int]) -> di
     return made
 
 
-def leg_as_json(asked: Asked, found: Found, kept: Kept, places: Sequence[int], leg: Leg, time: int) -> dict[str, Any]:
+def leg_as_json(
+    asked: ExplainOptions, found: Found, kept: Kept, places: Sequence[int], leg: Leg, time: int
+) -> dict[str, Any]:
     """A leg, whose traveller is at its start at a time."""
     made: dict[str, Any] = {
         "from": places[leg.start],

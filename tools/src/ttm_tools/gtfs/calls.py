@@ -30,15 +30,15 @@ class Calls:
 
     @cached_property
     def is_first(self) -> Mask:
-        made = np.ones(len(self.rows), dtype=np.bool_)
-        made[1:] = self.trip[1:] != self.trip[:-1]
-        return made
+        first = np.ones(len(self.rows), dtype=np.bool_)
+        first[1:] = self.trip[1:] != self.trip[:-1]
+        return first
 
     @cached_property
     def is_last(self) -> Mask:
-        made = np.ones(len(self.rows), dtype=np.bool_)
-        made[:-1] = self.trip[1:] != self.trip[:-1]
-        return made
+        last = np.ones(len(self.rows), dtype=np.bool_)
+        last[:-1] = self.trip[1:] != self.trip[:-1]
+        return last
 
     @cached_property
     def before(self) -> Whole:
@@ -76,9 +76,9 @@ class Calls:
         open_ones = np.flatnonzero(~self.timed & (self.before >= 0) & (self.after < len(self.rows)))
         start, end = self.before[open_ones], self.after[open_ones]
         left, reached = self.departure[start], self.arrival[end]
-        made = left + (reached - left) * (open_ones - start) // (end - start)
+        between = left + (reached - left) * (open_ones - start) // (end - start)
         arrival, departure = self.arrival.copy(), self.departure.copy()
-        arrival[open_ones] = departure[open_ones] = made
+        arrival[open_ones] = departure[open_ones] = between
         return arrival, departure
 
 

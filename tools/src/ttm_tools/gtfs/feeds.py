@@ -108,8 +108,8 @@ def files_of(path: Path, members: Sequence[str]) -> dict[str, str]:
     best = [folder for folder, count in counts.items() if count and count == max(counts.values())]
     if not best:
         zipped = [member for member in members if member.endswith(".zip")]
-        told = f", but {zipped[0]}: unzip it first" if zipped else ""
-        raise BadInput(path, f"no GTFS in it{told}")
+        hint = f", but {zipped[0]}: unzip it first" if zipped else ""
+        raise BadInput(path, f"no GTFS in it{hint}")
     if len(best) > 1:
         raise BadInput(path, f"several feeds in it, {best[0] or '.'} and {best[1]}: give them one by one")
     return {name: it for name, it in folders[best[0]].items() if name in FILES or name.endswith((".txt", ".geojson"))}

@@ -4,6 +4,7 @@ A number is -1 for a text that is none, and -2 for an empty one.
 """
 
 import datetime
+import functools
 import re
 from dataclasses import dataclass
 
@@ -59,6 +60,7 @@ def number(text: str) -> int:
     return int(digits) if int(digits) <= LARGEST else NONE
 
 
+@functools.lru_cache(maxsize=1 << 17)  # a feed's times, of which arrivals and departures have most in common
 def time(text: str) -> int:
     """Seconds of H:MM:SS, from 0:00:00 to 167:59:59."""
     trimmed = text.strip(" ")

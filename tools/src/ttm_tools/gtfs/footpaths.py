@@ -45,12 +45,12 @@ def read_walks(
 def ends_of(timetable: Timetable) -> dict[str, list[int]]:
     """The stops that an end of a walk stands for: itself, or the stops of a station."""
     known, all_stops = {name: place for place, name in enumerate(timetable.stops)}, timetable.all_stops
-    made = {name: [place] for name, place in known.items()}
+    ends = {name: [place] for name, place in known.items()}
     stations = {name for name, kind in zip(all_stops.identifiers, all_stops.kinds.tolist()) if kind == 1}
     for name, station in zip(all_stops.identifiers, all_stops.stations):
         if name in known and station in stations:
-            made.setdefault(station, []).append(known[name])
-    return made
+            ends.setdefault(station, []).append(known[name])
+    return ends
 
 
 def stated_walks(timetable: Timetable, footpaths: str | None) -> Iterator[tuple[str, str, int, bool]]:
@@ -72,11 +72,11 @@ def closed(direct: dict[tuple[int, int], int], limit: int, begins: set[int] | No
     leaving: dict[int, list[tuple[int, int]]] = {}
     for (a, b), seconds in direct.items():
         leaving.setdefault(a, []).append((b, seconds))
-    made: list[tuple[int, int, int]] = []
+    walks: list[tuple[int, int, int]] = []
     for source in leaving if begins is None else begins & leaving.keys():
         found = reached_from(source, leaving, limit)
-        made += [(source, stop, seconds) for stop, seconds in found.items() if stop != source]
-    columns = np.array(made, dtype=np.int64).reshape(-1, 3)
+        walks += [(source, stop, seconds) for stop, seconds in found.items() if stop != source]
+    columns = np.array(walks, dtype=np.int64).reshape(-1, 3)
     return Walks(columns[:, 0], columns[:, 1], columns[:, 2])
 
 

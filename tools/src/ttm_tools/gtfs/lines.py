@@ -67,11 +67,11 @@ def pieces(points: Points) -> npt.NDArray[np.int32]:
     order = np.lexsort((points.sequence, points.line.astype(np.float64)))
     line = points.line[order]
     ends = np.stack([np.rint(part[order] / GRID).astype(np.int32) for part in (points.x, points.y)], axis=1)
-    made = np.concatenate([ends[:-1], ends[1:]], axis=1)[line[:-1] == line[1:]]
-    made = made[(made[:, 0] != made[:, 2]) | (made[:, 1] != made[:, 3])]
-    back = (made[:, 0] > made[:, 2]) | ((made[:, 0] == made[:, 2]) & (made[:, 1] > made[:, 3]))
-    made[back] = made[back][:, [2, 3, 0, 1]]
-    return unique_rows(made)
+    found = np.concatenate([ends[:-1], ends[1:]], axis=1)[line[:-1] == line[1:]]
+    found = found[(found[:, 0] != found[:, 2]) | (found[:, 1] != found[:, 3])]
+    back = (found[:, 0] > found[:, 2]) | ((found[:, 0] == found[:, 2]) & (found[:, 1] > found[:, 3]))
+    found[back] = found[back][:, [2, 3, 0, 1]]
+    return unique_rows(found)
 
 
 def unique_rows(table: npt.NDArray[np.int32]) -> npt.NDArray[np.int32]:

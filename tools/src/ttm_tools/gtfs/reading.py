@@ -111,9 +111,12 @@ def all_columns(path: str | Path) -> Columns:
 
 
 def columns_in(path: str | Path, layout: Layout) -> Columns:
-    """The columns of a layout that a file has; a needed one that it lacks is an error."""
+    """The columns of a layout that a file has; a needed one that it lacks is an error. The file is one that `ttm`
+    takes, so lines that pandas counts in another way aren't looked for.
+    """
     there = names_of(path)
-    return columns(path, [*layout.needed, *(name for name in layout.taken if name in there)])
+    needed = [*layout.needed, *(name for name in layout.taken if name in there)]
+    return (columns if os.path.getsize(path) >= SMALL else columns_by_records)(path, needed)
 
 
 def has_odd_lines(path: str | Path) -> bool:

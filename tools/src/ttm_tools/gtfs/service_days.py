@@ -35,8 +35,8 @@ class Days:
 def ordinals(dates: Whole) -> Whole:
     """Days of dates that are numbers, -1 where they are none that the Python calendar has."""
     found, places = np.unique(dates, return_inverse=True)
-    made = [ordinal(int(it)) for it in found]
-    return np.array(made or [-1], dtype=np.int64)[places]
+    days = [ordinal(int(it)) for it in found]
+    return np.array(days or [-1], dtype=np.int64)[places]
 
 
 def ordinal(written: int) -> int:
@@ -97,20 +97,20 @@ def on_days(feed: Feed, days: Sequence[datetime.date]) -> Mask:
 def runs_of_trips(feed: Feed) -> Whole:
     """How often each trip runs on a day of its service: once if it has calls, or as its headways say."""
     names = names_in(feed, "trips.txt", "trip_id") or []
-    made = np.zeros(len(names) + 1, dtype=np.int64)
+    runs = np.zeros(len(names) + 1, dtype=np.int64)
     called = positions_of(feed.get("stop_times.txt")["trip_id"], names)
-    made[called[called >= 0]] = 1
+    runs[called[called >= 0]] = 1
     table = feed.get("frequencies.txt")
     places = positions_of(table["trip_id"], names)
     start, end = (values_of(table[name], time) for name in ("start_time", "end_time"))
     headway = np.maximum(values_of(table["headway_secs"], number), 1)
     departures = np.where((start >= 0) & (end > start), (end - start + headway - 1) // headway, 0)
     known = places >= 0
-    several = np.zeros(len(made), dtype=np.int64)
+    several = np.zeros(len(runs), dtype=np.int64)
     np.add.at(several, places[known], departures[known])
-    led = np.zeros(len(made), dtype=np.bool_)
+    led = np.zeros(len(runs), dtype=np.bool_)
     led[places[known]] = True
-    return np.where(led & (made > 0), several, made)[:-1]
+    return np.where(led & (runs > 0), several, runs)[:-1]
 
 
 def runs_by_day(feed: Feed, days: Days) -> Whole:

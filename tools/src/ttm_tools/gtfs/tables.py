@@ -100,8 +100,8 @@ def no_table(name: str, source: Path | None = None) -> Table:
 def table_of(name: str, columns: Sequence[str], rows: Iterable[Mapping[str, str]]) -> Table:
     """A table of a few records that no file has; a field that isn't named is empty."""
     records = list(rows)
-    made = {column: coded(row.get(column, "") for row in records) for column in columns}
-    return Table(name, frame_of(made, np.zeros(len(records), np.int64)))
+    texts = {column: coded(row.get(column, "") for row in records) for column in columns}
+    return Table(name, frame_of(texts, np.zeros(len(records), np.int64)))
 
 
 def read_table(name: str, path: Path, layout: Layout | None = None) -> Table:
@@ -131,15 +131,15 @@ def write_lines(table: Table, file: BinaryIO) -> None:
     texts = {}
     for place, name in enumerate(table.columns):
         categories = table[name].categories
-        made = np.empty(len(categories), dtype=object)
-        made[:] = [(b"," if place else b"") + quoted(value) for value in categories]
-        texts[name] = made, table[name].codes
+        fields = np.empty(len(categories), dtype=object)
+        fields[:] = [(b"," if place else b"") + quoted(value) for value in categories]
+        texts[name] = fields, table[name].codes
     alone = len(table.columns) == 1
     for first in range(0, len(table), ROWS_AT_ONCE):
         rows = slice(first, first + ROWS_AT_ONCE)
         lines = np.empty((len(table.records[rows]), len(texts) + 1), dtype=object)
-        for place, (made, codes) in enumerate(texts.values()):
-            lines[:, place] = made[codes[rows]]
+        for place, (fields, codes) in enumerate(texts.values()):
+            lines[:, place] = fields[codes[rows]]
         if alone:
             lines[lines[:, 0] == b"", 0] = b'""'  # an empty line is no record
         lines[:, -1] = b"\n"

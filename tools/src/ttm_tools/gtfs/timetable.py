@@ -76,9 +76,9 @@ def events_of(table: Table, trips: Sequence[str], stops: Sequence[str]) -> Event
 def headways_of(feed: Feed, trips: Sequence[str]) -> dict[int, list[tuple[int, int, int]]]:
     """The rows of frequencies.txt by trip."""
     table, found = feed.get("frequencies.txt"), dict[int, list[tuple[int, int, int]]]()
-    columns = (("start_time", time), ("end_time", time), ("headway_secs", number))
-    rows = zip(*(values_of(table[name], read).tolist() for name, read in columns))
-    for trip, row in zip(positions_of(table["trip_id"], trips).tolist(), rows):
+    start, end = (values_of(table[name], time).tolist() for name in ("start_time", "end_time"))
+    seconds = values_of(table["headway_secs"], number).tolist()
+    for trip, row in zip(positions_of(table["trip_id"], trips).tolist(), zip(start, end, seconds)):
         found.setdefault(trip, []).append(row)
     return found
 
@@ -94,13 +94,13 @@ class Edits:
 
 def read_edits(path: str | None) -> Edits:
     """A scenario file; without one nothing changes."""
-    made = Edits(set(), set(), {})
+    edits = Edits(set(), set(), {})
     for _, (action, name, seconds) in rows(path, ["action", "id"], ["seconds"]) if path is not None else ():
         if action == "shift_trip":
-            made.shifts[name] = made.shifts.get(name, 0) + int(seconds)
+            edits.shifts[name] = edits.shifts.get(name, 0) + int(seconds)
         else:
-            (made.routes if action == "remove_route" else made.trips).add(name)
-    return made
+            (edits.routes if action == "remove_route" else edits.trips).add(name)
+    return edits
 
 
 @dataclass(frozen=True)
@@ -115,15 +115,15 @@ def runs_of(timetable: Timetable, date: datetime.date, days: tuple[int, int], ed
     """The runs that a scenario keeps, from so many days before a date to so many after it; the axis begins at midnight
     of the first day.
     """
-    made: list[tuple[int, int]] = []
+    runs: list[tuple[int, int]] = []
     lengths = np.diff(timetable.events.begins).tolist()
     for day in range(-days[0], days[1] + 1):
         running = services_on(timetable.feed, date + datetime.timedelta(days=day))
         for trip, (name, route, service) in enumerate(zip(timetable.trips, timetable.routes, timetable.services)):
             if lengths[trip] and service in running and route not in edits.routes and name not in edits.trips:
                 moved = DAY * (days[0] + day) + edits.shifts.get(name, 0)
-                made += [(trip, moved + more) for more in departures_of(timetable, trip)]
-    found = np.array(made, dtype=np.int64).reshape(-1, 2)
+                runs += [(trip, moved + more) for more in departures_of(timetable, trip)]
+    found = np.array(runs, dtype=np.int64).reshape(-1, 2)
     return Runs(found[:, 0], found[:, 1])
 
 

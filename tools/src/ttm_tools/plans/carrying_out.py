@@ -2,7 +2,7 @@
 
 from dataclasses import dataclass
 
-from .actions import ACTIONS
+from .action_list import ACTIONS
 from .base import Base
 from .plan_file import Entry, PlannedScenario, near
 from .state import Change, Counts, State
@@ -55,8 +55,10 @@ def carried_out(base: Base, planned: PlannedScenario) -> Finished:
         what = entry.text("do")
         if what not in ACTIONS:
             raise entry.fault(f"is no action{near(what, ACTIONS)}", "do", what, ", ".join(ACTIONS))
+        action = ACTIONS[what]
+        entry.only(("do", *action.keys))
         before, state.changes = state.counts(), []
-        notes = ACTIONS[what](state, entry)
+        notes = action.carry_out()(state, entry)
         if not state.changes:
             raise entry.fault("changes nothing", "do", what)
         done.append(Done(planned.name, number, entry, before, state.counts(), notes, state.changes))

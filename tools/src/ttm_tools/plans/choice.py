@@ -7,8 +7,6 @@ from ..records import shown
 from .plan_file import Entry, near
 from .state import State, Trip
 
-CHOICE = ("route", "direction", "pattern", "service")  # the keys that choose trips
-
 
 def routes_of(state: State, entry: Entry) -> list[str]:
     """The routes that an action names."""

@@ -9,7 +9,8 @@ from typing import Any, BinaryIO, Iterable, Mapping
 import numpy as np
 
 from ..faults import BadInput
-from ..feed import Area, Floats, Projection, Stops
+from ..gtfs.fields import Floats
+from ..gtfs.stops import Area, Projection, Stops
 from ..opening.paths import as_one_line
 from ..opening.texts import read_json
 from ..records import shown

@@ -11,8 +11,8 @@ from ..gtfs.fields import FILES
 from ..gtfs.service_days import days_of, on_days, runs_by_day, runs_of_trips
 from . import likely
 from .check import check
+from .repair import repair
 from .report import Change
-from .rules import repair
 
 MOST_LOST = 0.1  # of a file's records, that one rule may leave out
 CALENDARS = ("calendar.txt", "calendar_dates.txt")

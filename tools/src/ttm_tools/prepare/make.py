@@ -20,8 +20,8 @@ from .clip import Clip, clip, near
 from .likely import of_days
 from .losses import counts_of, left, no_runs, refuse_day, refuse_losses
 from .merge import merge
+from .repair import repair
 from .report import CHANGE_COLUMNS, Change, fault_lines
-from .rules import repair
 
 MOST_RUNS = 1_000_000
 PREPARED = "prepared.csv"

@@ -3,7 +3,7 @@
 from dataclasses import replace
 from typing import Callable
 
-from ..feed import read_stops
+from ..gtfs.stops import read_stops
 from ..points import grid as grids
 from ..points.study import point_lines
 from ..records import write_rows

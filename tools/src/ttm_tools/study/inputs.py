@@ -9,9 +9,10 @@ from dataclasses import asdict, dataclass
 from pathlib import Path
 from typing import Any, Callable, Sequence
 
+from ..dates import day_of
 from ..engine import Run
 from ..faults import BadInput
-from ..feed import Stops, read_stops
+from ..gtfs.stops import Stops, read_stops
 from ..files import copy_file, many_written_aside
 from ..matrices import BASE, TODAY
 from ..parts import origins_in, origins_of_feed, write_stops
@@ -221,7 +222,7 @@ def run_of(study: Study, feed: str, files: dict[str, str], scenarios: Sequence[s
 def dates_of(study: Study) -> list[datetime.date]:
     """The days of the departures, of which there may be several."""
     named = study.run.dates or (study.run.date,)
-    return [datetime.datetime.strptime(it, "%Y%m%d").date() for it in named]
+    return [day_of(it) for it in named]
 
 
 def days_of(study: Study) -> list[datetime.date]:

@@ -5,7 +5,8 @@ from typing import Any, Sequence
 
 import numpy as np
 
-from ..feed import Floats, Stops
+from ..gtfs.fields import Floats
+from ..gtfs.stops import Stops
 from ..files import output
 from ..matrices import Matrix, Share, capped, open_matrix, pair_of
 from ..measures.access import Decay, access, nearest
@@ -15,7 +16,7 @@ from ..measures.opportunities import Counts, columns_of, read_counts
 from ..naming import file_names
 from ..points.shown import shown_of
 from ..records import shown
-from ..views import bands, equity
+from ..views import bands, equity, tables
 from ..views.access import ACCESS, LONG, NEAREST, measured, write_access
 from ..views.differences import summary, write_origins, write_pairs
 from .counted import COUNTED, PEOPLE
@@ -174,7 +175,7 @@ def equity_stage(whole: Whole, access: Record, people: Record, end: str) -> Stag
         table = read_access(read)
         counts = read_counts([PEOPLE], table.origins, f"origin of {read}")
         asked = equity.Asked(whole.inputs.base, LOSE, table.kinds)
-        for path, form in ((csv, equity.CSV), (page, equity.MARKDOWN)):
+        for path, form in ((csv, tables.CSV), (page, tables.MARKDOWN)):
             with output(path) as file:
                 equity.write_equity(file, equity.measured(table, counts, asked), form)
         return [f"{csv}: {', '.join(map(shown, counts.names))}"]
@@ -191,7 +192,7 @@ def bands_stage(access: Record, people: Record, names: Names) -> Stage:
         table = read_access(read)
         counts = read_counts([PEOPLE], table.origins, f"origin of {read}")
         with output(csv) as file:
-            bands.write_bands(file, table, bands.bands_of(table, table.kinds, counts, names.bands), equity.CSV)
+            bands.write_bands(file, table, bands.bands_of(table, table.kinds, counts, names.bands), tables.CSV)
         return [f"{csv}: {', '.join(map(shown, counts.names))}"]
 
     depends = {"access": access.outputs, "people": people.outputs, "bands": list(names.bands)}

@@ -8,7 +8,7 @@ from typing import Any, BinaryIO, Callable, Iterator, Sequence
 
 import numpy as np
 
-from ..feed import Floats
+from ..gtfs.fields import Floats
 from ..files import many_written_aside, output
 from ..matrices import Matrix, Share
 from ..measures.access import Decay, access, nearest

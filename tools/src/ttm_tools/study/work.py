@@ -11,7 +11,7 @@ from typing import Iterator
 
 from ..engine import program_at
 from ..faults import BadInput, needs, say
-from ..feed import read_stops
+from ..gtfs.stops import read_stops
 from ..files import is_running, remove, sum_of
 from ..matrices import BASE, TODAY, open_matrix
 from ..naming import told_names

@@ -3,15 +3,15 @@
 from dataclasses import astuple, dataclass
 from typing import Any, BinaryIO, Iterator, Sequence
 
-from ..escaping import markdown
 from ..faults import BadInput, some
 from ..gtfs.fields import Floats
 from ..measures.access_table import AccessTable, Kind
 from ..measures.bands import with_at_least, within_minutes
 from ..measures.opportunities import Counts
-from ..records import shown, write_rows
+from ..records import shown
 from .access import told as number_told
-from .equity import CSV, told
+from .equity import told
+from .tables import write_table
 from .texts import text_alone
 
 INCHES = 10.0
@@ -54,13 +54,7 @@ def write_bands(out: BinaryIO, table: AccessTable, bands: Iterator[Band], form: 
         [*astuple(it.kind), it.group, it.scenario, number_told(it.limit), told(it.people), told(it.percent)]
         for it in bands
     ]
-    if form == CSV:
-        write_rows(out, header, made)
-        return
-    bars = ["---"] * 5 + ["---:"] * (len(header) - 5)
-    for line in ([name.replace("_", " ") for name in header], bars, *made):
-        cells = [text if line is bars else markdown(shown(str(text))) for text in line]
-        out.write(f"| {' | '.join(cells)} |\n".encode("utf-8", "backslashreplace"))
+    write_table(out, header, made, form)
 
 
 def labels_of(table: AccessTable, limits: Sequence[float], unit: str) -> list[str]:

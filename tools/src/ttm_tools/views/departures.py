@@ -6,7 +6,7 @@ import numpy as np
 
 from ..records import shown
 from .texts import text_alone
-from .journeys import Asked, Found
+from .journeys import ExplainOptions, Found
 
 COLOURS = ("#332288", "#cc6677", "#117733", "#88ccee", "#aa4499", "#ddcc77")
 MARKS = ("o", "s", "^", "D", "v", "P")
@@ -15,7 +15,7 @@ MOST_TICKS = 9
 
 
 @text_alone
-def figure_of(asked: Asked, found: Sequence[Found]) -> Any:
+def figure_of(asked: ExplainOptions, found: Sequence[Found]) -> Any:
     """The picture of some scenarios: a mark for each departure, a dashed line at the cell, a ring at the departure
     whose journey is told, and crosses above for departures after which nobody gets there.
     """
@@ -39,7 +39,7 @@ def figure_of(asked: Asked, found: Sequence[Found]) -> Any:
     return figure
 
 
-def draw_scenario(axes: Any, asked: Asked, found: Found, place: int, above: float) -> None:
+def draw_scenario(axes: Any, asked: ExplainOptions, found: Found, place: int, above: float) -> None:
     """One scenario, with the departures that lead nowhere at a height above all others."""
     colour, mark = COLOURS[place % len(COLOURS)], MARKS[place % len(MARKS)]
     minutes = np.array([np.nan if time is None else time / 60 for time in found.durations])

@@ -16,7 +16,8 @@ from matplotlib.figure import Figure
 from matplotlib.lines import Line2D
 from matplotlib.patheffects import withStroke
 
-from ..feed import GRID, Projection, Stops
+from ..gtfs.lines import GRID
+from ..gtfs.stops import Projection, Stops
 from .cells import Cells
 from .pictures import NO_ORIGIN, Mark, Picture, round_step
 from .texts import text_alone

@@ -5,17 +5,16 @@ from typing import Any, BinaryIO, Callable, Iterable, Iterator, Sequence
 
 import numpy as np
 
-from ..escaping import markdown
 from ..faults import BadInput, some
-from ..feed import Floats
+from ..gtfs.fields import Floats
 from ..measures.access_table import AccessTable, Kind
 from ..measures.equity import TENTHS, Equity, changes_by_tenth, equity, lorenz
 from ..measures.nearness import Nearness, nearness
 from ..measures.opportunities import Counts
-from ..records import shown, write_rows
+from ..records import shown
+from .tables import write_table
 from .texts import text_alone
 
-CSV, MARKDOWN = "csv", "markdown"
 HEADS = ["opportunity", "percentile", "cutoff", "group", "scenario", "people", "mean", "median", "losers_percent"]
 MEASURES = ["gini", "palma", "least_tenth", "least_tenth_change"]
 OF_TIMES = ["people", "reached_percent", "mean_minutes", "median_minutes", "nine_tenths_minutes", "losers_percent"]
@@ -88,14 +87,8 @@ def rows_of(lines: Iterable[tuple[Kind, str, str, Equity | Nearness]]) -> list[l
 
 def write_equity(out: BinaryIO, lines: Iterator[tuple[Kind, str, str, Equity | Nearness]], form: str) -> None:
     """Writes a line for each kind, group and scenario."""
-    header, *made = rows_of(lines)
-    if form == CSV:
-        write_rows(out, header, made)
-        return
-    bars = ["---"] * 5 + ["---:"] * (len(header) - 5)
-    for line in ([name.replace("_", " ") for name in header], bars, *made):
-        cells = [text if line is bars else markdown(shown(str(text))) for text in line]
-        out.write(f"| {' | '.join(cells)} |\n".encode("utf-8", "backslashreplace"))
+    header, *rows = rows_of(lines)
+    write_table(out, header, rows, form)
 
 
 @text_alone

@@ -3,14 +3,14 @@
 from dataclasses import astuple, dataclass
 from typing import BinaryIO, Iterator, Sequence
 
-from ..escaping import markdown
 from ..faults import BadInput
 from ..gtfs.fields import Floats
 from ..measures.access_table import AccessTable, Kind
 from ..measures.fairness import Concentration, Poverty, Theil, concentration, poverty, theil_of_all, theil_of_group
 from ..measures.opportunities import Counts
-from ..records import shown, write_rows
-from .equity import CSV, told
+from ..records import shown
+from .equity import told
+from .tables import write_table
 
 HEADS = ["opportunity", "percentile", "cutoff", "group", "scenario"]
 THEIL, CONCENTRATION, POVERTY = "theil", "concentration", "poverty"
@@ -24,7 +24,7 @@ Found = Theil | Concentration | Poverty
 
 
 @dataclass(frozen=True)
-class Asked:
+class FairnessOptions:
     """What is measured."""
 
     measure: str
@@ -33,7 +33,7 @@ class Asked:
     line: float | None = None  # of poverty
 
 
-def lines_of(table: AccessTable, people: Counts, asked: Asked) -> Iterator[list[str]]:
+def lines_of(table: AccessTable, people: Counts, asked: FairnessOptions) -> Iterator[list[str]]:
     """A line for each kind, group and scenario; of Theil's T one more for all groups together."""
     if table.of_times:
         raise BadInput(table.path, f"{asked.measure} is measured of access, not of times to the nearest")
@@ -53,7 +53,7 @@ def line_of(kind: Kind, group: str, scenario: str, found: Found) -> list[str]:
     return [*astuple(kind), group, scenario, *map(told, astuple(found))]
 
 
-def measured(access: Floats, people: Floats, asked: Asked) -> Found:
+def measured(access: Floats, people: Floats, asked: FairnessOptions) -> Found:
     if asked.measure == THEIL:
         return theil_of_group(access, people)
     if asked.rank is not None:
@@ -64,11 +64,4 @@ def measured(access: Floats, people: Floats, asked: Asked) -> Found:
 
 def write_fairness(out: BinaryIO, lines: Iterator[list[str]], measure: str, form: str) -> None:
     """Writes the table."""
-    header, made = [*HEADS, *COLUMNS[measure]], list(lines)
-    if form == CSV:
-        write_rows(out, header, made)
-        return
-    bars = ["---"] * 5 + ["---:"] * (len(header) - 5)
-    for line in (header, bars, *made):
-        cells = [text if line is bars else markdown(shown(text)) for text in line]
-        out.write(f"| {' | '.join(cells)} |\n".encode("utf-8", "backslashreplace"))
+    write_table(out, [*HEADS, *COLUMNS[measure]], list(lines), form)

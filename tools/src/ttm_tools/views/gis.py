@@ -15,7 +15,7 @@ from urllib.parse import quote
 import numpy as np
 
 from ..faults import BadInput, needs
-from ..feed import Stops
+from ..gtfs.stops import Stops
 from ..files import written_aside
 from ..matrices import Matrix, Share
 from ..measures.access import nearest

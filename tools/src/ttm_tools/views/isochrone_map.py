@@ -10,7 +10,8 @@ from matplotlib.lines import Line2D
 from matplotlib.patches import Patch
 from matplotlib.path import Path
 
-from ..feed import Floats, Stops
+from ..gtfs.fields import Floats
+from ..gtfs.stops import Stops
 from . import drawing
 from .isochrones import Ground
 from .pictures import Mark, Picture, shades

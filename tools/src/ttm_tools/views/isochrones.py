@@ -13,7 +13,8 @@ from typing import Any, BinaryIO, Iterator, Mapping, Sequence
 import numpy as np
 
 from ..faults import BadInput, needs
-from ..feed import Floats, Projection, Stops
+from ..gtfs.fields import Floats
+from ..gtfs.stops import Projection, Stops
 from ..matrices import Matrix, Share
 from ..measures.opportunities import Counts
 from ..points.table import AREAS, read_frame, text_of

@@ -5,7 +5,7 @@ from typing import Iterator, Sequence
 
 from ..measures.journeys import Leg
 from ..records import shown
-from .journeys import Asked, Found
+from .journeys import ExplainOptions, Found
 
 HEADS = ["scenario", "origin", "destination", "percentile", "seconds", "departure", "access_seconds", "wait_seconds"]
 MORE = ["ride_seconds", "change_seconds", "walk_seconds", "egress_seconds", "rides", "routes", "trips"]
@@ -42,7 +42,7 @@ def parts_of(legs: Sequence[Leg], departure: int) -> Parts:
     return made
 
 
-def lines_of(asked: Asked, found: Sequence[Found]) -> Iterator[list[object]]:
+def lines_of(asked: ExplainOptions, found: Sequence[Found]) -> Iterator[list[object]]:
     """The lines of a pair, one for each scenario; without parts where too few departures get there."""
     stops = [asked.timetable.stops[place] for place in (asked.origin, asked.destination)]
     for of in found:

@@ -25,8 +25,8 @@ class Found:
 
 
 @dataclass(frozen=True)
-class Asked:
-    """Of which journeys it is told."""
+class ExplainOptions:
+    """Which journeys are explained."""
 
     timetable: Timetable
     origin: int
@@ -62,7 +62,7 @@ def names_of_routes(folder: str) -> dict[str, str]:
     return made
 
 
-def text_of(asked: Asked, found: Sequence[Found]) -> Iterator[str]:
+def text_of(asked: ExplainOptions, found: Sequence[Found]) -> Iterator[str]:
     """The lines of it all."""
     ends = f"From {asked.stop(asked.origin)} to {asked.stop(asked.destination)}"
     yield f"{ends}: the travel time that {asked.share} % of {len(asked.departures):,} departures attain"
@@ -83,7 +83,7 @@ def side_by_side(columns: Sequence[Sequence[str]]) -> Iterator[str]:
         yield GAP.join(text.ljust(width) for text, width in zip(line, widths)).rstrip()
 
 
-def lines_of(asked: Asked, found: Found, names: dict[str, str]) -> Iterator[str]:
+def lines_of(asked: ExplainOptions, found: Found, names: dict[str, str]) -> Iterator[str]:
     """A journey, leg by leg."""
     if found.cell is None or found.chosen is None:
         yield f"{shown(found.name)}: not reached"
@@ -97,7 +97,7 @@ def lines_of(asked: Asked, found: Found, names: dict[str, str]) -> Iterator[str]
         yield f"{asked.clock(time)} {asked.stop(at)}"
 
 
-def leg_told(asked: Asked, found: Found, names: dict[str, str], leg: Leg, time: int) -> Iterator[str]:
+def leg_told(asked: ExplainOptions, found: Found, names: dict[str, str], leg: Leg, time: int) -> Iterator[str]:
     if leg.run is None:
         yield f"  walk {span(leg.finish - leg.begin)}"
         return
@@ -111,7 +111,7 @@ def leg_told(asked: Asked, found: Found, names: dict[str, str], leg: Leg, time: 
     yield f"  ride {span(leg.finish - leg.begin)}"
 
 
-def departures_told(asked: Asked, found: Sequence[Found]) -> Iterator[str]:
+def departures_told(asked: ExplainOptions, found: Sequence[Found]) -> Iterator[str]:
     """A line for each departure, with its durations; that of the journey above has a star."""
     table = [["departure", *[shown(of.name) for of in found]]]
     for place, departure in enumerate(asked.departures):

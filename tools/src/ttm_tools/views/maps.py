@@ -6,7 +6,8 @@ from typing import Any
 import numpy as np
 
 from ..faults import BadInput, say
-from ..feed import Projection, Stops, has_file, lines_of
+from ..gtfs.lines import lines_of
+from ..gtfs.stops import Projection, Stops, has_file
 from ..matrices import Matrix
 from ..records import shown
 from . import drawing

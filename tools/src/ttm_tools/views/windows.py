@@ -9,7 +9,8 @@ from typing import Any, Sequence
 
 import numpy as np
 
-from ..feed import Floats, Projection, Stops
+from ..gtfs.fields import Floats
+from ..gtfs.stops import Projection, Stops
 from ..measures.equity import TENTHS, mean, part
 from ..records import shown
 from .equity import COLOURS

@@ -5,7 +5,7 @@ from typing import Any, Callable
 
 import numpy as np
 
-from ..feed import Floats
+from ..gtfs.fields import Floats
 from .counting import Places
 from .osm import Streets
 from .straight import Pace, points_of

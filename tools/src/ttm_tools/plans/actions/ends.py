@@ -6,7 +6,7 @@ import numpy as np
 
 from ...gtfs.fields import Whole
 from ..base import NO_ROW
-from ..choice import CHOICE, chosen, stop_named, stops_named, told_stop
+from ..choice import chosen, stop_named, stops_named, told_stop
 from ..plan_file import Entry, near
 from ..state import State, Trip, in_range
 from .removals import kept_calls, told_lost
@@ -15,7 +15,6 @@ from .times import run_times
 
 def extend(state: State, entry: Entry) -> list[str]:
     """Trips that end at a stop go on to further ones, or those that begin there begin earlier."""
-    entry.only(("do", *CHOICE, "after", "before", "stops", "seconds", "speed", "dwell"))
     key = entry.one_of("after", "before")
     place = 0 if key == "before" else -1
     stop, trips = stop_named(state, entry, key, entry.text(key)), chosen(state, entry)
@@ -70,7 +69,6 @@ def begun_earlier(trip: Trip, further: Whole, run: Whole, dwell: int) -> Trip:
 
 def cut(state: State, entry: Entry) -> list[str]:
     """Trips end at their first call at a stop, or begin at their last call there."""
-    entry.only(("do", *CHOICE, "after", "before"))
     key, lost, done = entry.one_of("after", "before"), 0, 0
     stop = stop_named(state, entry, key, entry.text(key))
     for trip in chosen(state, entry):

@@ -7,12 +7,10 @@ import numpy as np
 
 from ...gtfs.fields import clock
 from ..base import Headway
-from ..choice import CHOICE, chosen, directions_of, pattern_of, told_stop
+from ..choice import chosen, directions_of, pattern_of, told_stop
 from ..days import service_of
 from ..plan_file import Entry
 from ..state import State, Trip, in_range
-
-KEYS = ("do", *CHOICE, "every", "times", "from", "to")
 
 
 def headway(state: State, entry: Entry) -> list[str]:
@@ -21,7 +19,6 @@ def headway(state: State, entry: Entry) -> list[str]:
     """
     from .oftener import oftener
 
-    entry.only(KEYS)
     start, end = entry.time("from"), entry.time("to")
     if end <= start:
         raise entry.fault(f"isn't after from, {clock(start)}", "to", clock(end))

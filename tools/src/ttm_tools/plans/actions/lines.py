@@ -11,13 +11,9 @@ from ..plan_file import Entry
 from ..state import State, Trip, in_range
 from .times import run_times
 
-KEYS = ("do", "route", "name", "type", "agency", "stops", "seconds", "speed", "dwell", "both", "departures")
-DAYS = ("service", "days")
-
 
 def add_line(state: State, entry: Entry) -> list[str]:
     """A new line, in one direction or in both, with its departures from either end."""
-    entry.only((*KEYS, *DAYS))
     route = entry.text("route")
     if route in state.base.by_route or route in state.lines:
         raise entry.fault("is a route already", "route", route)

@@ -4,14 +4,13 @@ from dataclasses import replace
 
 import numpy as np
 
-from ..choice import CHOICE, chosen, routes_of, stops_named, told_stop
+from ..choice import chosen, routes_of, stops_named, told_stop
 from ..plan_file import LAST_TIME, Entry, near
 from ..state import State, Trip, in_range
 
 
 def remove_route(state: State, entry: Entry) -> list[str]:
     """Takes out all trips of routes."""
-    entry.only(("do", "route"))
     for trip in trips_of_routes(state, entry):
         state.drop(trip)
     return []
@@ -19,7 +18,6 @@ def remove_route(state: State, entry: Entry) -> list[str]:
 
 def shift_route(state: State, entry: Entry) -> list[str]:
     """Moves all times of routes."""
-    entry.only(("do", "route", "seconds"))
     shift(state, entry, trips_of_routes(state, entry))
     return []
 
@@ -37,7 +35,6 @@ def trips_of_routes(state: State, entry: Entry) -> list[Trip]:
 
 def remove_trip(state: State, entry: Entry) -> list[str]:
     """Takes out trips."""
-    entry.only(("do", "trip"))
     for trip in trips_named(state, entry):
         state.drop(trip)
     return []
@@ -45,7 +42,6 @@ def remove_trip(state: State, entry: Entry) -> list[str]:
 
 def shift_trip(state: State, entry: Entry) -> list[str]:
     """Moves all times of trips."""
-    entry.only(("do", "trip", "seconds"))
     shift(state, entry, trips_named(state, entry))
     return []
 
@@ -78,7 +74,6 @@ def shift(state: State, entry: Entry, trips: list[Trip]) -> None:
 
 def remove_stop(state: State, entry: Entry) -> list[str]:
     """Takes calls at stops out of trips; one that is left with a single call is taken out."""
-    entry.only(("do", "stop", *CHOICE))
     stops, lost = stops_named(state, entry, "stop"), 0
     trips = chosen(state, entry) if entry.has("route") else trips_calling(state, stops)
     trips = [trip for trip in trips if np.isin(trip.stop, stops).any()]

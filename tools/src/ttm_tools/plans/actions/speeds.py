@@ -5,16 +5,13 @@ from fractions import Fraction
 
 import numpy as np
 
-from ..choice import CHOICE, chosen, stop_named
+from ..choice import chosen, stop_named
 from ..plan_file import Entry
 from ..state import State, Trip, in_range
-
-KEYS = ("do", *CHOICE, "from_stop", "to_stop", "factor", "dwell")
 
 
 def speed(state: State, entry: Entry) -> list[str]:
     """Run times times a factor, or dwell times plus seconds, of routes or between two stops of them."""
-    entry.only(KEYS)
     if entry.one_of("factor", "dwell") == "factor":
         factor, more = Fraction(entry.number("factor", "0", "100")), 0
     else:

@@ -8,7 +8,8 @@ import numpy.typing as npt
 
 from ... import progress
 from ...faults import BadInput
-from ...feed import Floats, Stops
+from ...gtfs.fields import Floats
+from ...gtfs.stops import Stops
 from ...matrices import Matrix, Share, lacking
 from ...measures.access import STEP, Decay, times_to
 from ...measures.opportunities import Counts, read_counts

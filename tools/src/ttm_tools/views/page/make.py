@@ -6,7 +6,7 @@ from dataclasses import dataclass, field, replace
 from typing import BinaryIO
 
 from ...faults import BadInput, say
-from ...feed import read_list
+from ...gtfs.stops import read_list
 from ...matrices import Matrix, Share
 from ...points.shown import points_in, shown_of
 from ...records import shown

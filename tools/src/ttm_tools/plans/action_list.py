@@ -1,0 +1,147 @@
+"""The actions of a plan, each one entry: its name, its keys, what it does, an example, and the function that does it,
+by its module, so that `--help` needs no package. `--help` and the table of docs/reference/plan-file.md come from it.
+"""
+
+import importlib
+import textwrap
+from dataclasses import dataclass
+from typing import TYPE_CHECKING, Callable
+
+if TYPE_CHECKING:
+    from .plan_file import Entry
+    from .state import State
+
+CHOICE = ("route", "direction", "pattern", "service")  # the keys that choose trips
+NAME_WIDTH, WIDTH = 15, 120  # of lines of --help
+
+
+@dataclass(frozen=True)
+class Action:
+    """An action, what is said of it, and the function that carries it out and gives sentences on what it chose."""
+
+    name: str
+    keys: tuple[str, ...]  # in addition to `do`
+    fields: str  # what --help says of its keys
+    does: str
+    example: str
+    function: str
+
+    def carry_out(self) -> "Callable[[State, Entry], list[str]]":
+        module, name = self.function.split(".")
+        function: Callable[[State, Entry], list[str]] = getattr(
+            importlib.import_module(f".actions.{module}", __package__), name
+        )
+        return function
+
+
+LISTED = (
+    Action(
+        "remove_route",
+        ("route",),
+        "route",
+        "removes the trips of a `route`",
+        '`route = "R2"`: T1 alone runs',
+        "removals.remove_route",
+    ),
+    Action(
+        "remove_trip", ("trip",), "trip", "removes a `trip`", '`trip = "T2"`: T1 alone runs', "removals.remove_trip"
+    ),
+    Action(
+        "remove_stop",
+        ("stop", *CHOICE),
+        "stop; trips (of route ..) no longer call there",
+        "trips (all, or those of a `route`) no longer call at a `stop`; their other times stay; a trip with a single"
+        " call left goes",
+        '`stop = "C"`: T2 is left with B, and goes',
+        "removals.remove_stop",
+    ),
+    Action(
+        "shift_route",
+        ("route", "seconds"),
+        "route, seconds (negative for earlier)",
+        "moves all times of a `route` by `seconds`, negative for earlier",
+        '`route = "R1"`, `seconds = 300`: A 08:05, B 08:15, just in time for T2',
+        "removals.shift_route",
+    ),
+    Action(
+        "shift_trip",
+        ("trip", "seconds"),
+        "trip, seconds",
+        "moves all times of a `trip` by `seconds`",
+        '`trip = "T1"`, `seconds = 300`: the same',
+        "removals.shift_trip",
+    ),
+    Action(
+        "add_line",
+        ("route", "name", "type", "agency", "stops", "seconds", "speed", "dwell", "both", "departures")
+        + ("service", "days"),
+        "route (new), name, type (of the GTFS, default 3, a bus), agency; stops, in order; seconds between them, or"
+        " speed (km/h along straight lines) and dwell (seconds at stops between the ends, default 0); both"
+        " (directions, default true); departures = [{ first, last, every (seconds) }, ..]; days"
+        ' ("daily", "weekdays", "weekend" or a list such as ["monday"]) or service',
+        "adds a `route` along `stops`, with `seconds` between them, or with a `speed` (km/h along straight lines,"
+        " rounded up to whole seconds) and a `dwell` (seconds at stops between the ends); `departures` from both ends"
+        " (`both = false`: from the first alone) by periods that include `last`; on `days`, or by a `service` of the"
+        " feed",
+        '`stops = ["A", "B", "C"]`, `seconds = [300, 400]`, `dwell = 20`, first 08:00, last 08:10, every 600: A 08:00,'
+        " B 08:05 to 08:05:20, C 08:12; the same at 08:10; and from C at both times",
+        "lines.add_line",
+    ),
+    Action(
+        "headway",
+        (*CHOICE, "every", "times", "from", "to"),
+        "route .., every (seconds), from, to: departures from the first time on, before the second; copies of a"
+        " typical trip, which is printed, replace the trips that leave in between. With times = 2 instead of every, a"
+        " copy of each trip is added halfway to the next departure",
+        "a departure `every` given number of seconds, from `from` to strictly before `to`; replaces the trips that"
+        " leave in between by copies of a typical one: in each direction, of the pattern with the most departures"
+        " there, the trip with the median running time, which is printed. With `times = 2` instead of `every` the"
+        " route runs twice as often: all trips stay, and a copy of each is added halfway to the next departure from"
+        " the same stop",
+        '`route = "R2"`, `every = 300`, from 08:10 to 08:20: T2 is replaced by B 08:10, C 08:25 and B 08:15, C 08:30',
+        "headways.headway",
+    ),
+    Action(
+        "speed",
+        (*CHOICE, "from_stop", "to_stop", "factor", "dwell"),
+        "route .., factor of the run times, or dwell (seconds to add at each stop, negative to remove), between the"
+        " ends or from_stop and to_stop; sums of run times are rounded to the nearest second",
+        "multiplies run times by a `factor`, or adds seconds to `dwell` times, of whole trips or between `from_stop`"
+        " and `to_stop`; sums are rounded to the nearest second, so no time goes back",
+        '`route = "R2"`, `factor = 0.85`: 900 seconds become 765, C 08:27:45',
+        "speeds.speed",
+    ),
+    Action(
+        "extend",
+        (*CHOICE, "after", "before", "stops", "seconds", "speed", "dwell"),
+        "route .., after (the stop at which trips end) or before (at which they begin), stops, seconds or speed and"
+        " dwell as above",
+        "trips that end at the stop `after` go on to `stops`, or trips that begin at `before` begin earlier; `seconds`"
+        " or `speed` and `dwell` as above",
+        '`route = "R1"`, `after = "B"`, `stops = ["C"]`, `seconds = [600]`, `dwell = 30`: T1 leaves B at 08:10:30 and'
+        " arrives at C at 08:20:30",
+        "ends.extend",
+    ),
+    Action(
+        "cut",
+        (*CHOICE, "after", "before"),
+        "route .., after or before: the stop at which trips now end or begin",
+        "trips end at the stop `after`, or begin at `before`",
+        'then `route = "R1"`, `after = "B"`: T1 ends at B again',
+        "ends.cut",
+    ),
+)
+ACTIONS = {action.name: action for action in LISTED}
+
+
+def help_table() -> str:
+    """The actions as `--help` lists them."""
+    indent = " " * (2 + NAME_WIDTH)
+    listed = ((f"  {action.name}".ljust(len(indent)), action.fields) for action in LISTED)
+    return "\n".join(textwrap.fill(text, WIDTH, initial_indent=name, subsequent_indent=indent) for name, text in listed)
+
+
+def markdown_table() -> str:
+    """The actions as docs/reference/plan-file.md lists them."""
+    rows = [f"| `{action.name}` | {action.does} | {action.example} |" for action in LISTED]
+    return "\n".join(["| `do` | What it does | Example |", "|---|---|---|", *rows])

@@ -1,0 +1,94 @@
+"""A feed that is repaired, and what was done to it."""
+
+import importlib
+from dataclasses import dataclass, field
+from typing import Sequence
+
+import numpy as np
+import numpy.typing as npt
+
+from ..gtfs.columns import one_of, texts_at
+from ..gtfs.feeds import Feed
+from ..gtfs.fields import FILES
+from ..gtfs.tables import Table
+from .report import Change
+from .rules import RULES
+
+Rows = npt.NDArray[np.intp]
+
+
+@dataclass
+class Repair:
+    """A feed that is repaired, and what was done to it."""
+
+    feed: Feed
+    label: str = ""  # before the names of files, where there are several feeds
+    changes: list[Change] = field(default_factory=list)
+    gone: set[str] = field(default_factory=set)  # trips that were removed
+
+    def note(self, table: Table, rows: Rows, column: str, rule: str, done: Sequence[str]) -> None:
+        """Notes what a rule does to some records, while they are as they were."""
+        values = texts_at(table[column], table[column].codes[rows]) if column else [""] * len(rows)
+        file, records = self.label + table.name, table.records[rows].tolist()
+        self.changes += [
+            Change(file, record, column, *what) for record, *what in zip(records, values, [rule] * len(rows), done)
+        ]
+
+    def put(self, table: Table, column: str, rows: Rows, texts: Sequence[str], rule: str) -> None:
+        """Repairs fields."""
+        self.note(table, rows, column, rule, [f"now {text}" if text else "emptied" for text in texts])
+        table.put(column, rows, texts)
+
+    def put_for(self, table: Table, column: str, rule: str, right: dict[str, str]) -> None:
+        """Puts texts in place of others, wherever a column has these."""
+        if right:
+            rows = np.flatnonzero(one_of(table[column], right))
+            wrong = texts_at(table[column], table[column].codes[rows])
+            self.put(table, column, rows, [right[text] for text in wrong], rule)
+
+    def leave_out(self, table: Table, rows: Rows, column: str, rule: str) -> None:
+        """Removes records."""
+        self.leave_out_both(table, rows, column, np.ones(len(rows), dtype=np.bool_), (rule, rule))
+
+    def leave_out_both(
+        self, table: Table, rows: Rows, column: str, which: npt.NDArray[np.bool_], rules: tuple[str, str]
+    ) -> None:
+        """Removes records, some by one rule and the others by another."""
+        for rule, some in zip(rules, (rows[which], rows[~which])):
+            self.note(table, some, column, rule, ["record left out"] * len(some))
+        kept = np.ones(len(table), dtype=np.bool_)
+        kept[rows] = False
+        if table.name == "trips.txt":
+            self.gone.update(texts_at(table["trip_id"], table["trip_id"].codes[rows]))
+            self.gone.difference_update(texts_at(table["trip_id"], table["trip_id"].codes[kept]))
+        table.keep(kept)
+
+    def leave_out_trips(self, rule: str, why: dict[str, int]) -> None:
+        """Removes trips, each for a record of stop_times.txt, with their stop times; their headways follow when that
+        file is repaired.
+        """
+        table, times = self.feed.tables["trips.txt"], self.feed.tables["stop_times.txt"]
+        names = sorted(why, key=lambda name: why[name])
+        rows = np.array([why[name] for name in names], dtype=np.intp)
+        self.note(times, rows, "arrival_time", rule, [f"trip {name} left out" for name in names])
+        self.gone |= why.keys()
+        for part in (table, times):
+            part.keep(~one_of(part["trip_id"], why))
+
+
+def repair(feed: Feed, label: str = "") -> list[Change]:
+    """Repairs a feed, and gives what was done."""
+    repaired = Repair(feed, label)
+    for table in feed.tables.values():
+        apply(repaired, table, is_of_fields=True)
+    for name in FILES:
+        if feed.has_columns(name):
+            apply(repaired, feed.tables[name], is_of_fields=False)
+    return repaired.changes
+
+
+def apply(repaired: Repair, table: Table, is_of_fields: bool) -> None:
+    """Applies all rules of fields, or all others, to a table, in their order; each function once."""
+    for name in dict.fromkeys(rule.apply for rule in RULES if rule.is_of_fields == is_of_fields):
+        module, function = name.split(".")
+        getattr(importlib.import_module(f".{module}", __package__), function)(repaired, table)

@@ -1,0 +1,20 @@
+"""Tables of some columns of words and others of numbers, as CSV or Markdown."""
+
+from typing import BinaryIO, Sequence
+
+from ..escaping import markdown
+from ..records import shown, write_rows
+
+CSV, MARKDOWN = "csv", "markdown"
+WORDS = 5  # columns, which come first
+
+
+def write_table(out: BinaryIO, header: Sequence[str], rows: Sequence[Sequence[object]], form: str) -> None:
+    """Writes a table in the form that is chosen; in Markdown the columns of numbers are aligned to the right."""
+    if form == CSV:
+        write_rows(out, header, rows)
+        return
+    lines = [[markdown(shown(str(text))) for text in row] for row in ([it.replace("_", " ") for it in header], *rows)]
+    bars = ["---"] * WORDS + ["---:"] * (len(header) - WORDS)
+    for cells in (lines[0], bars, *lines[1:]):
+        out.write(f"| {' | '.join(cells)} |\n".encode("utf-8", "backslashreplace"))
