@@ -25,6 +25,7 @@ const sliders = {
     map.under.push((pen, view) => this.paintAreas(pen, view));
     map.map.on("moveend", () => this.tellPicture());
     element("percentile").max = head.shares.length - 1;
+    element("walk").max = asked.most_walk;
     const on = (name, change) => element(name).addEventListener("input", () => change(element(name)));
     on("percentile", (it) => set({ share: Number(it.value) }));
     on("trips", (it) => this.ask({ trips: Number(it.value) }));
@@ -162,17 +163,24 @@ const sliders = {
   },
 
   addCircles(area, view, end) {
-    current.now.forEach((minutes, column) => {
-      const place = numbers.columns[column], left = Math.min(60 * (end - minutes), live.walk);
-      if (minutes <= end && left > 0 && isPlaced(place)) {
-        const [x, y] = this.page.at(place, view), latitude = (numbers.places[2 * place] / 1e6) * (Math.PI / 180);
-        const wide = (left * PACE * 256 * view.scale) / (2 * Math.PI * L.CRS.EPSG3857.R * Math.cos(latitude));
-        if (x > -wide && y > -wide && x < view.width + wide && y < view.height + wide) {
-          area.moveTo(x + wide, y);
-          area.arc(x, y, wide, 0, 2 * Math.PI);
-        }
-      }
-    });
+    current.now.forEach((minutes, column) => this.addCircle(area, view, numbers.columns[column], end - minutes));
+    if (point.isChosen()) {
+      this.addCircle(area, view, state.place, end);
+    }
+  },
+
+  /** The area that one walks to from a place in some minutes. */
+  addCircle(area, view, place, minutes) {
+    const left = Math.min(60 * minutes, live.walk);
+    if (left <= 0 || !isPlaced(place)) {
+      return;
+    }
+    const [x, y] = this.page.at(place, view), latitude = (numbers.places[2 * place] / 1e6) * (Math.PI / 180);
+    const wide = (left * PACE * 256 * view.scale) / (2 * Math.PI * L.CRS.EPSG3857.R * Math.cos(latitude));
+    if (x > -wide && y > -wide && x < view.width + wide && y < view.height + wide) {
+      area.moveTo(x + wide, y);
+      area.arc(x, y, wide, 0, 2 * Math.PI);
+    }
   },
 };
 
