@@ -22,11 +22,12 @@ const sliders = {
     const areas = new ReachedAreas(map);
     map.under.push((pen, view) => {
       if (this.areas && current.now !== null) {
-        areas.paint(pen, view, current.now, live.walk);
+        areas.paint(pen, view, current.now, live.walk, point.isChosen() ? [state.place] : []);
       }
     });
     map.map.on("moveend", () => this.tellPicture());
     element("percentile").max = head.shares.length - 1;
+    element("walk").max = asked.most_walk;
     const on = (name, change) => element(name).addEventListener("input", () => change(element(name)));
     on("percentile", (it) => set({ share: Number(it.value) }));
     on("trips", (it) => this.ask({ trips: Number(it.value) }));

@@ -10,8 +10,11 @@ class ReachedAreas {
     this.scratch = document.createElement("canvas");
   }
 
-  /** The area of each band that ends within the slider's minutes, the widest first; one walks so many seconds at most. */
-  paint(pen, view, cells, walk) {
+  /**
+   * The area of each band that ends within the slider's minutes, the widest first; one walks so many seconds at most, from
+   * the places that are reached and from those where the journey begins.
+   */
+  paint(pen, view, cells, walk, origins = []) {
     const fine = pen.canvas.width / view.width, shades = colours(classEnds.length + 1);
     Object.assign(this.scratch, { width: pen.canvas.width, height: pen.canvas.height });
     const area = this.scratch.getContext("2d");
@@ -25,6 +28,7 @@ class ReachedAreas {
           this.add(area, view, numbers.columns[column], Math.min(60 * (end - minutes), walk));
         }
       });
+      origins.forEach((place) => this.add(area, view, place, Math.min(60 * end, walk)));
       area.fill();
     }
     pen.globalAlpha = AREA;
