@@ -20,7 +20,7 @@ pytest.importorskip("jinja2")
 pytest.importorskip("pandas")
 
 from ttm_tools.explore.point import Point, streets_around, walks_from  # noqa: E402
-from ttm_tools.feed import read_stops  # noqa: E402
+from ttm_tools.gtfs.stops import read_stops  # noqa: E402
 from ttm_tools.walks import Pace  # noqa: E402
 
 TIMES = "times?first=08:00&last=08:00&trips=4&tab=a&turn=1"

@@ -6,7 +6,7 @@ from dataclasses import replace
 from pathlib import Path
 
 from ..faults import WrongWords
-from ..feed import Stops, read_stops
+from ..gtfs.stops import Stops, read_stops
 from ..files import copy_file, scratch, writing_to
 from ..points import grid, study
 from ..records import write_rows

@@ -10,7 +10,8 @@ from pathlib import Path
 
 import numpy as np
 
-from ..feed import Floats, Stops, read_stops
+from ..gtfs.fields import Floats
+from ..gtfs.stops import Stops, read_stops
 from ..points.study import spread, stops_with
 from ..points.table import Points
 from ..records import places_of, records, write_rows
