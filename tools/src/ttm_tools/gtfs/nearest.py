@@ -1,4 +1,4 @@
-"""The least seconds along ways, by Dijkstra's search; no package is needed, so commands without tables start at once."""
+"""The least seconds along ways, by Dijkstra's search; without a package, so commands without tables start at once."""
 
 import heapq
 
