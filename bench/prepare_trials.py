@@ -14,7 +14,10 @@ import tempfile
 from pathlib import Path
 from typing import Callable
 
-sys.path[:0] = [str(Path(__file__).resolve().parent.parent / part) for part in ("tools/src", "tools/tests", ".ci")]
+sys.path[:0] = [
+    str(Path(__file__).resolve().parent.parent / part)
+    for part in ("tools/src", "tools/tests", "tests/program", "bench")
+]
 from damages import damage_stays, first_fault_differs, right_feed_differs  # noqa: E402
 
 Trial = Callable[[str, int, Path], str]

@@ -15,7 +15,10 @@ import sys
 import tempfile
 from pathlib import Path
 
-sys.path[:0] = [str(Path(__file__).resolve().parent.parent / part) for part in ("tools/src", "tools/tests", ".ci")]
+sys.path[:0] = [
+    str(Path(__file__).resolve().parent.parent / part)
+    for part in ("tools/src", "tools/tests", "tests/program", "bench")
+]
 from drawn_plans import plan_differs  # noqa: E402
 
 

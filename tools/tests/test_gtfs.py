@@ -1,6 +1,9 @@
 """Feeds as frames: identifiers keep their bytes, records their numbers; what texts mean; on which days services run."""
 
 import datetime
+import os
+import subprocess
+import sys
 from pathlib import Path
 
 import numpy as np
@@ -135,3 +138,11 @@ def test_files_of_a_folder_have_the_columns_that_are_read_alone(room: Room) -> N
     room.write("routes.txt", "route_id,route_color", [["R", "ff0000"]])
     feed = read_files(str(room.folder), ["routes.txt", "calendar.txt"])
     assert {name: table.columns for name, table in feed.tables.items()} == {"routes.txt": ["route_id"]}
+
+
+def test_walks_start_without_pandas() -> None:
+    modules = ("walks", "walks.straight", "points.study", "plans.nearness", "parts")
+    names = ", ".join(f"ttm_tools.{name}" for name in modules)
+    words = [sys.executable, "-c", f"import sys, {names}; sys.exit('pandas' in sys.modules)"]
+    source = Path(columns.__file__).parents[2]
+    assert subprocess.run(words, env={**os.environ, "PYTHONPATH": str(source)}).returncode == 0

@@ -1,6 +1,5 @@
 """Walks between the stops of a timetable, closed over chains of footpaths, and the change time at each stop."""
 
-import heapq
 from dataclasses import dataclass
 from typing import Iterator
 
@@ -10,6 +9,7 @@ from ..records import rows
 from .columns import values_of
 from .feeds import used_transfers
 from .fields import Whole, number
+from .nearest import reached_from
 from .timetable import Timetable
 
 NO_CHANGE = 16_777_216  # seconds: a change time that lets nobody change
@@ -78,15 +78,3 @@ def closed(direct: dict[tuple[int, int], int], limit: int, begins: set[int] | No
         walks += [(source, stop, seconds) for stop, seconds in found.items() if stop != source]
     columns = np.array(walks, dtype=np.int64).reshape(-1, 3)
     return Walks(columns[:, 0], columns[:, 1], columns[:, 2])
-
-
-def reached_from(source: int, leaving: dict[int, list[tuple[int, int]]], limit: int) -> dict[int, int]:
-    """The least seconds to each stop within the limit."""
-    best, heap = {source: 0}, [(0, source)]
-    while heap:
-        time, stop = heapq.heappop(heap)
-        for target, more in leaving.get(stop, []) if time == best[stop] else []:
-            if time + more <= limit and time + more < best.get(target, limit + 1):
-                best[target] = time + more
-                heapq.heappush(heap, (time + more, target))
-    return best

@@ -3,9 +3,9 @@
 import os
 from typing import Iterator
 
+from ..gtfs.nearest import reached_from
 from ..gtfs.stops import read_stops
 from ..records import rows, shown
-from ..gtfs.footpaths import reached_from
 
 NEW_STOPS = "new_stops.csv"
 Leaving = dict[int, list[tuple[int, int]]]  # of each stop the stops that one walks to, and the seconds
