@@ -3,26 +3,22 @@ points, walks, origins, opportunities. All paths of what is made are from that f
 """
 
 import datetime
-import itertools
 import shlex
 from dataclasses import asdict, dataclass
 from pathlib import Path
-from typing import Any, Callable, Sequence
+from typing import Any, Sequence
 
 from ..dates import day_of
 from ..engine import Run
 from ..faults import BadInput
-from ..gtfs.stops import Stops, read_stops
 from ..files import copy_file, many_written_aside
 from ..matrices import BASE, TODAY
 from ..parts import origins_in, origins_of_feed, write_stops
 from ..opening.paths import inside
 from ..plans import make as plans
-from ..plans.nearness import told_nearer
-from ..points import read_points, study as points
+from ..points import study as points
 from ..prepare.clip import Clip
-from ..records import Rounded, records, shown, write_rows
-from ..walks import Pace, Walks, read_walks, told as what_is_told, walks_of
+from ..records import shown
 from .checks import check_points, check_runs, check_stops
 from .counted import (
     OPPORTUNITIES,
@@ -35,12 +31,13 @@ from .counted import (
     people_stage,
 )
 from .gridding import grid_stage, with_grid
+from .run import name_of, run_of, shown_names
 from .sources import Sources
 from .stages import Folder, Record, Stage, room
+from .walking import FOOTPATHS, POINTS, points_stage, walks_stage
 from .wishes import FeedWish, Study
 
-FEED, PLANNED, POINTS = "inputs/feed", "inputs/planned", "inputs/points"
-FOOTPATHS, SCENARIOS = "inputs/footpaths.csv", "inputs/scenarios"
+FEED, PLANNED, SCENARIOS = "inputs/feed", "inputs/planned", "inputs/scenarios"
 DESTINATIONS = f"{POINTS}/destinations.csv"
 
 
@@ -186,39 +183,6 @@ def make_inputs(study: Study, folder: Folder) -> Inputs:
     return Inputs(run, base, tuple(scenarios), shown_as, maker.destinations(), maker.records, maker.sources)
 
 
-def name_of(path: str) -> str:
-    """The scenario of a scenario file."""
-    return Path(path).name.removesuffix(".csv")
-
-
-def shown_names(scenarios: Sequence[str], runs_all: bool) -> dict[str, str]:
-    """What each scenario of a plan is called in the run: by its name, or `base` for one that takes out nothing of the
-    feed, which has the trips of all; but for that `base` isn't shown.
-    """
-    made = {name_of(path): name_of(path) for path in scenarios}
-    whole = [name_of(path) for path in scenarios if len(list(itertools.islice(records(path), 2))) < 2]
-    return made if runs_all or not whole else {**made, whole[0]: BASE}
-
-
-def run_of(study: Study, feed: str, files: dict[str, str], scenarios: Sequence[str]) -> Run:
-    """What is asked of `ttm`."""
-    wish = study.run
-    return Run(
-        feed,
-        wish.date,
-        (wish.first, wish.last),
-        trips=wish.trips,
-        walk=wish.walk,
-        shares=wish.shares,
-        limits=wish.limits,
-        scenarios=scenarios,
-        tries=wish.tries,
-        back=wish.back,
-        ahead=wish.ahead,
-        files=files,
-    )
-
-
 def dates_of(study: Study) -> list[datetime.date]:
     """The days of the departures, of which there may be several."""
     named = study.run.dates or (study.run.date,)
@@ -283,68 +247,6 @@ def plan_stage(maker: Maker) -> Stage:
 
     depends = {"feed": maker.feed_sums, "inputs": sources.sums}
     return Stage("plan", depends, [PLANNED], make, refuse_changed=sources.refuse_changed)
-
-
-def walks_stage(maker: Maker) -> Stage:
-    """Walks between the stops."""
-    study, wish, feed = maker.study, maker.study.walks, maker.feed
-    sources = maker.reads(wish.streets, wish.table)
-
-    def make() -> list[str]:
-        stops, rounded = read_stops(feed), Rounded()
-        if wish.table:
-            rows = read_walks(study.at(wish.table), stops, rounded)
-            told = f"{rounded.count:,} seconds with decimals were rounded up"
-        else:
-            found = walker(study)(stops, None)
-            rows, told = found.rows(), what_is_told(found, "stops", wish.near)
-        with open(FOOTPATHS, "wb") as file:
-            write_rows(file, ["from_stop_id", "to_stop_id", "seconds"], rows)
-        nearer = told_nearer(feed, FOOTPATHS, study.run.walk)
-        return [f"{FOOTPATHS}: {len(rows):,} footpaths; {told}", *told_limits(study), *nearer]
-
-    depends = {"stops": maker.stops_sum, "walk": study.run.walk, **walk_facts(study), "streets": sources.sums}
-    return Stage("walks", depends, [FOOTPATHS], make, refuse_changed=sources.refuse_changed)
-
-
-def told_limits(study: Study) -> list[str]:
-    """What is told where single walks end earlier than the walks that `ttm` puts together of them."""
-    limit, run = study.walk_limit, study.run.walk
-    told = f"a single walk takes {limit:,} seconds at most ([walks] limit), one of several in turn {run:,} ([run] walk)"
-    return [told] if limit < run else []
-
-
-def walk_facts(study: Study) -> dict[str, Any]:
-    """How one walks."""
-    wish = study.walks
-    return {"pace": [study.walk_limit, wish.speed, wish.detour, wish.near]}
-
-
-def walker(study: Study) -> Callable[[Stops, int | None], Walks]:
-    """What makes walks between places."""
-    wish = study.walks
-    pace = Pace(study.walk_limit, wish.speed, wish.detour)
-    streets = study.at(wish.streets) if wish.streets else None
-    return lambda stops, first: walks_of(stops, pace, streets, wish.near, first)
-
-
-def points_stage(maker: Maker) -> Stage:
-    """The feed with points as stops, and the walks to and from them."""
-    study, wish, feed = maker.study, maker.study.points, maker.feed
-    begins = [path in (*wish.files, *wish.origins) for path in wish.all]
-    ends = [path in (*wish.files, *wish.destinations) for path in wish.all]
-    paths = [study.at(path) for path in wish.all]
-    sources = maker.reads(*wish.all, study.walks.streets)
-
-    def make() -> list[str]:
-        files, limit, near = [read_points(path) for path in paths], study.walk_limit, study.walks.near
-        asked = points.Asked(feed, POINTS, files, begins, ends, limit, wish.leave_out, near)
-        told = [*points.make(asked, walker(study)), *told_limits(study)]
-        return [*told, *told_nearer(f"{POINTS}/{points.FEED}", f"{POINTS}/footpaths.csv", study.run.walk)]
-
-    facts = {"begins": begins, "ends": ends, "leave_out": wish.leave_out, "inputs": sources.sums}
-    depends = {"feed": maker.feed_sums, "walk": study.run.walk, **walk_facts(study), **facts}
-    return Stage("points", depends, [POINTS], make, refuse_changed=sources.refuse_changed)
 
 
 def origins_stage(maker: Maker) -> Stage:
