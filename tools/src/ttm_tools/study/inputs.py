@@ -6,7 +6,7 @@ import datetime
 import shlex
 from dataclasses import asdict, dataclass
 from pathlib import Path
-from typing import Any, Sequence
+from typing import Any
 
 from ..dates import day_of
 from ..engine import Run
