@@ -30,24 +30,27 @@ closed_next n [] b e = go (n && (b == 10))
     go : (t : Bool) → (if t then true else false) ≡ t
     go true = refl
     go false = refl
-closed_next n (x ∷ xs) b e = go (n && (x == 10)) e
+closed_next n (x ∷ xs) b e = go (n && (x == 10)) e (λ o. closed_next (x == 10) xs b o)
   where
     go : (t : Bool) → (if t then true else is_closed (x == 10) xs) ≡ false →
+        (is_closed (x == 10) xs ≡ false → is_closed (x == 10) (xs ++ b ∷ [])
+        ≡ (begins_after (x == 10) xs && (b == 10))) →
         (if t then true else is_closed (x == 10) (xs ++ b ∷ [])) ≡ (begins_after (x == 10) xs && (b == 10))
-    go true bad = absurd (let no : true ≡ false = bad in cc)
-    go false open_still = closed_next (x == 10) xs b open_still
+    go true bad later = absurd (let no : true ≡ false = bad in cc)
+    go false open_still later = later open_still
 
 -- where no empty line comes, all bytes are the block
 pub block_open : (n : Bool) (xs : List ℕ) → is_closed n xs ≡ false → (block_at n xs ≡ xs) × (rest_at n xs ≡ [])
 block_open n [] e = (refl, refl)
-block_open n (x ∷ xs) e = go (n && (x == 10)) e
+block_open n (x ∷ xs) e = go (n && (x == 10)) e (λ o. block_open (x == 10) xs o)
   where
     go : (t : Bool) → (if t then true else is_closed (x == 10) xs) ≡ false →
+        (is_closed (x == 10) xs ≡ false → (block_at (x == 10) xs ≡ xs) × (rest_at (x == 10) xs ≡ [])) →
         ((if t then [] else x ∷ block_at (x == 10) xs) ≡ x ∷ xs)
         × ((if t then xs else rest_at (x == 10) xs) ≡ [])
-    go true bad = absurd (let no : true ≡ false = bad in cc)
-    go false open_still =
-        let p = block_open (x == 10) xs open_still in
+    go true bad later = absurd (let no : true ≡ false = bad in cc)
+    go false open_still later =
+        let p = later open_still in
         (ap (λ l. x ∷ l) p.0, p.1)
 
 -- where the empty line comes last, all bytes before it are the block
@@ -58,14 +61,16 @@ block_end n [] b e ends = go (n && (b == 10)) ends
     go : (t : Bool) → t ≡ true → ((if t then [] else b ∷ []) ≡ []) × ((if t then [] else []) ≡ [])
     go true yes = (refl, refl)
     go false no = absurd (let bad : false ≡ true = no in cc)
-block_end n (x ∷ xs) b e ends = go (n && (x == 10)) e
+block_end n (x ∷ xs) b e ends = go (n && (x == 10)) e (λ o. block_end (x == 10) xs b o ends)
   where
     go : (t : Bool) → (if t then true else is_closed (x == 10) xs) ≡ false →
+        (is_closed (x == 10) xs ≡ false → (block_at (x == 10) (xs ++ b ∷ []) ≡ xs)
+        × (rest_at (x == 10) (xs ++ b ∷ []) ≡ [])) →
         ((if t then [] else x ∷ block_at (x == 10) (xs ++ b ∷ [])) ≡ x ∷ xs)
         × ((if t then xs ++ b ∷ [] else rest_at (x == 10) (xs ++ b ∷ [])) ≡ [])
-    go true bad = absurd (let no : true ≡ false = bad in cc)
-    go false open_still =
-        let p = block_end (x == 10) xs b open_still ends in
+    go true bad later = absurd (let no : true ≡ false = bad in cc)
+    go false open_still later =
+        let p = later open_still in
         (ap (λ l. x ∷ l) p.0, p.1)
 
 -- after an empty line, further bytes change nothing of the block
@@ -73,15 +78,18 @@ pub closed_before : (n : Bool) (xs ys : List ℕ) → is_closed n xs ≡ true �
     (is_closed n (xs ++ ys) ≡ true) × (block_at n (xs ++ ys) ≡ block_at n xs)
     × (rest_at n (xs ++ ys) ≡ rest_at n xs ++ ys)
 closed_before n [] ys e = absurd (let bad : false ≡ true = e in cc)
-closed_before n (x ∷ xs) ys e = go (n && (x == 10)) e
+closed_before n (x ∷ xs) ys e = go (n && (x == 10)) e (λ o. closed_before (x == 10) xs ys o)
   where
     go : (t : Bool) → (if t then true else is_closed (x == 10) xs) ≡ true →
+        (is_closed (x == 10) xs ≡ true → (is_closed (x == 10) (xs ++ ys) ≡ true)
+        × (block_at (x == 10) (xs ++ ys) ≡ block_at (x == 10) xs)
+        × (rest_at (x == 10) (xs ++ ys) ≡ rest_at (x == 10) xs ++ ys)) →
         ((if t then true else is_closed (x == 10) (xs ++ ys)) ≡ true)
         × ((if t then [] else x ∷ block_at (x == 10) (xs ++ ys)) ≡ (if t then [] else x ∷ block_at (x == 10) xs))
         × ((if t then xs ++ ys else rest_at (x == 10) (xs ++ ys)) ≡ (if t then xs else rest_at (x == 10) xs) ++ ys)
-    go true yes = (refl, refl, refl)
-    go false closed =
-        let p = closed_before (x == 10) xs ys closed in
+    go true yes later = (refl, refl, refl)
+    go false closed later =
+        let p = later closed in
         (p.0, ap (λ l. x ∷ l) p.1, p.2)
 
 -- these are the blocks of the bytes, and an empty line ended each

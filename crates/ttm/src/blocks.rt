@@ -2,7 +2,7 @@
 //!
 //! A question is read byte by byte, so that no byte of the next one is waited for.
 
-ghost use Rattle.std.specs.Prelude.{◌≡◌, ◌++◌, ◌∷◌, [], List, ℕ, IfErr, IfOk, OnErr, map, not, string_bytes};
+ghost use Rattle.std.specs.Prelude.{◌≡◌, ◌++◌, ◌∷◌, [], List, ℕ, IfErr, IfOk, OnErr, map, not, string_bytes, true, ◌==◌};
 ghost use Rattle.std.specs.Io.KnownBytes.{Consumes};
 ghost use Rattle.std.specs.List.{slice_split};
 ghost use Rattle.ttm.specs.Blocks as spec;
@@ -183,7 +183,7 @@ fn words_among(alloc: Global, lines: &[&[u8]]) -> Result<Vec<String>, BlockFault
 {
     let mut words = Vec::new(alloc);
     for line in lines {
-        if !line.is_empty() {
+        if is_word(line) {
             let word = word(alloc, line)?;
             if words.push(word).is_err() {
                 return Err(BlockFault::Memory);
@@ -202,4 +202,11 @@ fn word(alloc: Global, line: &[u8]) -> Result<String, BlockFault>
         Ok(text) => Ok(String::from_str(alloc, text)?),
         Err(_) => Err(BlockFault::NotText),
     }
+}
+
+/// Whether a line is a word.
+fn is_word(line: &[u8]) -> bool
+    ensures { result ≡ spec.is_word line.now }
+{
+    !line.is_empty()
 }

@@ -90,6 +90,7 @@ fn talk<H: Host, I: Read, O: Write>(
     out: &mut O,
 ) -> Result<(), TalkFault>
     requires kept { IsKept kept.now }
+    requires settings { SettingsFit kept.now.settings.now }
     ensures whole { OnOk result (spec.IsWhole (H.finds host.now) (inputs_of kept.now.inputs) kept.now.settings.now
         (I.remaining input.old) (I.remaining input.new) (O.contents out.old) (O.contents out.new)) }
     ensures fault { IfErr result (λ fault. spec.IsTalk (H.finds host.now) (inputs_of kept.now.inputs)
@@ -114,6 +115,7 @@ fn turn<H: Host, I: Read, O: Write>(
     out: &mut O,
 ) -> Result<bool, TalkFault>
     requires kept { IsKept kept.now }
+    requires settings { SettingsFit kept.now.settings.now }
     ensures step { IfOk result (λ more. spec.IsStep (H.finds host.now) (inputs_of kept.now.inputs)
         kept.now.settings.now (I.remaining input.old) (I.remaining input.new) (O.contents out.old) (O.contents out.new)
         more) }
