@@ -78,6 +78,7 @@ fn refusal(line: Result<Vec<u8>, AllocError>, status: u8) -> Result<Reply, Alloc
 /// The answer to the words of a question.
 fn reply_by_words<H: Host>(host: &H, kept: &Kept<'_>, words: &[String]) -> Result<Reply, AllocError>
     requires kept { IsKept kept.now }
+    requires settings { SettingsFit kept.now.settings.now }
     ensures { IfOk result (λ reply. spec.IsWordsAnswer (H.finds host.now) (inputs_of kept.now.inputs)
         kept.now.settings.now (map string_bytes words.now) reply.status reply.text.items) }
 {

@@ -4,6 +4,6 @@ use Rattle.ttm.proofs.talk.talk.Given as goal
 
 abbrev pub invariant-loop-number : goal.invariant-loop-number
 invariant-loop-number g l =
-    AreAnswered (g.H.Disk.finds l.host.now) (inputs_of l.kept.now.inputs) l.kept.now.settings.now
+    AreAnswered (g.H.Disk.finds l.host) (inputs_of l.kept.inputs) l.kept.settings.now
     (g.I.Read.remaining l.fn.input) (g.I.Read.remaining l.input) (g.O.Write.contents l.fn.out)
     (g.O.Write.contents l.out)
