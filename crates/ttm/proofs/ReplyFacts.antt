@@ -1,7 +1,7 @@
 -- An answer and its parts.
 use Rattle.std.proofs.Common.{◌≡◌, ◌++◌, ◌+◌, ◌<◌, ℕ, zero, suc, Bool, true, false, not, cond, List, [], ◌∷◌, Option, Some}
-use Rattle.std.proofs.Common.{None, Result, Ok, Err, IfOk, IfErr, OnOk, Vec, inl, inr, refl, sym, ap, subst, append-nil}
-use Rattle.std.proofs.Common.{Bor, arith, length, map, take, slice_index_or}
+use Rattle.std.proofs.Common.{None, Result, Ok, Err, IfOk, IfErr, OnErr, OnOk, Vec, inl, inr, refl, sym, ap, subst, append-nil}
+use Rattle.std.proofs.Common.{◌∙◌, Bor, arith, is_err, length, map, take, slice_index_or}
 use Rattle.std.specs.Io.KnownBytes.{Appends, Keeps}
 use Rattle.std.proofs.KnownBytes.{Appends-kept}
 use Rattle.std.specs.declared.alloc.Global.{Global}
@@ -165,3 +165,12 @@ nil_from (x ∷ xs) e = absurd (let never : false ≡ true = e in cc)
 pub some_from : (read : List ℕ) → not (is_word read) ≡ false → read ≡ [] → ⊥
 some_from [] e same = let never : true ≡ false = e in cc
 some_from (x ∷ xs) e same = cc
+
+-- what holds where a result is an error, or isn't
+pub at_err : {T E P : Type 0} {b : Bool} (r : Result T E) → OnErr r P → b ≡ is_err r → b ≡ true → P
+at_err (Ok v) h says is = absurd (let never : false ≡ true = sym says ∙ is in cc)
+at_err (Err e) h says is = h
+
+pub at_ok : {T E P : Type 0} {b : Bool} (r : Result T E) → OnOk r P → b ≡ is_err r → b ≡ false → P
+at_ok (Ok v) h says is = h
+at_ok (Err e) h says is = absurd (let never : true ≡ false = sym says ∙ is in cc)

@@ -115,7 +115,11 @@ fn talk<H: Host, I: Read, O: Write>(
 {
     for number in 1..u64::MAX {
         let told = if is_told { Some(number) } else { None };
-        if !turn(host, kept, told, input, out)? {
+        let more = match turn(host, kept, told, input, out) {
+            Ok(more) => more,
+            Err(fault) => return Err(fault),
+        };
+        if !more {
             return Ok(());
         }
     }
