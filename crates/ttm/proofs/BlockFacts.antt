@@ -2,6 +2,7 @@
 use Rattle.std.proofs.Common.{◌≡◌, ◌∙◌, ◌++◌, ◌==◌, ◌&&◌, ◌<◌, ◌≤◌, ℕ, Bool, true, false, List, [], ◌∷◌, length, refl, sym}
 use Rattle.std.proofs.Common.{ap, subst, if◌then◌else◌, Option, Some, None, Vec, append-nil, arith}
 use Rattle.std.proofs.KnownBytes.{Consumes-nil, Consumes-trans}
+use Rattle.std.proofs.lemmas.Bool.{eq-eqb, eqb-true, false_from_ne_true}
 use Rattle.std.specs.declared.alloc.Global.{Global}
 use Rattle.std.specs.Io.KnownBytes.{Consumes, IsAtEnd}
 use Rattle.ttm.specs.Blocks.{AreBlocks, Gathers, IsBlock, IsLast, IsNext, IsReadOf, block_at, is_closed, rest_at}
@@ -211,3 +212,15 @@ pub gathered_lost : (known mid left : Option (List ℕ)) (g : Gathered) (begins 
     AreGathered known mid g begins → Consumes mid left [] → (lost : List ℕ) × Consumes known left lost
 gathered_lost known mid left g begins h none =
     (h.bytes ++ [], Consumes-trans known mid left h.bytes [] h.consumed none)
+
+-- ---- whether a byte is an empty line
+
+pub is_end : (n : Bool) (b : ℕ) → n ≡ true → b ≡ 10 → (n && (b == 10)) ≡ true
+is_end n b begins same = ap (λ t. t && (b == 10)) begins ∙ eq-eqb b 10 same
+
+pub is_no_line : (n : Bool) (b : ℕ) → n ≡ false → (n && (b == 10)) ≡ false
+is_no_line n b goes = ap (λ t. t && (b == 10)) goes
+
+pub is_other : (n : Bool) (b : ℕ) → n ≡ true → (b ≡ 10 → ⊥) → (n && (b == 10)) ≡ false
+is_other n b begins other =
+    ap (λ t. t && (b == 10)) begins ∙ false_from_ne_true (b == 10) (λ e. other (eqb-true b 10 e))

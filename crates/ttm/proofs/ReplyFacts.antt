@@ -132,6 +132,12 @@ words_next xs i d few =
     suc_is : (n : ℕ) → suc n ≡ n + 1
     suc_is n = omega arith
 
+pub words_step : (xs : List (Bor (List ℕ))) (i : ℕ) (d : Bor (List ℕ)) (old new : List (List ℕ)) → i < length xs →
+    words_in (take i (map (λ l. l.now) xs)) ≡ old → new ≡ old ++ words_in ((slice_index_or xs i d).now ∷ []) →
+    words_in (take (i + 1) (map (λ l. l.now) xs)) ≡ new
+words_step xs i d old new few so_far one =
+    words_next xs i d few ∙ ap (λ l. l ++ words_in ((slice_index_or xs i d).now ∷ [])) so_far ∙ sym one
+
 bad_line : (xs : List (Bor (List ℕ))) (i : ℕ) (d : Bor (List ℕ)) → i < length xs →
     HasNoText (words_in ((slice_index_or xs i d).now ∷ [])) → HasNoText (words_in (map (λ l. l.now) xs))
 bad_line [] i d few h = absurd (omega arith)

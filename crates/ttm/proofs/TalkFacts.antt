@@ -157,3 +157,16 @@ breaks finds kept base a b out put h = record {
   answered = h.answered;
   whole = h.whole;
 }
+
+-- the same by what a turn tells
+pub ends_at : (finds : Finds) (kept : InputFiles) (base : SettingsData) (a b c out mid put : Option (List ℕ))
+    (more : Bool) → more ≡ false → AreAnswered finds kept base a b out mid →
+    IsStep finds kept base b c mid put more → IsWhole finds kept base a c out put
+ends_at finds kept base a b c out mid put more is h step =
+    ends finds kept base a b c out mid put h (subst (IsStep finds kept base b c mid put) is step)
+
+pub goes_on_at : (finds : Finds) (kept : InputFiles) (base : SettingsData) (a b c out mid put : Option (List ℕ))
+    (more : Bool) → more ≡ true → AreAnswered finds kept base a b out mid →
+    IsStep finds kept base b c mid put more → AreAnswered finds kept base a c out put
+goes_on_at finds kept base a b c out mid put more is h step =
+    goes_on finds kept base a b c out mid put h (subst (IsStep finds kept base b c mid put) is step)

@@ -1,5 +1,5 @@
-use Rattle.std.proofs.Common.{◌∙◌, ◌++◌, ap, arith, sym}
-use Rattle.ttm.proofs.ReplyFacts.{tells_all, words_next}
+use Rattle.std.proofs.Common.{arith}
+use Rattle.ttm.proofs.ReplyFacts.{tells_all, words_step}
 use Rattle.ttm.proofs.blocks.words_among.Goals as goal
 
 pub returns-in-Err-clause-fault : goal.returns-in-Err-clause-fault
@@ -8,5 +8,4 @@ returns-in-Err-clause-fault c =
 
 pub loop-line-preserved : goal.loop-line-preserved
 loop-line-preserved c =
-    words_next c.args.lines.now c.loop-line.line-index _ (omega arith)
-    ∙ ap (λ l. l ++ _) c.loop-line.invariant ∙ sym c.in-Ok.ensures.words
+    words_step c.args.lines.now c.loop-line.line-index _ _ _ (omega arith) c.loop-line.invariant c.in-Ok.ensures.words
