@@ -98,6 +98,14 @@ pub ends_talk : (finds : Finds) (kept : InputFiles) (base : SettingsData) (known
 ends_talk finds kept base known left out put err told status (Ok u) whole cut end = inl (end.0, whole)
 ends_talk finds kept base known left out put err told status (Err fault) whole cut end = inr (fault, cut, end)
 
+-- what is said of files and settings is said of those that are the same
+pub same_talk : (finds : Finds) (i j : InputFiles) (s t : SettingsData) (known left out put err told : Option (List ℕ))
+    (status : ℕ) → i ≡ j → s ≡ t → EndsTalk finds i s known left out put err told status
+    → EndsTalk finds j t known left out put err told status
+same_talk finds i j s t known left out put err told status files settings h =
+    subst (λ f. EndsTalk finds f t known left out put err told status) files
+    (subst (λ v. EndsTalk finds i v known left out put err told status) settings h)
+
 -- ---- words among lines
 
 pub words_of_one : (line : List ℕ) → is_word line ≡ true → words_in (line ∷ []) ≡ line ∷ []
