@@ -2,3 +2,4 @@ pub mod FirstUnread
 pub mod Scenarios
 pub mod BlockFacts
 pub mod TalkFacts
+pub mod ReplyFacts

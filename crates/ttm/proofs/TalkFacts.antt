@@ -1,7 +1,7 @@
 -- Answers, one after another.
 use Rattle.std.proofs.Common.{◌≡◌, ◌∙◌, ◌++◌, ℕ, Bool, true, false, List, [], ◌∷◌, refl, sym, ap, subst, Option}
 use Rattle.std.proofs.Common.{append_assoc, append-nil, inl, inr}
-use Rattle.std.proofs.KnownBytes.{Appends-trans, Consumes-trans}
+use Rattle.std.proofs.KnownBytes.{Appends-nil, Appends-trans, Consumes-nil, Consumes-trans}
 use Rattle.std.specs.Io.KnownBytes.{Appends, Consumes, IsAtEnd}
 use Rattle.std.specs.List.{concat}
 use Rattle.matrix_text.specs.Prefixes.{PutsPrefix}
@@ -130,3 +130,43 @@ stops finds kept base a b c out mid put stop.Read h stopped = record {
   answered = h.answered;
   whole = subst (λ o. Appends out o (concat h.replies)) (sym stopped.1) h.whole;
 }
+
+-- no question was answered yet
+pub none_answered : (finds : Finds) (kept : InputFiles) (base : SettingsData) (a out : Option (List ℕ)) →
+    AreAnswered finds kept base a a out out
+none_answered finds kept base a out = record {
+  bytes = [];
+  consumed = Consumes-nil a;
+  blocks = [];
+  blocks_are = refl;
+  replies = [];
+  answered = tt;
+  whole = Appends-nil out;
+}
+
+-- it is broken off after the questions that were answered
+pub breaks : (finds : Finds) (kept : InputFiles) (base : SettingsData) (a b out put : Option (List ℕ)) →
+    AreAnswered finds kept base a b out put → IsBroken finds kept base a b out put
+breaks finds kept base a b out put h = record {
+  bytes = h.bytes;
+  lost = [];
+  consumed = subst (Consumes a b) (sym (append-nil h.bytes)) h.consumed;
+  blocks = h.blocks;
+  blocks_are = closed_are_blocks h.blocks h.bytes h.blocks_are;
+  replies = h.replies;
+  answered = h.answered;
+  whole = h.whole;
+}
+
+-- the same by what a turn tells
+pub ends_at : (finds : Finds) (kept : InputFiles) (base : SettingsData) (a b c out mid put : Option (List ℕ))
+    (more : Bool) → more ≡ false → AreAnswered finds kept base a b out mid →
+    IsStep finds kept base b c mid put more → IsWhole finds kept base a c out put
+ends_at finds kept base a b c out mid put more is h step =
+    ends finds kept base a b c out mid put h (subst (IsStep finds kept base b c mid put) is step)
+
+pub goes_on_at : (finds : Finds) (kept : InputFiles) (base : SettingsData) (a b c out mid put : Option (List ℕ))
+    (more : Bool) → more ≡ true → AreAnswered finds kept base a b out mid →
+    IsStep finds kept base b c mid put more → AreAnswered finds kept base a c out put
+goes_on_at finds kept base a b c out mid put more is h step =
+    goes_on finds kept base a b c out mid put h (subst (IsStep finds kept base b c mid put) is step)

@@ -113,7 +113,7 @@ abbrev pub reply_of : ℕ → List ℕ → List ℕ
 reply_of status text = head_of status text ++ text
 
 abbrev pub short_reply : List ℕ
-short_reply = reply_of NO_ROOM (line no_memory)
+short_reply = codes "answer 3 19\n" ++ line no_memory
 
 -- the answer to a block, or out of memory
 abbrev pub IsReply : Finds → InputFiles → SettingsData → List ℕ → List ℕ → Type 0

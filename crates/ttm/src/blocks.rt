@@ -2,7 +2,7 @@
 //!
 //! A question is read byte by byte, so that no byte of the next one is waited for.
 
-ghost use Rattle.std.specs.Prelude.{◌≡◌, ◌++◌, ◌∷◌, [], List, ℕ, IfErr, IfOk, OnErr, map, not, string_bytes};
+ghost use Rattle.std.specs.Prelude.{◌≡◌, ◌++◌, ◌∷◌, [], List, ℕ, IfErr, IfOk, OnErr, OnOk, map, not, string_bytes, true, ◌==◌};
 ghost use Rattle.std.specs.Io.KnownBytes.{Consumes};
 ghost use Rattle.std.specs.List.{slice_split};
 ghost use Rattle.ttm.specs.Blocks as spec;
@@ -183,14 +183,31 @@ fn words_among(alloc: Global, lines: &[&[u8]]) -> Result<Vec<String>, BlockFault
 {
     let mut words = Vec::new(alloc);
     for line in lines {
-        if !line.is_empty() {
-            let word = word(alloc, line)?;
-            if words.push(word).is_err() {
-                return Err(BlockFault::Memory);
-            }
+        match add_word(alloc, &mut words, line) {
+            Ok(()) => {}
+            Err(fault) => return Err(fault),
         }
     }
     Ok(words)
+}
+
+/// Adds a line that isn't empty.
+#[tactic(auto, using(crate::proofs::ReplyFacts::words_of_one, crate::proofs::ReplyFacts::words_of_none))]
+fn add_word(alloc: Global, words: &mut Vec<String>, line: &[u8]) -> Result<(), BlockFault>
+    ensures words { OnOk result (map string_bytes words.new.items
+        ≡ map string_bytes words.old.items ++ spec.words_in (line.now ∷ [])) }
+    ensures fault { IfErr result (λ fault. spec.TellsWords fault (spec.words_in (line.now ∷ []))) }
+{
+    if !is_word(line) {
+        return Ok(());
+    }
+    match word(alloc, line) {
+        Ok(word) => match words.push(word) {
+            Ok(()) => Ok(()),
+            Err(_) => Err(BlockFault::Memory),
+        },
+        Err(fault) => Err(fault),
+    }
 }
 
 /// A word.
@@ -202,4 +219,11 @@ fn word(alloc: Global, line: &[u8]) -> Result<String, BlockFault>
         Ok(text) => Ok(String::from_str(alloc, text)?),
         Err(_) => Err(BlockFault::NotText),
     }
+}
+
+/// Whether a line is a word.
+fn is_word(line: &[u8]) -> bool
+    ensures { result ≡ spec.is_word line.now }
+{
+    !line.is_empty()
 }

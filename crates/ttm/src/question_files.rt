@@ -56,7 +56,7 @@ impl QuestionFiles {
 /// The bytes of a file, if there is one, and else those that stay.
 fn over<'a>(file: &'a Option<Vec<u8>>, stays: Option<&'a [u8]>) -> Option<&'a [u8]>
     ensures { limit.bytes_of result
-        ≡ spec.file_over (option_map (λ bytes. bytes.items) file.now) (limit.bytes_of stays) }
+        ≡ spec.file_over (option_map (λ bytes. bytes.items) file.now) (limit.bytes_of stays.entry) }
 {
     match file {
         Some(bytes) => Some(bytes.as_slice()),

@@ -1,6 +1,6 @@
 //! Answers of a conversation: the matrix of a question, or the line that tells why there is none.
 
-ghost use Rattle.std.specs.Prelude.{◌≡◌, ◌++◌, ℕ, List, IfErr, IfOk, OnErr, OnOk, map, string_bytes};
+ghost use Rattle.std.specs.Prelude.{◌≡◌, ◌++◌, ℕ, List, Ok, IfOk, OnErr, OnOk, map, string_bytes};
 ghost use Rattle.std.specs.Io.KnownBytes.{Appends};
 ghost use Rattle.matrix_text.specs.Prefixes.{PutsPrefix};
 ghost use Rattle.studies.specs.Answers.{IsQuestion, asked_files};
@@ -42,6 +42,7 @@ pub(crate) fn reply_to<H: Host>(
     words: &Result<Vec<String>, BlockFault>,
 ) -> Result<Reply, AllocError>
     requires kept { IsKept kept.now }
+    requires settings { SettingsFit kept.now.settings.now }
     ensures { (block : List ℕ) → IsReadOf block words.now → IfOk result (λ reply. spec.IsAnswerOf (H.finds host.now)
         (inputs_of kept.now.inputs) kept.now.settings.now block reply.status reply.text.items) }
 {
@@ -66,15 +67,18 @@ pub(crate) fn reply_to<H: Host>(
 /// An answer that tells why there is no matrix.
 fn refusal(line: Result<Vec<u8>, AllocError>, status: u8) -> Result<Reply, AllocError>
     ensures status { IfOk result (λ reply. reply.status ≡ status) }
-    ensures line { IfOk result (λ reply. IfOk line (λ line. reply.text ≡ line)) }
+    ensures line { IfOk result (λ reply. line ≡ Ok reply.text) }
 {
-    let text = line?;
-    Ok(Reply { status, text })
+    match line {
+        Ok(text) => Ok(Reply { status, text }),
+        Err(fault) => Err(fault),
+    }
 }
 
 /// The answer to the words of a question.
 fn reply_by_words<H: Host>(host: &H, kept: &Kept<'_>, words: &[String]) -> Result<Reply, AllocError>
     requires kept { IsKept kept.now }
+    requires settings { SettingsFit kept.now.settings.now }
     ensures { IfOk result (λ reply. spec.IsWordsAnswer (H.finds host.now) (inputs_of kept.now.inputs)
         kept.now.settings.now (map string_bytes words.now) reply.status reply.text.items) }
 {
@@ -172,10 +176,22 @@ fn put_both<O: Write>(first: &[u8], last: &[u8], out: &mut O) -> Result<(), Text
     ensures ok { OnOk result (Appends (O.contents out.old) (O.contents out.new) (first.now ++ last.now)) }
     ensures err { OnErr result (PutsPrefix (O.contents out.old) (O.contents out.new) (first.now ++ last.now)) }
 {
-    put_all(first, out)?;
-    put_all(last, out)?;
-    match out.flush() {
-        Ok(()) => Ok(()),
-        Err(_) => Err(TextFault::Write),
+    match put_all(first, out) {
+        Ok(()) => put_last(last, out),
+        Err(fault) => Err(fault),
+    }
+}
+
+/// Puts out a text, and flushes what is put out.
+fn put_last<O: Write>(text: &[u8], out: &mut O) -> Result<(), TextFault>
+    ensures ok { OnOk result (Appends (O.contents out.old) (O.contents out.new) text.now) }
+    ensures err { OnErr result (PutsPrefix (O.contents out.old) (O.contents out.new) text.now) }
+{
+    match put_all(text, out) {
+        Ok(()) => match out.flush() {
+            Ok(()) => Ok(()),
+            Err(_) => Err(TextFault::Write),
+        },
+        Err(fault) => Err(fault),
     }
 }

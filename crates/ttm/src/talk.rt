@@ -8,6 +8,7 @@ ghost use Rattle.std.specs.Process.{exit_status};
 ghost use Rattle.studies.specs.Inputs.{AreWithinLimit, inputs_of};
 ghost use Rattle.studies.specs.Kept.{IsKept};
 ghost use Rattle.studies.specs.Settings.{SettingsFit};
+ghost use Rattle.studies.specs.Study.{Tells};
 ghost use Rattle.ttm.specs.Answers as answers;
 ghost use Rattle.ttm.specs.Talk as spec;
 
@@ -21,7 +22,7 @@ use reports::Report;
 use std::alloc::{AllocError, Global};
 use std::io::{Read, Write};
 use std::process::ExitCode;
-use studies::{Inputs, Kept, Unwatched, keep};
+use studies::{Inputs, Kept, StudyFault, Unwatched, keep};
 
 /// Why a conversation ended before its input did.
 #[derive(Clone, Copy, PartialEq, Eq)]
@@ -51,13 +52,7 @@ pub(crate) fn converse<'a, H: Host, I: Read, O: Write, E: Write>(
         task.now.settings (I.remaining input.old) (I.remaining input.new) (O.contents out.old) (O.contents out.new) }
     ensures quiet { exit_status result ≡ DONE → err.new ≡ err.old }
 {
-    let made = if task.report {
-        let report = Report::new(host.alloc(), host, inputs);
-        keep(host.alloc(), inputs, &task.settings, &report)
-    } else {
-        keep(host.alloc(), inputs, &task.settings, &Unwatched)
-    };
-    match made {
+    match kept_of(host, task, inputs) {
         Ok(kept) => end(talk(host, &kept, task.report, input, out), err),
         Err(fault) => {
             let code = tell_why(host.alloc(), &fault, inputs, err);
@@ -66,6 +61,27 @@ pub(crate) fn converse<'a, H: Host, I: Read, O: Write, E: Write>(
             }
             code
         }
+    }
+}
+
+/// What is kept of the files of a task. It is reported, if the task says so.
+fn kept_of<'a, H: Host>(
+    host: &'a H,
+    task: &'a Task,
+    inputs: &Inputs<'a>,
+) -> Result<Kept<'a>, StudyFault>
+    requires files { AreWithinLimit (inputs_of inputs.now) }
+    requires settings { SettingsFit task.now.settings }
+    ensures kept { IfOk result (λ kept. IsKept kept) }
+    ensures files { IfOk result (λ kept. inputs_of kept.inputs ≡ inputs_of inputs.now) }
+    ensures settings { IfOk result (λ kept. kept.settings.now ≡ task.now.settings) }
+    ensures fault { IfErr result (λ fault. Tells fault (inputs_of inputs.now) task.now.settings) }
+{
+    if task.report {
+        let report = Report::new(host.alloc(), host, inputs);
+        keep(host.alloc(), inputs, &task.settings, &report)
+    } else {
+        keep(host.alloc(), inputs, &task.settings, &Unwatched)
     }
 }
 
@@ -90,6 +106,7 @@ fn talk<H: Host, I: Read, O: Write>(
     out: &mut O,
 ) -> Result<(), TalkFault>
     requires kept { IsKept kept.now }
+    requires settings { SettingsFit kept.now.settings.now }
     ensures whole { OnOk result (spec.IsWhole (H.finds host.now) (inputs_of kept.now.inputs) kept.now.settings.now
         (I.remaining input.old) (I.remaining input.new) (O.contents out.old) (O.contents out.new)) }
     ensures fault { IfErr result (λ fault. spec.IsTalk (H.finds host.now) (inputs_of kept.now.inputs)
@@ -98,7 +115,11 @@ fn talk<H: Host, I: Read, O: Write>(
 {
     for number in 1..u64::MAX {
         let told = if is_told { Some(number) } else { None };
-        if !turn(host, kept, told, input, out)? {
+        let more = match turn(host, kept, told, input, out) {
+            Ok(more) => more,
+            Err(fault) => return Err(fault),
+        };
+        if !more {
             return Ok(());
         }
     }
@@ -114,6 +135,7 @@ fn turn<H: Host, I: Read, O: Write>(
     out: &mut O,
 ) -> Result<bool, TalkFault>
     requires kept { IsKept kept.now }
+    requires settings { SettingsFit kept.now.settings.now }
     ensures step { IfOk result (λ more. spec.IsStep (H.finds host.now) (inputs_of kept.now.inputs)
         kept.now.settings.now (I.remaining input.old) (I.remaining input.new) (O.contents out.old) (O.contents out.new)
         more) }

@@ -10,16 +10,18 @@ pub returns-in-Ok-clause-success : goal.returns-in-Ok-clause-success
 returns-in-Ok-clause-success g c = λ z.
     inl record {
       task = c.in-Ok.task;
-      asked = c.in-Ok.ensures.asked;
-      paths = c.in-Ok.ensures.paths;
+      asked = record {
+        asked = c.in-Ok.ensures.asked;
+        paths = c.in-Ok.ensures.paths;
+        asks = c.in-Ok.ensures.asks;
+      };
       made = c.read_and_answer-code.ensures.success z;
     }
 
 pub returns-in-Ok-clause-ended : goal.returns-in-Ok-clause-ended
 returns-in-Ok-clause-ended g c = inl (
   c.in-Ok.task,
-  c.in-Ok.ensures.asked,
-  c.in-Ok.ensures.paths,
+  record { asked = c.in-Ok.ensures.asked; paths = c.in-Ok.ensures.paths; asks = c.in-Ok.ensures.asks },
   c.read_and_answer-code.ensures.ended,
 )
 

@@ -10,14 +10,14 @@ returns-in-Ok-clause-success g c = λ z.
       files = inputs_of c.inputs.result;
       named = subst (λ i. AreNamed (g.H.Disk.finds c.args.host.now) c.args.task.now i) (sym c.inputs.ensures)
           c.in-Ok.ensures.files;
-      whole = c.answer_task.ensures.success z;
+      whole = c.answer_files.ensures.success z;
     }
 
 pub returns-in-Ok-clause-ended : goal.returns-in-Ok-clause-ended
 returns-in-Ok-clause-ended g c =
     let named = subst (λ i. AreNamed (g.H.Disk.finds c.args.host.now) c.args.task.now i) (sym c.inputs.ensures)
     c.in-Ok.ensures.files in
-    inr (inputs_of c.inputs.result, named, c.answer_task.ensures.answered)
+    inr (inputs_of c.inputs.result, named, c.answer_files.ensures.ended)
 
 pub returns-after-task-clause-ended : goal.returns-after-task-clause-ended
 returns-after-task-clause-ended g c =
