@@ -1,6 +1,7 @@
 #!/usr/bin/env python3
 """Measures `ttm-tools explore` in a real browser, headless Chromium, and prints a Markdown table: from a click to the
-painted picture, a slider that needs no new search, a change of the network, and the memory of its processes.
+painted picture, a slider that needs no new search, a hundred clicks a second, a change of the network, and the memory
+of its processes.
 
     explore_times.py --city FOLDER [--metropolis FOLDER] [--clicks N] [--program PATH]
 
@@ -89,6 +90,22 @@ def clicks(browser: Browser, count: int) -> list[float]:
     ]
 
 
+def rushed(browser: Browser) -> tuple[float, int]:
+    """A hundred clicks within a second, each on another place: milliseconds from the last one to its picture, and how
+    many questions the server was asked.
+    """
+    script = (
+        "const before = live.turn, wait = (it) => new Promise((end) => setTimeout(end, it));"
+        "for (let n = 0; n < 100; n++) { set({ place: numbers.columns[7 * n + 1] }); await wait(10); }"
+        "const begin = performance.now();"
+        f"await set({{ place: numbers.columns[5] }}); {PAINTED}"
+        "return [performance.now() - begin, live.turn - before, state.place === numbers.columns[5]];"
+    )
+    millis, questions, is_last = browser.awaited(script)
+    assert is_last
+    return float(millis), int(questions)
+
+
 def slides(browser: Browser) -> list[float]:
     """Milliseconds of sliders that need no new search: minutes, percentile, bands."""
     changes = [f"set({{ minutes: {20 + n} }})" for n in range(10)] + [f"set({{ share: {n % 5} }})" for n in range(10)]
@@ -108,6 +125,9 @@ def measure(size: str, folder: Path, count: int, program: Optional[str]) -> Iter
             yield row(size, "click to picture, median, ms", statistics.median(found), GOALS[size])
             yield row(size, "click to picture, the longest, ms", max(found), None)
             yield row(size, "slider without a search, median, ms", statistics.median(slides(browser)), SLIDE)
+            millis, questions = rushed(browser)
+            yield row(size, "a hundred clicks a second: the last one to its picture, ms", millis, 2 * GOALS[size])
+            yield row(size, "questions that they asked", questions, None)
             browser.awaited("await routes.read_;")
             change = TIMED % "routes.add({ do: 'headway', route: 1, every: 300, from: '06:00', to: '20:00' })"
             yield row(size, "change of a route, ms", browser.awaited(change), CHANGE if size == "city" else None)

@@ -18,6 +18,10 @@ leg by leg, and its duration by departure. Take routes out, change how often or 
 extend them or draw a new line: each change is an action of a plan, and the changed network is compared with today. The
 address holds the view; the page saves pictures, numbers, and a study that computes all of it.
 
+With --grid the places are cells as well as stops: one walks from the middle of a cell, as ttm-tools points makes it.
+With --streets walks go along streets. Such walks take at most --walk; they are made at the start, and a study that is
+saved has copies of them.
+
 `ttm` keeps the network and answers the page. The page asks nobody else, and only this machine can ask: the address has
 a token that changes with each start. Ctrl-C ends it. Files are written into --out alone. Needs flask, jinja2, pandas
 and Leaflet from Debian's libjs-leaflet. Memory: that of a run of ttm, and 400 bytes for each stop time."""
@@ -38,6 +42,10 @@ def describe(parser: argparse.ArgumentParser) -> None:
     add_number(parser, "--back", "service days before the date that count", "days", (0, 6), default=1)
     add_number(parser, "--ahead", "service days after the date that count", "days", (0, 6), default=1)
     add_text(parser, "--footpaths", "FILE", "walks beside those of the feed", without="there are none")
+    told = "make walks along the streets of a file of OpenStreetMap (.osm.pbf, .osm); needs pyosmium and scipy"
+    add_text(parser, "--streets", "FILE", told, without="--footpaths, or straight lines to cells")
+    told = "square cells wherever a stop is within a walk, each of them a place to click on; their side"
+    add_number(parser, "--grid", told, "metres", (10, 100000), without="stops alone", whole=False)
     add_text(parser, "--plan", "FILE", "a plan whose scenarios are compared with today", without="there is none")
     told = "a file with what each stop has, whose columns are counted; may be given more than once (without it, stops)"
     parser.add_argument("--opportunities", metavar="FILE", action="append", default=[], help=told)
@@ -56,7 +64,7 @@ def wish_of(words: argparse.Namespace) -> "Wish":
     from datetime import date
 
     from ..explore.of_study import wish_of_study
-    from ..explore.wish import Wish
+    from ..explore.wish import OF_NO_OPTION, Wish
     from ..faults import WrongWords
 
     if words.last < words.first:
@@ -64,7 +72,7 @@ def wish_of(words: argparse.Namespace) -> "Wish":
     is_study = words.feed.endswith(".toml")
     if words.date is None and not is_study:
         raise WrongWords("--date is needed where no study is named")
-    names = [name for name in Wish.__dataclass_fields__ if name not in ("window", "shares", "date")]
+    names = [name for name in Wish.__dataclass_fields__ if name not in OF_NO_OPTION]
     known = {name: getattr(words, name) for name in names}
     made = Wish(window=(words.first, words.last), date=words.date or date.min, **known)
     return wish_of_study(words.feed, made) if is_study else made
@@ -78,6 +86,7 @@ def run(words: argparse.Namespace) -> int:
     from ..explore.application import application
     from ..explore.exploration import Exploration
     from ..explore.guard import Guard
+    from ..explore.making import made
     from ..explore.serving import bound, serve
     from ..files import scratch
     from ..views.page.document import leaflet_files
@@ -86,6 +95,8 @@ def run(words: argparse.Namespace) -> int:
     own = bound(words.port)
     guard = Guard(int(own.getsockname()[1]))
     with own, scratch("explore") as room:
+        wish, sentences = made(wish, room)
+        say(*sentences)
         exploration = Exploration(wish, room)
         try:
             say("The page is at the address below, for this machine alone, until Ctrl-C ends it.")

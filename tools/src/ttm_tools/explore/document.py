@@ -11,7 +11,15 @@ from ..views.page.content import Content
 from .exploration import Exploration
 
 ASSETS = Path(__file__).resolve().parent / "assets"
-LIVE = ("live.js", "isochrones.js", "journey.js", "routes.js", "beside.js", "keep.js")  # in place of the page's cells
+LIVE = (
+    "live.js",
+    "isochrones.js",
+    "journey.js",
+    "routes.js",
+    "beside.js",
+    "keep.js",
+    "point.js",
+)  # in place of the page's cells
 MINUTES = 30  # at which the slider stands first
 
 
@@ -34,6 +42,7 @@ def asked_of(exploration: Exploration) -> dict[str, Any]:
         "last": wish.window[1],
         "trips": wish.trips,
         "walk": standing.plan.walk,
+        "most_walk": wish.most_walk,
         "actions": standing.plan.actions,
         "told": standing.plan.told,
         "date": wish.date.isoformat(),
@@ -44,7 +53,7 @@ def frame_of(exploration: Exploration) -> page.Frame:
     """What stands around the numbers."""
     wish, standing = exploration.wish, exploration.standing
     words = sources.Words(f"--date {wish.date:%Y%m%d}")
-    name = shown(os.path.basename(os.path.abspath(wish.feed)))
+    name = shown(wish.name or os.path.basename(os.path.abspath(wish.feed)))
     return page.Frame(
         wish.title or f"Explore: {name}",
         "",

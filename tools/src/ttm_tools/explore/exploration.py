@@ -1,12 +1,13 @@
 """All that is known while somebody explores: the places, the network that answers, and how another takes its place."""
 
+import tempfile
 import threading
 from dataclasses import dataclass
 from functools import cached_property
 from pathlib import Path
 from typing import Any
 
-from ..faults import BadInput
+from ..faults import BadInput, WrongWords
 from ..feed import Stops, read_stops
 from ..measures.opportunities import Counts, read_counts
 from ..plans.base import Base, read_base
@@ -16,8 +17,11 @@ from ..points.table import read_points
 from ..views.page.content import Ground
 from ..views.page.lines import Lines, page_lines
 from ..views.page.places import places_of
+from ..walks import Pace
+from ..walks.osm import Streets, read_streets
 from . import keeping, planning
 from .changes import Namer, Values
+from .point import Point, Walk, walks_from
 from .question import Question
 from .routes import Routes, routes_of
 from .standing import Plan, Seconds, Standing
@@ -56,6 +60,11 @@ class Exploration:
         return read_base(self.wish.feed, read_plan(self.wish.plan).stops if self.wish.plan is not None else [])
 
     @cached_property
+    def streets(self) -> Streets | None:
+        """The streets along which one walks from any point; they are read when they are first needed."""
+        return None if self.wish.streets is None else read_streets(self.wish.streets)
+
+    @cached_property
     def of_routes(self) -> Routes:
         numbers = {name: number for number, name in enumerate(self.ground.columns)}
         return routes_of(self.base, self.wish.date, numbers)
@@ -92,12 +101,23 @@ class Exploration:
     def times(self, question: Question) -> Times:
         """Travel times from a place; `Overtaken` where a later question of the same tab came meanwhile."""
         with self.turnstile.turn(question.tab, question.turn):
-            standing, origin = self.standing, self.ground.columns[question.origin]
-            result = standing.ask(origin, question.window, question.trips, self.wish.shares)
+            standing, origin = self.standing, question.origin
+            if isinstance(origin, Point):
+                with tempfile.TemporaryDirectory(prefix="point.", dir=self.room) as folder:
+                    result = standing.ask_from(origin, self.walks_from(origin), Path(folder), question)
+            else:
+                result = standing.ask(self.ground.columns[origin], question.window, question.trips, self.wish.shares)
             return Times(standing.version, standing.seconds(result, self.ground.columns))
+
+    def walks_from(self, point: Point) -> list[Walk]:
+        """The walks from a point to the stops of the network that answers."""
+        plan = self.standing.plan
+        return walks_from(point, read_stops(plan.folder), Pace(plan.walk), self.streets)
 
     def change(self, actions: list[Values], walk: int) -> dict[str, Any]:
         """Begins another network, which answers from the moment on at which it can."""
+        if self.wish.made and walk > self.wish.most_walk:
+            raise WrongWords(f"walk is {walk}; walks were made up to {self.wish.most_walk} seconds")
         with self.changing:
             version = self.standing.version + 1
             made = self.begun(version, self.planned(actions, walk))
@@ -136,7 +156,7 @@ class Exploration:
 
     def save(self, asked: Any) -> dict[str, Any]:
         """Writes a study that computes what is shown."""
-        return keeping.save(self.wish, self.standing.plan, self.ground.columns, asked)
+        return keeping.save(self.wish, self.standing.plan, self.ground.columns, asked, self.walks_from)
 
     def close(self) -> None:
         """Ends the conversation."""

@@ -3,13 +3,15 @@
 import os
 import shlex
 from pathlib import Path
-from typing import Any, Sequence
+from typing import Any, Callable, Sequence
 
 from ..faults import WrongWords
 from ..files import many_written_aside
 from ..parts import write_stops
 from .changes import in_toml, number
-from .question import window_of
+from .making import copy_made, copy_with_point
+from .point import FEED, WALKS, Point, Walk
+from .question import origin_of, window_of
 from .standing import Plan
 from .wish import Wish
 
@@ -24,45 +26,67 @@ def next_folder(out: Path) -> Path:
     return out / str(count)
 
 
-def save(wish: Wish, plan: Plan, columns: Sequence[str], asked: Any) -> dict[str, Any]:
-    """Writes a study of the network that answers, for a window, trips, and an origin or all."""
+Walker = Callable[[Point], list[Walk]]
+
+
+def save(wish: Wish, plan: Plan, columns: Sequence[str], asked: Any, walker: Walker) -> dict[str, Any]:
+    """Writes a study of the network that answers, for a window, trips, and an origin or all; of a point that is no stop
+    with a copy of the feed that has it as one more stop.
+    """
     if not isinstance(asked, dict) or not {"first", "last", "trips", "origin"} <= asked.keys():
         raise WrongWords("a study needs first, last, trips and origin")
-    window, trips = window_of({key: str(asked[key]) for key in ("first", "last")}), number(
-        asked["trips"], "trips", 1, 8
-    )
-    origin = number(asked["origin"], "origin", -1, len(columns) - 1)
+    window = window_of({key: str(asked[key]) for key in ("first", "last")})
+    trips, point = number(asked["trips"], "trips", 1, 8), point_in(asked["origin"])
+    origin = -1 if point else number(asked["origin"], "origin", -1, len(columns) - 1)
     folder = next_folder(Path(wish.out))
-    tables = tables_of(wish, plan, folder, window, trips)
-    if origin >= 0:
-        tables["run"]["origins"] = ORIGINS
     with many_written_aside(folder) as made:
+        named = columns[origin] if origin >= 0 else None
+        if point is not None:
+            named = copy_with_point(wish, made, point, walker(point))
+        elif wish.made:
+            copy_made(wish, made)
+        tables = tables_of(wish, plan, folder, made, (window, trips))
+        if named is not None:
+            tables["run"]["origins"] = ORIGINS
+            with open(made / ORIGINS, "wb") as file:
+                write_stops(file, [named])
         (made / STUDY).write_text(text_of(wish, tables), encoding="utf-8")
         if plan.text:
             (made / PLAN).write_text(plan.text, encoding="utf-8")
-        if origin >= 0:
-            with open(made / ORIGINS, "wb") as file:
-                write_stops(file, [columns[origin]])
     path = folder / STUDY
     return {"path": str(path), "command": f"ttm-tools study {shlex.quote(str(path))}"}
 
 
-def tables_of(wish: Wish, plan: Plan, folder: Path, window: tuple[str, str], trips: int) -> dict[str, dict[str, Any]]:
-    """The tables of the study's file; paths are from its folder on."""
+def point_in(origin: Any) -> Point | None:
+    """The point of the map from which journeys begin, where that is no place of the page."""
+    if not isinstance(origin, dict):
+        return None
+    found = origin_of({str(key): str(value) for key, value in origin.items() if key in ("lat", "lon")}, 0)
+    assert isinstance(found, Point)
+    return found
+
+
+def tables_of(
+    wish: Wish, plan: Plan, folder: Path, made: Path, times: tuple[tuple[str, str], int]
+) -> dict[str, dict[str, Any]]:
+    """The tables of the study's file; paths are from its folder on, where some files may have been made already."""
 
     def path(name: str) -> str:
         return os.path.relpath(name, folder)
 
+    window, trips = times
     run: dict[str, Any] = {"from": window[0], "to": window[1], "trips": trips, "walk": plan.walk}
     run |= {"shares": list(wish.shares), "back": wish.back, "ahead": wish.ahead}
-    walks: dict[str, Any] = {"none": True} if wish.footpaths is None else {"table": path(wish.footpaths)}
-    made = {"feed": {"files": [path(wish.feed)], "ready": True}, "run": run, "walks": walks}
+    feed = FEED if (made / FEED).exists() else path(wish.feed)
+    table = WALKS if (made / WALKS).exists() else wish.footpaths and path(wish.footpaths)
+    walks: dict[str, Any] = {"none": True} if table is None else {"table": table}
+    tables = {"feed": {"files": [feed], "ready": True}, "run": run, "walks": walks}
     if wish.opportunities:
-        made["opportunities"] = {"files": [path(it) for it in wish.opportunities]}
+        tables["opportunities"] = {"files": [path(it) for it in wish.opportunities]}
     if plan.text:
-        made["scenarios"] = {"plan": PLAN}
-    made["results"] = {"maps": False}
-    return made
+        tables["scenarios"] = {"plan": PLAN}
+    tables["results"] = {"maps": False}
+    return tables
 
 
 def text_of(wish: Wish, tables: dict[str, dict[str, Any]]) -> str:

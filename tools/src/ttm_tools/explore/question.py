@@ -5,17 +5,19 @@ from dataclasses import dataclass
 from typing import Mapping
 
 from ..faults import WrongWords
+from .point import Point
 
 CLOCK = re.compile(r"([01][0-9]|2[0-3]):[0-5][0-9]")
 WHOLE = re.compile(r"[0-9]{1,18}")
 TAB = re.compile(r"[0-9a-z]{1,32}")
+DEGREES = re.compile(r"-?[0-9]{1,3}(\.[0-9]{1,9})?")
 
 
 @dataclass(frozen=True)
 class Question:
-    """Travel times from a stop."""
+    """Travel times from a place."""
 
-    origin: int  # the number of a place of the page
+    origin: int | Point  # the number of a place of the page, or any point
     window: tuple[str, str]
     trips: int
     tab: str  # of the browser, which asks one question after another
@@ -46,10 +48,25 @@ def window_of(words: Mapping[str, str]) -> tuple[str, str]:
     return first, last
 
 
+def degrees(words: Mapping[str, str], name: str, most: int) -> float:
+    """A latitude or a longitude."""
+    text = words.get(name, "")
+    if not DEGREES.fullmatch(text) or abs(float(text)) > most:
+        raise WrongWords(f"{name} is {text[:60]!r}; allowed: -{most} to {most}")
+    return float(text)
+
+
+def origin_of(words: Mapping[str, str], places: int) -> int | Point:
+    """One of so many places, or a point."""
+    if "lat" in words or "lon" in words:
+        return Point(degrees(words, "lat", 90), degrees(words, "lon", 180))
+    return whole(words, "origin", 0, places - 1)
+
+
 def question_of(words: Mapping[str, str], places: int) -> Question:
-    """A question about one of so many places."""
+    """A question about one of so many places, or about any point."""
     tab = words.get("tab", "")
     if not TAB.fullmatch(tab):
         raise WrongWords("tab is no name of a tab")
-    origin, trips = whole(words, "origin", 0, places - 1), whole(words, "trips", 1, 8)
+    origin, trips = origin_of(words, places), whole(words, "trips", 1, 8)
     return Question(origin, window_of(words), trips, tab, whole(words, "turn", 0, 1 << 53))

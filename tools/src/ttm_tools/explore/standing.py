@@ -8,10 +8,12 @@ from typing import Any, Sequence
 import numpy as np
 import numpy.typing as npt
 
-from ..engine import Result
+from ..engine import Result, matrix
 from ..files import remove
 from ..matrices import BASE, TODAY
 from ..network import Network
+from .point import Point, Walk, laid_out
+from .question import Question
 from .wish import Wish
 
 Seconds = npt.NDArray[np.int32]
@@ -62,6 +64,24 @@ class Standing:
     def ask(self, origin: str, window: tuple[str, str], trips: int, shares: Sequence[int]) -> Result:
         """Travel times from a stop."""
         return self.network.matrix(window, trips=trips, shares=shares, origins=[origin])
+
+    def ask_from(self, point: Point, walks: list[Walk], folder: Path, question: Question) -> Result:
+        """Travel times from a point that is no stop, by a run with it as one more stop, whose files are in a folder."""
+        name, feed, footpaths = laid_out(folder, self.plan.folder, self.wish.footpaths, point, walks)
+        return matrix(
+            feed,
+            self.wish.date,
+            question.window,
+            trips=question.trips,
+            walk=self.plan.walk,
+            shares=self.wish.shares,
+            scenarios=self.plan.files,
+            origins=[name],
+            footpaths=footpaths,
+            back=self.wish.back,
+            ahead=self.wish.ahead,
+            program=self.wish.program,
+        )
 
     def seconds(self, result: Result, columns: Sequence[str]) -> Seconds:
         """The cells of some stops by scenario and share, in whole seconds."""

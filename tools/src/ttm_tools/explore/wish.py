@@ -4,6 +4,7 @@ import datetime
 from dataclasses import dataclass, field
 
 SHARES = (10, 25, 50, 75, 90)  # percent, between which the page's slider chooses
+OF_NO_OPTION = ("window", "shares", "date", "name", "made", "most_walk")  # fields that no option has the name of
 
 
 @dataclass(frozen=True)
@@ -20,8 +21,13 @@ class Wish:
     plan: str | None = None
     opportunities: list[str] = field(default_factory=list)
     footpaths: str | None = None
+    streets: str | None = None  # a file of OpenStreetMap, along whose streets walks are made
+    grid: float | None = None  # metres, the side of the cells that are made
     back: int = 1
     ahead: int = 1
     title: str | None = None
     program: str | None = None
     leaflet: str = "/usr/share/javascript/leaflet"
+    name: str | None = None  # of the feed, where the one that is explored was made of it
+    made: bool = False  # whether feed and walks are in a folder that goes with the exploration
+    most_walk: int = 1800  # seconds, at the end of the page's slider

@@ -19,7 +19,7 @@ const sliders = {
 
   begin(map) {
     this.page = map;
-    const areas = new ReachedAreas(map);
+    const areas = new ReachedAreas(map, () => (point.isChosen() ? point.place : -1));
     map.under.push((pen, view) => {
       if (this.areas && current.now !== null) {
         areas.paint(pen, view, current.now, live.walk);
@@ -27,6 +27,7 @@ const sliders = {
     });
     map.map.on("moveend", () => this.tellPicture());
     element("percentile").max = head.shares.length - 1;
+    element("walk").max = asked.most_walk;
     const on = (name, change) => element(name).addEventListener("input", () => change(element(name)));
     on("percentile", (it) => set({ share: Number(it.value) }));
     on("trips", (it) => this.ask({ trips: Number(it.value) }));

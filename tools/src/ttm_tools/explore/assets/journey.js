@@ -34,7 +34,7 @@ const journey = {
   async show() {
     const { first, last, trips, version } = live, { place: origin, scenario } = state, { end } = this;
     const words = { origin, end, first, last, trips, scenario, share: head.shares[state.share] };
-    const key = end < 0 || origin < 0 ? "" : JSON.stringify([version, words]);
+    const key = end < 0 || origin < 0 || point.isChosen() ? "" : JSON.stringify([version, words]);
     if (key === this.key) {
       return;
     }

@@ -59,7 +59,7 @@ const keep = {
   /** A line for each place: its identifier, name, and seconds of each scenario and percentile. */
   numbers() {
     const { version, first, last, trips } = live, field = (it) => `"${String(it).replaceAll('"', '""')}"`;
-    const all = asker.answers.get(JSON.stringify({ version, origin: state.place, first, last, trips })) ?? [];
+    const all = asker.answers.get(JSON.stringify({ version, ...point.originOf(state.place), first, last, trips })) ?? [];
     const heads = head.scenarios.flatMap((name) => head.shares.map((share) => field(`${name} p${share}`)));
     const lines = Array.from(numbers.columns, (place, column) => {
       const cells = heads.map((_, row) => all[row * head.columns + column] ?? -1);
@@ -70,7 +70,8 @@ const keep = {
 
   async study() {
     const { first, last, trips } = live;
-    const answer = await answerOf("study", {}, { first, last, trips, origin: state.place });
+    const origin = point.isChosen() ? point.originOf(state.place) : state.place;
+    const answer = await answerOf("study", {}, { first, last, trips, origin });
     const { command } = await answer.json();
     fill("kept", "Saved. This computes all of it: ", made("code", command));
   },

@@ -101,7 +101,7 @@ const asker = new Asker();
 /** Travel times from a place in seconds, for each column, -1 where one isn't reached; null where it was overtaken. */
 async function secondsFrom(place, scenario, share) {
   const { version, first, last, trips } = live;
-  const all = await asker.ask({ version, origin: place, first, last, trips });
+  const all = await asker.ask({ version, ...point.originOf(place), first, last, trips });
   if (all === null) {
     return null;
   }

@@ -62,8 +62,11 @@ function isPlaced(place) {
   return numbers.places[2 * place] !== NOWHERE;
 }
 
-/** A place's name, with its identifier where they differ. */
+/** A place's name, with its identifier where they differ; behind all places that of any point of the map. */
 function nameOf(place) {
+  if (place === head.names.length) {
+    return head.point;
+  }
   const name = head.names[place], identifier = head.identifiers[place];
   return name === identifier ? name : `${name} (${identifier})`;
 }

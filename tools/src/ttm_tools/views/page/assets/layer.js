@@ -75,6 +75,7 @@ class PageMap {
     this.lines = {};
     this.under = []; // what additions paint below the places, and
     this.over = []; // above them
+    this.nowhere = () => {}; // where a click is near no place
     this.shown = { classes: null, marks: [UNKNOWN], faint: null, place: -1, scenario: 0 };
     this.map = L.map(identifier, { zoomControl: true, zoomSnap: 0.25, wheelPxPerZoomLevel: 90, zoomAnimation: false,
       fadeAnimation: false, attributionControl: head.tiles !== null, maxZoom: 19, minZoom: 2, finest: 1 });
@@ -90,6 +91,8 @@ class PageMap {
       const place = this.placeAt(event.containerPoint);
       if (place >= 0) {
         chosen(place, event);
+      } else {
+        this.nowhere(event);
       }
     });
     this.addTip(tipOf);

@@ -219,7 +219,7 @@ function writeAddress() {
     scenario: head.scenarios[state.scenario],
     difference: Number(state.difference),
     share: head.shares[state.share] ?? "",
-    from: state.place < 0 ? "" : head.identifiers[state.place],
+    from: head.identifiers[state.place] ?? "",
     minutes: state.minutes,
     of: state.of,
     within: state.within,

@@ -5,8 +5,10 @@ const AREA = 0.5; // opacity
 
 /** Paints the areas that are reached, below the places. */
 class ReachedAreas {
-  constructor(page) {
+  /** `start` gives the place where journeys begin if it is none of the columns, else -1. */
+  constructor(page, start = () => -1) {
     this.page = page;
+    this.start = start;
     this.scratch = document.createElement("canvas");
   }
 
@@ -25,6 +27,9 @@ class ReachedAreas {
           this.add(area, view, numbers.columns[column], Math.min(60 * (end - minutes), walk));
         }
       });
+      if (this.start() >= 0) {
+        this.add(area, view, this.start(), Math.min(60 * end, walk));
+      }
       area.fill();
     }
     pen.globalAlpha = AREA;

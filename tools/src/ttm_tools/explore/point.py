@@ -1,0 +1,132 @@
+"""A point of the map that is no stop: the walks from there to stops, and a feed that has it as one more stop.
+
+Nobody walks to the point, so it brings no two stops nearer: all other travel times are those without it.
+"""
+
+import itertools
+import os
+from dataclasses import dataclass
+from pathlib import Path
+
+import numpy as np
+
+from ..feed import Floats, Stops, read_stops
+from ..points.study import spread, stops_with
+from ..points.table import Points
+from ..records import places_of, records, write_rows
+from ..walks import NEAR, Pace
+from ..walks.osm import Streets
+from ..walks.straight import distances, points_of, straight_walks
+
+NAME, FEED, WALKS = "point", "feed", "footpaths.csv"
+HEADER = ["from_stop_id", "to_stop_id", "seconds"]
+Walk = tuple[str, int]  # a stop, and seconds
+
+
+@dataclass(frozen=True)
+class Point:
+    """Where somebody clicked, in degrees."""
+
+    latitude: float
+    longitude: float
+
+    def name_among(self, stops: Stops) -> str:
+        """An identifier that no stop has."""
+        name = NAME
+        while name in stops.places:
+            name += "_"
+        return name
+
+    def as_points(self, name: str) -> Points:
+        place = (np.array([self.latitude]), np.array([self.longitude]))
+        return Points(NAME, [name], [name], *place, np.full(1, np.nan), [], np.zeros((1, 0)))
+
+
+def walks_from(point: Point, stops: Stops, pace: Pace, streets: Streets | None) -> list[Walk]:
+    """The stops to which one walks from a point, along streets where they are known, else by straight lines."""
+    near = stops_near(point, stops, pace.limit * pace.speed if streets is not None else pace.metres)
+    alone = with_point(near, point)
+    if streets is None:
+        walks = straight_walks(alone, pace, 1)
+    else:
+        from ..walks.streets import Ends, street_walks
+
+        first = np.arange(len(alone.identifiers)) == 0
+        around = streets_around(point, streets, pace.limit * pace.speed + NEAR)
+        walks = street_walks(alone, pace, around, NEAR, 1, Ends(first, ~first))
+    ends = zip(walks.origins.tolist(), walks.destinations.tolist(), walks.seconds.tolist())
+    return [(alone.identifiers[end], seconds) for begin, end, seconds in ends if begin == 0]
+
+
+def stops_near(point: Point, stops: Stops, metres: float) -> Stops:
+    """The stops at most so many metres from a point, with the entrances of their stations."""
+    here = points_of(np.array([point.latitude]), np.array([point.longitude]))
+    placed = np.flatnonzero(stops.placed)
+    away = distances(np.repeat(here, len(placed), axis=0), points_of(stops.latitudes[placed], stops.longitudes[placed]))
+    near = placed[(away <= metres) & (stops.kinds[placed] == 0)].tolist()
+    stations = {stops.stations[it] for it in near} - {""}
+    entrances = [it for it in placed.tolist() if stops.kinds[it] == 2 and stops.stations[it] in stations]
+    return stops.of([stops.identifiers[it] for it in near + entrances])
+
+
+def with_point(stops: Stops, point: Point) -> Stops:
+    """The point, and these stops behind it."""
+
+    def first(value: float, others: Floats) -> Floats:
+        return np.concatenate([[value], others])
+
+    return Stops(
+        stops.path,
+        [point.name_among(stops), *stops.identifiers],
+        ["", *stops.names],
+        first(point.latitude, stops.latitudes),
+        first(point.longitude, stops.longitudes),
+        np.concatenate([np.zeros(1, np.int8), stops.kinds]),
+        ["", *stops.stations],
+    )
+
+
+def streets_around(point: Point, streets: Streets, metres: float) -> Streets:
+    """The pieces of streets that have a part within so many metres of a point to the north, south, east or west."""
+    up = np.degrees(metres / 6_371_000) * 1.01
+    right = up / max(np.cos(np.radians(point.latitude)), 1e-6)
+    kept = np.ones(len(streets.begin), dtype=np.bool_)
+    for degrees, middle, reach in (
+        (streets.latitudes, point.latitude, up),
+        (streets.longitudes, point.longitude, right),
+    ):
+        one, other = degrees[streets.begin], degrees[streets.end]
+        kept &= (np.minimum(one, other) <= middle + reach) & (np.maximum(one, other) >= middle - reach)
+    nodes, ends = np.unique(np.stack([streets.begin[kept], streets.end[kept]]), return_inverse=True)
+    begin, end = ends.reshape(2, -1)
+    ways = (streets.forward[kept], streets.backward[kept])
+    return Streets(streets.path, streets.latitudes[nodes], streets.longitudes[nodes], begin, end, *ways)
+
+
+def write_feed(folder: Path, feed: str, point: Point, name: str) -> None:
+    """The feed with the point behind its stops; its other files are links."""
+    folder.mkdir()
+    for file in Path(feed).resolve().iterdir():
+        if file.name != "stops.txt":
+            os.symlink(file, folder / file.name)
+    with open(folder / "stops.txt", "wb") as out:
+        write_rows(out, *stops_with(Path(feed) / "stops.txt", point.as_points(name)))
+
+
+def laid_out(folder: Path, feed: str, footpaths: str | None, point: Point, walks: list[Walk]) -> tuple[str, Path, Path]:
+    """Writes the feed with the point, and its walks beside those of a file; gives its name, and where both are."""
+    name = point.name_among(read_stops(feed))
+    write_feed(folder / FEED, feed, point, name)
+    write_walks(folder / WALKS, footpaths, name, walks)
+    return name, folder / FEED, folder / WALKS
+
+
+def write_walks(path: Path, footpaths: str | None, name: str, walks: list[Walk]) -> None:
+    """The walks of a file, and those from the point."""
+    lines = iter([(1, HEADER)]) if footpaths is None else records(footpaths)
+    _, header = next(lines, (1, HEADER))
+    places = places_of(header, footpaths or path, HEADER)
+    chosen = [places[it] for it in HEADER]
+    own = (spread([name, stop, str(seconds)], chosen, len(header)) for stop, seconds in walks)
+    with open(path, "wb") as out:
+        write_rows(out, header, itertools.chain((fields for _, fields in lines), own))
