@@ -7,8 +7,10 @@ one byte at a time; each file cut short after every byte.
 Over four small studies, the last of several shares and limits: the text of the matrix comes whole and right, or a line
 and the status that belong to what was refused, and nothing else. With the built program of crates/growth_trials each
 public call that takes memory is refused each growth in turn, too: it gives the right value, or tells out of memory and
-gives it when made again. What it tried is counted, and the last line is 'N passed, M failed'. It wants a C compiler
-(`cc`), which builds bench/refuse.c. Standard library only.
+gives it when made again. In a conversation (`ttm --ask`) each growth, start, open, read and write is refused in turn,
+too: one answer alone tells it, or the conversation ends before its first answer; where its own input can't be read or
+an answer can't be written, it ends behind the answers before. What it tried is counted, and the last line is 'N passed,
+M failed'. It wants a C compiler (`cc`), which builds bench/refuse.c. Standard library only.
 """
 import io
 import itertools
@@ -47,12 +49,23 @@ STUDIES = [
     f"{SEVERAL} --workers 2 {OWN} cut.csv",
 ]
 
+# a conversation and its questions; the last but one is a fault
+TALK = f"{ASKED} --ask --workers 2 --footpaths walks.csv cut.csv"
+QUESTIONS = [
+    "",
+    "--origins origins.csv --opportunities chances.csv --share 1,25,50 --within 700,1800 --from 07:58 --to 08:01",
+    "--trips 9",
+    "--destinations to.csv --workers 1",
+]
+BAD_TRIPS = b"answer 2 15\nttm: bad trips\n"
+
 # a thread's start takes memory too
 NO_MEMORY = (3, r"ttm: (out of memory|no worker started)\n")
 NOT_READ = (5, r"ttm: (\./)?[a-z_]+\.(txt|csv): read fault\n")
 NOT_WRITTEN = (5, r"ttm: write fault\n")
 # what may be told where something is refused
 TOLD = {"growth": NO_MEMORY, "start": NO_MEMORY, "open": NOT_READ, "read": NOT_READ, "write": NOT_WRITTEN}
+NO_QUESTION = "ttm: standard input: read fault\n"  # told by a conversation
 
 Answer = tuple[int, str, str]  # a status and both outputs
 
@@ -62,6 +75,7 @@ class Trial:
 
     def __init__(self, program: str, room: str) -> None:
         self.program, self.room, self.passed, self.failed = os.path.abspath(program), Path(room), 0, 0
+        self.asked: Optional[bytes] = None  # what the program reads from its standard input
         self.library = str(self.room / "refuse.so")
         source = os.path.join(HERE, "refuse.c")
         subprocess.run(["cc", "-O2", "-shared", "-fPIC", "-o", self.library, source], check=True)
@@ -83,6 +97,7 @@ class Trial:
             cwd=self.folder,
             env=environment,
             pass_fds=handles,
+            input=self.asked,
             capture_output=True,
             timeout=120,
         )
@@ -173,23 +188,86 @@ class Trial:
         return tried, accepted
 
 
+class Talk(Trial):
+    """The same of a conversation."""
+
+    def __init__(self, program: str, room: str) -> None:
+        super().__init__(program, room)
+        blocks = ["".join(f"{word}\n" for word in question.split()) for question in QUESTIONS]
+        self.asked = "\n".join([*blocks, ""]).encode()
+        self.answers = [self.answer_to(question.split()) for question in QUESTIONS]
+
+    def answer_to(self, question: Sequence[str]) -> bytes:
+        """What the plain second program gives for a question, as an answer."""
+        if question[:1] == ["--trips"]:
+            return BAD_TRIPS
+        words = TALK.replace("--ask ", "").split()
+        replaced = [words.index(it) for it in question[::2] if it in words]
+        kept = [word for at, word in enumerate(words) if at not in replaced and at - 1 not in replaced]
+        text = self.matrix([*question, *kept])
+        assert text is not None
+        return f"answer 0 {len(text)}\n{text}".encode()
+
+    def refuse_each(self, words: Sequence[str], what: str, slow: bool = False) -> int:
+        """Refuses the first call of a kind, the second, and so on, until a conversation has fewer."""
+        wanted = (0, b"".join(self.answers).decode(), "")
+        for number in itertools.count(1):
+            answer, came = self.run_refused(words, what, number, slow=slow)
+            right = answer == wanted or (came and self.is_right(what, answer))
+            self.judge(f"conversation: {what} {number}{'' if came else ', none'} refused", right, answer)
+            if not came:
+                break
+        return number - 1
+
+    def is_right(self, what: str, answer: Answer) -> bool:
+        """Whether a conversation may end like this where a call was refused."""
+        status, line = TOLD[what]
+        ended, out, err = answer
+        if ended == 0:
+            return err == "" and self.tells_once(out.encode(), status, line)
+        whole = b"".join(self.answers).decode()
+        if what == "write" and whole.startswith(out):
+            return (ended, err) == (status, "ttm: write fault\n")
+        before = ["", *(b"".join(self.answers[:count]).decode() for count in range(1, len(self.answers) + 1))]
+        if what == "read" and out in before and err == NO_QUESTION:
+            return ended == status
+        return out == "" and ended == status and re.fullmatch(line, err) is not None
+
+    def tells_once(self, out: bytes, status: int, line: str) -> bool:
+        """Whether the answers are the right ones but for one, which tells what was refused."""
+        for number, answer in enumerate(self.answers):
+            before, behind = b"".join(self.answers[:number]), b"".join(self.answers[number + 1 :])
+            told = out[len(before) : len(out) - len(behind)].decode()
+            if out == before + told.encode() + behind and told != answer.decode():
+                head, _, body = told.partition("\n")
+                return head == f"answer {status} {len(body)}" and re.fullmatch(line, body) is not None
+        return False
+
+
+def tell_refusals(trial: Trial, name: str, words: Sequence[str]) -> None:
+    """Refuses each call of each kind, and prints how many there were."""
+    counts = [f"{trial.refuse_each(words, what)} of {what}" for what in TOLD]
+    slow = [f"{trial.refuse_each(words, what, slow=True)} of {what}" for what in ("read", "write")]
+    print(f"{name}: refused in turn: {', '.join(counts)}; one byte at a time: {', '.join(slow)}", flush=True)
+
+
 def main() -> int:
     if len(sys.argv) not in (2, 3):
         sys.exit("usage: hostile.py PROGRAM [GROWTH_TRIALS]")
     with tempfile.TemporaryDirectory(prefix="ttm-hostile-") as room:
         trial = Trial(sys.argv[1], room)
         for number, study in enumerate(STUDIES, 1):
-            words = study.split()
-            counts = [f"{trial.refuse_each(words, what)} of {what}" for what in TOLD]
-            slow = [f"{trial.refuse_each(words, what, slow=True)} of {what}" for what in ("read", "write")]
-            told = f"study {number}: refused in turn: {', '.join(counts)}; one byte at a time: {', '.join(slow)}"
-            print(told, flush=True)
+            tell_refusals(trial, f"study {number}", study.split())
         tried, accepted = trial.cut_each(STUDIES[2].split())
         print(f"prefixes: {tried}, of which {accepted} were accepted", flush=True)
         if len(sys.argv) == 3:
             trial.refuse_calls(os.path.abspath(sys.argv[2]))
-    print(f"{trial.passed} passed, {trial.failed} failed")
-    return 1 if trial.failed else 0
+    with tempfile.TemporaryDirectory(prefix="ttm-hostile-") as room:
+        talk = Talk(sys.argv[1], room)
+        tell_refusals(talk, "conversation", TALK.split())
+    failed = trial.failed + talk.failed
+    print(f"{trial.passed + talk.passed} passed, {failed} failed")
+    return 1 if failed else 0
 
 
 if __name__ == "__main__":

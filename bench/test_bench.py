@@ -1,10 +1,12 @@
 """Tests of what the scripts of this folder stand on, for pytest."""
 import hashlib
 import os
+from dataclasses import replace
 from pathlib import Path
 
 import pytest
 
+import ask
 import feedgen
 import goals
 import ratios
@@ -187,3 +189,15 @@ def test_what_a_study_took_stays_when_its_trial_is_itself_ended(
 def test_what_a_group_of_processes_takes_is_seen() -> None:
     memory, seconds = study_times.taken_by(os.getpgid(0))
     assert memory > 1_000_000 and seconds > 0
+
+
+def test_questions_are_of_origins_that_a_seed_draws(tmp_path: Path) -> None:
+    write_stops(tmp_path, "stops.txt", "G,1", "A,0", "B,", "C,0")
+    words = ["--city", str(tmp_path), "--program", "ttm", "--parts", "first,many"]
+    setting, parts = ask.setting_of(words)
+    setting = replace(setting, place=str(tmp_path))
+    drawn = setting.drawn("city", 40)
+    assert parts == ["first", "many"] and setting.drawn("city", 40) == drawn
+    assert {Path(it).read_text() for it in drawn} == {"stop_id\nA\n", "stop_id\nB\n", "stop_id\nC\n"}
+    with pytest.raises(SystemExit):
+        ask.setting_of([*words[:-1], "nothing"])

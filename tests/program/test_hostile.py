@@ -31,6 +31,20 @@ def test_one_byte_at_a_time(trial: hostile.Trial, study: int, what: str) -> None
     assert trial.failed == 0
 
 
+@pytest.mark.parametrize("what", hostile.TOLD)
+def test_each_call_of_a_conversation_refused_in_turn(one_build: str, tmp_path: Path, what: str) -> None:
+    talk = hostile.Talk(one_build, str(tmp_path))
+    assert talk.refuse_each(hostile.TALK.split(), what) > 0
+    assert talk.failed == 0
+
+
+@pytest.mark.parametrize("what", ["read", "write"])
+def test_a_conversation_by_one_byte_at_a_time(one_build: str, tmp_path: Path, what: str) -> None:
+    talk = hostile.Talk(one_build, str(tmp_path))
+    assert talk.refuse_each(hostile.TALK.split(), what, slow=True) > 0
+    assert talk.failed == 0
+
+
 def test_each_file_cut_short_after_every_byte(trial: hostile.Trial) -> None:
     tried, accepted = trial.cut_each(hostile.STUDIES[2].split())
     assert 0 < accepted < tried

@@ -1,0 +1,219 @@
+#!/usr/bin/env python3
+"""Times conversations with `ttm --ask` in turns with runs of the program, and prints a Markdown table with the goal
+beside each figure.
+
+    ask.py --city FOLDER [--metropolis FOLDER] [--program PATH] [--measure PATH] [--parts answers,first] [--rounds N]
+           [--origins N] [--questions N]
+
+The folders hold the feeds of `feedgen.py`. A question is of one origin, each minute from 07:00 to 08:59, at most 4
+trips, walks of at most 600 seconds, all stops, one thread; the network has one service day. The parts, which are all
+measured unless --parts names some:
+
+    answers   the mean answer beside what `measure rows` takes for the durations and cells of the same origins
+    first     from the start of the process to its first answer, over a run of the same question
+    many      answers a second of one departure, from drawn origins of the city
+    memory    the memory held after --questions questions of one departure, over that after the first hundred
+    network   the slowest but the first of ten questions of `ttm_tools.Network`
+
+Times are the least of the rounds, each program in turns. It needs a program with --ask, and numpy and pandas.
+"""
+import contextlib
+import random
+import subprocess
+import sys
+import tempfile
+import time
+from dataclasses import dataclass, replace
+from pathlib import Path
+from typing import Callable, Iterator, Optional, Sequence
+
+from goals import CELLS, DURATIONS, FROM_ON, Figure, printed
+from shared import DATE, Study, built, first_origins, parser_of, print_head, print_row, there, write_origins
+
+sys.path.insert(0, str(Path(__file__).resolve().parent.parent / "tools" / "src"))
+from ttm_tools import Network  # noqa: E402
+from ttm_tools.conversation import Answer, Conversation  # noqa: E402
+
+SIZES = {"city": 3.0, "metropolis": 15.0}  # milliseconds that an answer may take beside 1.25 times its row
+OF_ROW = 1.25
+EACH_SECOND = 200  # answers of one departure, in the city
+GROWTH = 1.05  # of the memory held
+SECONDS = 0.3  # of a question of `Network`, in the metropolis
+FIRST = 100  # questions until the memory is looked at
+ANSWERS = 1000  # of drawn origins
+ONE = ["--from", "07:00", "--to", "07:00"]  # departure
+
+
+@dataclass(frozen=True)
+class Setting:
+    """What the command line asks for, and a folder for what is made meanwhile."""
+
+    folders: dict[str, str]  # of the feeds, by their sizes
+    program: str
+    measure: str
+    rounds: int
+    origins: int
+    questions: int
+    place: str = ""
+
+    def drawn(self, size: str, count: int) -> list[str]:
+        """Files of one origin each, drawn by a seed from the feed's stops."""
+        stops = random.Random(1).choices(first_origins(self.folders[size], 1 << 16, True), k=count)
+        paths = {stop: str(Path(self.place) / f"{size}-{stop}.csv") for stop in stops}
+        for stop, path in paths.items():
+            write_origins(path, [stop])
+        return [paths[stop] for stop in stops]
+
+    def words(self, size: str, origins: str) -> list[str]:
+        """The words of a run."""
+        return [self.program, *Study().words(self.folders[size], origins, 1)]
+
+    @contextlib.contextmanager
+    def conversation(self, size: str, origins: str) -> Iterator[Conversation]:
+        """A conversation, whose own origins are those of a file."""
+        made = Conversation([*self.words(size, origins), "--ask"])
+        try:
+            yield made
+        finally:
+            made.close()
+
+
+def ask(conversation: Conversation, path: str, *more: str) -> Answer:
+    """The answer for the origin of a file; ends the script where it is a fault."""
+    answer = conversation.ask(["--origins", path, *more])
+    if answer.status != 0:
+        sys.exit("status %d: %s" % (answer.status, answer.body.decode()))
+    return answer
+
+
+def timed(call: Callable[[], object]) -> float:
+    """Milliseconds of a call."""
+    begun = time.monotonic()
+    call()
+    return 1000 * (time.monotonic() - begun)
+
+
+def answers(setting: Setting, size: str) -> Iterator[Figure]:
+    """The mean answer, and that of its row alone."""
+    paths, folder = setting.drawn(size, setting.origins), setting.folders[size]
+    listed = str(Path(setting.place) / f"{size}-listed.csv")
+    write_origins(listed, [Path(path).read_text().split()[1] for path in paths])
+    walks = there(folder, "footpaths.csv") or ["-"]
+    least, row = [float("inf")] * len(paths), float("inf")
+    with setting.conversation(size, paths[0]) as conversation:
+        ask(conversation, paths[0])
+        for _ in range(setting.rounds):
+            figures = printed([setting.measure, "rows", folder, DATE, *FROM_ON, *walks, listed])
+            row = min(row, (figures[DURATIONS] + figures[CELLS]) / 1000 / len(paths))
+            millis = [timed(lambda: ask(conversation, path)) for path in paths]
+            least = [min(pair) for pair in zip(least, millis)]
+    what = "an answer, ms, where durations and cells take %.1f" % row
+    yield Figure(what, size, sum(least) / len(least), OF_ROW * row + SIZES[size], False)
+
+
+def first_answer(setting: Setting, size: str, path: str) -> float:
+    """Milliseconds from the start of a process to its first answer."""
+    begun = time.monotonic()
+    with setting.conversation(size, path) as conversation:
+        ask(conversation, path)
+        return 1000 * (time.monotonic() - begun)
+
+
+def first(setting: Setting, size: str) -> Iterator[Figure]:
+    """The first answer, over a run."""
+    path = setting.drawn(size, 1)[0]
+    words, runs, spans = setting.words(size, path), list[float](), list[float]()
+    for _ in range(setting.rounds):
+        runs.append(timed(lambda: subprocess.run(words, stdout=subprocess.PIPE, check=True)))
+        spans.append(first_answer(setting, size, path))
+    yield Figure("the first answer, over a run of %.0f ms" % min(runs), size, min(spans) / min(runs), 1.0, False)
+
+
+def many(setting: Setting, size: str) -> Iterator[Figure]:
+    """Answers a second of one departure."""
+    if size != "city":
+        return
+    paths = setting.drawn(size, ANSWERS)
+    with setting.conversation(size, paths[0]) as conversation:
+        ask(conversation, paths[0], *ONE)
+        whole = [timed(lambda: [ask(conversation, path, *ONE) for path in paths]) for _ in range(setting.rounds)]
+    yield Figure("answers a second of one departure", size, 1000 * ANSWERS / min(whole), EACH_SECOND)
+
+
+def resident(process: int) -> int:
+    """Kilobytes that a process holds."""
+    lines = Path(f"/proc/{process}/status").read_text().splitlines()
+    return next(int(line.split()[1]) for line in lines if line.startswith("VmRSS:"))
+
+
+def memory(setting: Setting, size: str) -> Iterator[Figure]:
+    """How the memory held grows; each tenth question is a fault."""
+    if size != "city":
+        return
+    paths, held = setting.drawn(size, ANSWERS), 0
+    with setting.conversation(size, paths[0]) as conversation:
+        for number in range(setting.questions):
+            if number % 10 == 9:
+                conversation.ask(["--trips", "9"])
+            else:
+                ask(conversation, paths[number % ANSWERS], *ONE)
+            if number + 1 == FIRST:
+                held = resident(conversation.process.pid)
+        grown = resident(conversation.process.pid) / held
+    what = "memory after %s questions, over %d MB after %d" % (f"{setting.questions:,}", held // 1000, FIRST)
+    yield Figure(what, size, grown, GROWTH, False)
+
+
+def network(setting: Setting, size: str) -> Iterator[Figure]:
+    """The slowest but the first of ten questions of `Network`, with frames of pandas."""
+    folder, millis = setting.folders[size], list[float]()
+    stops = [Path(path).read_text().split()[1] for path in setting.drawn(size, 10)]
+    walks = next(iter(there(folder, "footpaths.csv")), None)
+    with Network(folder, DATE, footpaths=walks, back=0, ahead=0, program=setting.program) as kept:
+        for stop in stops:
+            millis.append(timed(lambda: kept.matrix(("07:00", "08:59"), origins=[stop]).times("base")))
+    what = "the slowest of nine questions of `Network`, s, after one of %.2f" % (millis[0] / 1000)
+    yield Figure(what, size, max(millis[1:]) / 1000, SECONDS, False)
+
+
+PARTS: dict[str, Callable[[Setting, str], Iterator[Figure]]] = {
+    "answers": answers,
+    "first": first,
+    "many": many,
+    "memory": memory,
+    "network": network,
+}
+
+
+def setting_of(words: Optional[Sequence[str]] = None) -> tuple[Setting, list[str]]:
+    """What the arguments ask for, and the parts."""
+    parser = parser_of(__doc__)
+    for size in SIZES:
+        parser.add_argument(f"--{size}", metavar="FOLDER", help="an unpacked feed")
+    parser.add_argument("--program", metavar="PATH", help="the built ttm (default: that of the clone)")
+    parser.add_argument("--measure", metavar="PATH", help="the built measure (default: that of the clone)")
+    parser.add_argument("--parts", default=",".join(PARTS), help="which parts, divided by commas (default: all)")
+    for name, usual in (("rounds", 5), ("origins", 20), ("questions", 100_000)):
+        parser.add_argument(f"--{name}", metavar="N", type=int, default=usual, help=f"(default: {usual})")
+    given = parser.parse_args(words)
+    parts = given.parts.split(",")
+    if unknown := [name for name in parts if name not in PARTS]:
+        parser.error("no such part: %s" % ", ".join(unknown))
+    folders = {size: getattr(given, size) for size in SIZES if getattr(given, size)}
+    measure = given.measure or (built("measure") if "answers" in parts else "")
+    program = given.program or built("ttm")
+    return Setting(folders, program, measure, given.rounds, given.origins, given.questions), parts
+
+
+def main() -> None:
+    setting, parts = setting_of()
+    print_head(["figure", "feed", "measured", "goal", "met"])
+    with tempfile.TemporaryDirectory() as place:
+        for part in parts:
+            for size in setting.folders:
+                for figure in PARTS[part](replace(setting, place=place), size):
+                    print_row(figure.cells())
+
+
+if __name__ == "__main__":
+    main()
