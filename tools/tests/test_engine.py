@@ -11,7 +11,7 @@ import pytest
 import ttm_tools
 from asking import standing_in
 from helpers import Room
-from ttm_tools.engine import EngineFault, Result, Run, program_at, run
+from ttm_tools.engine import EngineFault, Result, Run, program_at, refusal_of, run
 from ttm_tools.faults import Lacking, WrongWords
 
 PAGE = Path(__file__).resolve().parents[2] / "docs" / "howto" / "python.md"
@@ -129,3 +129,12 @@ def test_a_share_that_is_not_there_is_told(program: str, room: Room) -> None:
         made.times("cut", 50)
     with pytest.raises(WrongWords, match="name one"):
         made.array("base")
+
+
+@pytest.mark.parametrize(
+    "last, line", [("ttm: write fault", "ttm: write fault"), (None, "ttm: question 12: status 2, 15 bytes")]
+)
+def test_questions_that_were_answered_are_no_refusal(last: str | None, line: str) -> None:
+    told = ["ttm: stops: 3", "ttm: question 1: status 0, 26 bytes", "ttm: question: out of memory"]
+    told += ["ttm: question 12: status 2, 15 bytes", *([last] if last else [])]
+    assert refusal_of("\n".join(told).encode(), 5) == [line]

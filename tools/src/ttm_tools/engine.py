@@ -26,9 +26,9 @@ INSTALLED = Path(sysconfig.get_path("scripts")) / "ttm"  # where pip puts the wh
 EXPLAINED = re.compile(
     r'ttm: (?:column (?P<column>\S+)|(?P<option>--[a-z]+)) is "(?P<value>.*)"; (?P<allowed>.*)', re.DOTALL
 )
-# what a report tells ahead of a refusal: a fact by its number or its dates, or a warning
+# what a report tells ahead of a refusal: a fact by its number or its dates, a warning, or a question that is answered
 AHEAD = re.compile(
-    r"ttm: (?:warning: .*|(?!scenario name: )[^:\"]+(?:: [^:\"]+)?: [0-9].*"
+    r"ttm: (?:warning: .*|question(?: [0-9]+)?: .*|(?!scenario name: )[^:\"]+(?:: [^:\"]+)?: [0-9].*"
     r"|[^:]+ calendars: none|nearest date [^:]+: none.*)"
 )
 BUILT = Path(__file__).resolve().parents[3] / "crates" / "ttm" / "out" / "ttm"  # in a clone
