@@ -22,8 +22,6 @@ CANNED = """\
 #!/usr/bin/python3
 import csv, os, sys, time
 words = sys.argv[1:]
-if "--help" in words:
-    sys.exit(print("--ask"))
 if "--ask" not in words:
     sys.exit("canned")
 feed = words[words.index("--feed") + 1]

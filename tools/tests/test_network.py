@@ -223,22 +223,14 @@ QUESTIONS: list[dict[str, Any]] = [
 FAULTS: list[dict[str, Any]] = [{"origins": ["X"]}, {"origins": "nothing.csv"}, {"trips": 9}, {"shares": (50, 25)}]
 
 
-@pytest.fixture
-def asked(program: str) -> str:
-    """The built program, where it answers questions by --ask."""
-    if b"--ask" not in subprocess.run([program, "--help"], capture_output=True).stdout:
-        pytest.skip("this ttm has no --ask")
-    return program
-
-
 def processes(network: ttm_tools.Network) -> list[int]:
     """Those that keep the network."""
     return [it.process.pid for it in network.processes.running]
 
 
-def test_the_program_reads_the_network_once(room: Room, asked: str) -> None:
+def test_the_program_reads_the_network_once(room: Room, program: str) -> None:
     write_town(room)
-    with ttm_tools.Network(room.folder, "20260504", program=asked, scenarios=[room.path("cut.csv")]) as network:
+    with ttm_tools.Network(room.folder, "20260504", program=program, scenarios=[room.path("cut.csv")]) as network:
         first = network.matrix(EIGHT)
         (process,) = processes(network)
         for name in ("stops.txt", "stop_times.txt", "trips.txt", "cut.csv"):
@@ -251,10 +243,10 @@ def test_the_program_reads_the_network_once(room: Room, asked: str) -> None:
 
 @pytest.mark.parametrize("number", [signal.SIGKILL, signal.SIGTERM])
 def test_a_program_that_is_killed_says_so_and_the_next_question_begins_another(
-    room: Room, asked: str, number: signal.Signals
+    room: Room, program: str, number: signal.Signals
 ) -> None:
     write_town(room)
-    with ttm_tools.Network(room.folder, "20260504", program=asked) as network:
+    with ttm_tools.Network(room.folder, "20260504", program=program) as network:
         whole = network.matrix(EIGHT).array()
         (process,) = processes(network)
         os.kill(process, number)
@@ -265,11 +257,13 @@ def test_a_program_that_is_killed_says_so_and_the_next_question_begins_another(
         assert processes(network) != [process]
 
 
-def test_threads_get_their_own_answers_of_the_program(room: Room, asked: str) -> None:
+def test_threads_get_their_own_answers_of_the_program(room: Room, program: str) -> None:
     """From A one is at B at 08:10, whichever of the minutes before 08:00 one leaves at."""
     write_town(room)
     minutes = [minute for minute in range(60) for _ in range(3)]
-    with ttm_tools.Network(room.folder, "20260504", program=asked, workers=3) as network, ThreadPoolExecutor(8) as pool:
+    with ttm_tools.Network(room.folder, "20260504", program=program, workers=3) as network, ThreadPoolExecutor(
+        8
+    ) as pool:
 
         def ask(minute: int) -> list[float]:
             window = (f"07:{minute:02}", f"07:{minute:02}")
@@ -279,9 +273,9 @@ def test_threads_get_their_own_answers_of_the_program(room: Room, asked: str) ->
         assert 1 <= len(processes(network)) <= 3
 
 
-def test_a_question_out_of_bounds_is_refused_and_the_next_is_answered(room: Room, asked: str) -> None:
+def test_a_question_out_of_bounds_is_refused_and_the_next_is_answered(room: Room, program: str) -> None:
     write_town(room)
-    with ttm_tools.Network(room.folder, "20260504", program=asked) as network:
+    with ttm_tools.Network(room.folder, "20260504", program=program) as network:
         for origins in ("x" * 70_000, room.path("nothing.csv")):
             with pytest.raises(ttm_tools.EngineFault):
                 network.matrix(EIGHT, origins=origins)

@@ -92,13 +92,8 @@ def test_a_ttm_that_keeps_its_network_gives_the_same_bytes(
 ) -> None:
     path = laid_out(place)
     assert place.ran("study", path)[2] == 0
-    answering = Path(__file__).resolve().parents[1] / "src/ttm_tools/answering.py"
     said = place.path("asked.txt")
-    text = (
-        f'#!/bin/bash\ncase "$*" in *--help*) echo --ask; exit ;;\n'
-        f'*--ask*) echo "$*" >> {said}; exec /usr/bin/python3 {answering} {program} "${{@:1:$#-2}}" ;; esac\n'
-        f'exec {program} "$@"\n'
-    )
+    text = f'#!/bin/bash\ncase "$*" in *--ask*) echo "$*" >> {said} ;; esac\nexec {program} "$@"\n'
     monkeypatch.setenv("TTM_PROGRAM", script(place.folder / "asks", text))
     assert place.ran("study", path, "--workers", "2", "--out", place.path("kept"))[2] == 0
     asked = Path(said).read_text().splitlines()

@@ -4,8 +4,6 @@ import contextlib
 import datetime
 import os
 import queue
-import subprocess
-import sys
 import tempfile
 import threading
 import weakref
@@ -36,11 +34,8 @@ MIDNIGHT = ("00:00", "00:00")  # the window of the words that are kept; each que
 
 
 def command_of(program: str, words: Sequence[str]) -> list[str]:
-    """The command that answers questions: `ttm --ask`, or a script that runs a `ttm` without --ask for each of them."""
-    usage = subprocess.run([program, "--help"], stdin=subprocess.DEVNULL, capture_output=True).stdout
-    if b"--ask" in usage:
-        return [program, *words, "--report", "--ask"]
-    return [sys.executable, str(Path(__file__).with_name("answering.py")), program, *words]
+    """The command that keeps the network of these words and answers questions."""
+    return [program, *words, "--report", "--ask"]
 
 
 class Processes:
@@ -97,7 +92,7 @@ class Processes:
 class Network:
     """The network of a feed on a date, which `matrix(..)` asks questions.
 
-    A `ttm` that has --ask reads the feed once and keeps the network; one that has not runs for each question.
+    A process of `ttm --ask` reads the feed once and keeps the network.
 
     Feed, date, walk, scenarios, footpaths, back and ahead are as for `ttm_tools.matrix`; the first question raises what
     is wrong with them. `workers` is how many processes keep the network, and so how many threads are answered at once.

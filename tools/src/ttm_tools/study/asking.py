@@ -1,4 +1,4 @@
-"""The parts of windows, asked of a network that is kept: the feed of a day is read once by a `ttm` that has --ask."""
+"""The parts of windows, asked of a network that is kept: `ttm --ask` reads the feed of a day once."""
 
 import os
 import signal

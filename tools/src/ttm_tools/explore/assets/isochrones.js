@@ -19,10 +19,10 @@ const sliders = {
 
   begin(map) {
     this.page = map;
-    const areas = new ReachedAreas(map);
+    const areas = new ReachedAreas(map, () => (point.isChosen() ? point.place : -1));
     map.under.push((pen, view) => {
       if (this.areas && current.now !== null) {
-        areas.paint(pen, view, current.now, live.walk, point.isChosen() ? [state.place] : []);
+        areas.paint(pen, view, current.now, live.walk);
       }
     });
     map.map.on("moveend", () => this.tellPicture());

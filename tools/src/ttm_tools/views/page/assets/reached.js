@@ -5,16 +5,15 @@ const AREA = 0.5; // opacity
 
 /** Paints the areas that are reached, below the places. */
 class ReachedAreas {
-  constructor(page) {
+  /** `start` gives the place where journeys begin if it is none of the columns, else -1. */
+  constructor(page, start = () => -1) {
     this.page = page;
+    this.start = start;
     this.scratch = document.createElement("canvas");
   }
 
-  /**
-   * The area of each band that ends within the slider's minutes, the widest first; one walks so many seconds at most, from
-   * the places that are reached and from those where the journey begins.
-   */
-  paint(pen, view, cells, walk, origins = []) {
+  /** The area of each band that ends within the slider's minutes, the widest first; one walks so many seconds at most. */
+  paint(pen, view, cells, walk) {
     const fine = pen.canvas.width / view.width, shades = colours(classEnds.length + 1);
     Object.assign(this.scratch, { width: pen.canvas.width, height: pen.canvas.height });
     const area = this.scratch.getContext("2d");
@@ -28,7 +27,9 @@ class ReachedAreas {
           this.add(area, view, numbers.columns[column], Math.min(60 * (end - minutes), walk));
         }
       });
-      origins.forEach((place) => this.add(area, view, place, Math.min(60 * end, walk)));
+      if (this.start() >= 0) {
+        this.add(area, view, this.start(), Math.min(60 * end, walk));
+      }
       area.fill();
     }
     pen.globalAlpha = AREA;
