@@ -143,16 +143,6 @@ more_closed (block ∷ blocks) xs ys h closed rest =
 
 -- ---- the bytes of a block, one after another
 
-pub gathered_start : (known : Option (List ℕ)) (v : Vec ℕ Global) → v.items ≡ [] →
-    AreGathered known known (gathered.Bytes v) true
-gathered_start known v empty = record {
-  bytes = [];
-  consumed = Consumes-nil known;
-  gathers = (omega arith, empty);
-  open_still = refl;
-  begins_is = refl;
-}
-
 pub gathered_more : (known mid left : Option (List ℕ)) (g next : Gathered) (begins : Bool) (b : ℕ) →
     AreGathered known mid g begins → Consumes mid left (b ∷ []) → (begins && (b == 10)) ≡ false →
     ((read : List ℕ) → Gathers read g → Gathers (read ++ b ∷ []) next) → AreGathered known left next (b == 10)
@@ -207,11 +197,6 @@ gathered_last known mid left g begins (Some block) h none ended gives =
       words = subst (λ bytes. IsReadOf bytes block.words) (sym all.0) p.2;
       ended = λ _. ended;
     }
-
-pub gathered_lost : (known mid left : Option (List ℕ)) (g : Gathered) (begins : Bool) →
-    AreGathered known mid g begins → Consumes mid left [] → (lost : List ℕ) × Consumes known left lost
-gathered_lost known mid left g begins h none =
-    (h.bytes ++ [], Consumes-trans known mid left h.bytes [] h.consumed none)
 
 -- ---- whether a byte is an empty line
 

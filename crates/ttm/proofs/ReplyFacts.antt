@@ -20,16 +20,6 @@ use Rattle.ttm.specs.declared.question_files.QuestionFiles.{QuestionFiles}
 use Rattle.ttm.specs.declared.replies.Reply.{Reply}
 use Rattle.ttm.specs.declared.talk.TalkFault.{TalkFault}
 
--- a refusal has the status that it was given, and the text of the line
-pub refused : {E : Type 0} (r : Result Reply E) (l : Result (Vec ℕ Global) E) (status : ℕ) (P : List ℕ → Type 0)
-    (Q : ℕ → List ℕ → Type 0) → IfOk r (λ reply. reply.status ≡ status) → IfOk r (λ reply. l ≡ Ok reply.text)
-    → IfOk l (λ v. P v.items) → ((text : List ℕ) → P text → Q status text)
-    → IfOk r (λ reply. Q reply.status reply.text.items)
-refused (Ok reply) l status P Q status_is line_is line_told gives =
-    let told : P reply.text.items = subst (λ (o : Result (Vec ℕ Global) _). IfOk o (λ v. P v.items)) line_is line_told in
-    subst (λ (n : ℕ). Q n reply.text.items) (sym status_is) (gives reply.text.items told)
-refused (Err e) l status P Q status_is line_is line_told gives = tt
-
 -- out of memory may go out in place of any answer
 pub short_is_out : {E : Type 0} (r : Result Reply E) → IsOut r short_reply
 short_is_out (Ok reply) = inr refl
@@ -42,15 +32,6 @@ own_over finds None kept None h = refl
 own_over finds None kept (Some bytes) h = absurd h
 own_over finds (Some path) kept None h = absurd h
 own_over finds (Some path) kept (Some bytes) h = (bytes, h, refl)
-
--- a whole text is a part of itself
-pub part_whole : (a b c : Option (List ℕ)) (text : List ℕ) → Appends a b text → Keeps b c → PutsPrefix a c text
-part_whole a b c text whole kept = record {
-  out = text;
-  left = [];
-  split = append-nil text;
-  appended = Appends-kept a b c text whole kept;
-}
 
 -- the files of a question are those that it names, and those that stay
 pub are_files : (finds : Finds) (q : QuestionTask) (kept : InputFiles) (found : QuestionFiles) →

@@ -2,7 +2,7 @@
 -- which a conversation alone reads.
 -- "The whole matrix and status 0; or one line that tells why there is none, with the status of what it tells. Help and
 -- the version go out whole, with status 0, or their loss is told." (The program's own rule.)
-use Rattle.std.specs.Prelude.{◌≡◌, ◌≢◌, ◌≤◌, ◌⊎◌, ◌++◌, ℕ, List, Option, true, false, codes, length, map, ⊤}
+use Rattle.std.specs.Prelude.{◌≡◌, ◌≢◌, ◌≤◌, ◌⊎◌, ◌++◌, ℕ, List, Option, true, false, codes, length, map}
 use Rattle.std.specs.Io.KnownBytes.{Appends}
 use Rattle.clap.specs.Words.{Text}
 use Rattle.command_line.specs.Lines.{line, line_of, opt_text, status_of}
@@ -21,7 +21,7 @@ use Rattle.studies.specs.declared.fault.StudyFault.{StudyFault}
 use Rattle.studies.specs.declared.fault.StudyFault.TheVariants as fault
 use Rattle.studies.specs.declared.settings.Settings.{Settings}
 use Rattle.workers.specs.Held.{Decides, WasTold}
-use Rattle.workers.specs.declared.gates.Verdict.TheVariants.{Work}
+use Rattle.ttm.specs.Gates.{told_anything, works_at_each}
 use Rattle.ttm.specs.Talk.{EndsTalk, IsWhole}
 use Rattle.ttm.specs.Files.{AreNamed, AreUnread, Finds, IsShort, TellsLine, asks_of}
 
@@ -47,14 +47,6 @@ pub record IsCutShort (i : InputFiles) (s : Settings) (out printed : Option (Lis
 abbrev pub IsWhy : Decides → WasTold → StudyFault → InputFiles → Settings → Option (List ℕ) → Option (List ℕ) → Type 0
 IsWhy decides was_told e i s out printed =
     ((printed ≡ out) × TellsBy decides was_told e i s) ⊎ ((e ≡ fault.Text text.Write) × IsCutShort i s out printed)
-
--- what the program's gates decide: every lease is worked at. So none is lost, and no worker vanishes
-abbrev pub works_at_each : Decides
-works_at_each lease verdict = verdict ≡ Work
-
--- no promise depends on what they were told of a lease
-abbrev pub told_anything : WasTold
-told_anything lease settled = ⊤
 
 -- the matrix isn't out whole, and it is told why
 pub record IsRefused (i : InputFiles) (s : Settings) (out printed err told : Option (List ℕ)) (status : ℕ) : Type 0

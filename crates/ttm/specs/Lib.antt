@@ -1,5 +1,6 @@
 pub mod Answers
 pub mod Disk
 pub mod Files
+pub mod Gates
 pub mod Blocks
 pub mod Talk

@@ -20,9 +20,10 @@ use Rattle.studies.specs.Inputs.{InputFiles}
 use Rattle.studies.specs.Kept.{lasting_files}
 use Rattle.studies.specs.NamedFile.{NamedBytes}
 use Rattle.studies.specs.Settings.{SettingsData}
-use Rattle.studies.specs.Study.{IsStudyText, Tells}
+use Rattle.studies.specs.Study.{IsStudyText, TellsBy}
 use Rattle.studies.specs.declared.fault.StudyFault.{StudyFault}
 use Rattle.ttm.specs.Blocks.{AreBlocks, HasNoText, block_at, is_closed, rest_at, words_of}
+use Rattle.ttm.specs.Gates.{told_anything, works_at_each}
 use Rattle.ttm.specs.Files.{Ask, Finds, IsFirstUnread, IsOwn, own_asks}
 use Rattle.ttm.specs.declared.question_files.QuestionFiles.{QuestionFiles}
 use Rattle.ttm.specs.declared.replies.Reply.{Reply}
@@ -78,7 +79,7 @@ pub record IsUnfound (finds : Finds) (q : QuestionTask) (status : ℕ) (text : L
 -- its study is refused, or isn't finished
 pub record IsRefusal (files : InputFiles) (s : SettingsData) (status : ℕ) (text : List ℕ) : Type 0 where
   pub fault : StudyFault
-  pub told : Tells fault files s
+  pub told : TellsBy works_at_each told_anything fault files s
   pub status_is : status ≡ status_of fault
   pub line_is : text ≡ line_of fault (map (λ (f : NamedBytes). f.name) files.scenarios)
 

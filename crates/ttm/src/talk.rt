@@ -167,14 +167,14 @@ fn tell_question<C: Console>(
         return;
     };
     if let Ok(reply) = reply {
-        tell_line(console, question_line(alloc, number, reply));
+        tell_line(console, report_line(alloc, number, reply));
     } else {
         console.tell(b"ttm: question: out of memory\n");
     }
 }
 
 /// The line of a question that is answered.
-fn question_line(alloc: Global, number: u64, reply: &Reply) -> Result<String, AllocError> {
+fn report_line(alloc: Global, number: u64, reply: &Reply) -> Result<String, AllocError> {
     let status = reply.status;
     let length = reply.text.len();
     format!(in alloc; "ttm: question {number}: status {status}, {length} bytes\n")
