@@ -266,7 +266,9 @@ def resident(process: subprocess.Popen[bytes]) -> int:
 
 
 def test_what_an_answer_takes_is_given_back(one_build: str, room: Path) -> None:
-    """After the first hundred questions of many the process grows no more."""
+    """The process stops growing: after the first hundred questions of many the C library takes some 400 kilobytes for
+    its arenas of threads, and in the second half no answer keeps anything.
+    """
     kinds = [
         question("--origins", "b.csv"),
         question("--trips", "9"),
@@ -279,4 +281,5 @@ def test_what_an_answer_takes_is_given_back(one_build: str, room: Path) -> None:
             ask(process, kinds[number % len(kinds)])
             held.append(resident(process))
         process.communicate(timeout=SECONDS)
-    assert process.returncode == 0 and held[-1] <= 1.05 * held[99], (held[99], held[-1])
+    first, half, last = held[99], held[QUESTIONS // 2], held[-1]
+    assert process.returncode == 0 and last <= 1.05 * half and last <= first + 512, (first, half, last)
