@@ -1,5 +1,5 @@
 """Small files that would fill the memory or the disk: each ends in one line, within 2 GB of addresses, 1 GB of memory,
-and files of 100 MB.
+and files of 150 MB.
 """
 
 import os
@@ -18,7 +18,7 @@ from test_opening import FEED
 
 MOST = 2_000_000_000  # bytes of addresses, as by `ulimit -v`
 MOST_TAKEN = 1_000_000_000  # of memory that is taken
-MOST_WRITTEN = 100_000_000  # and of a file, also of one that is unpacked
+MOST_WRITTEN = 150_000_000  # and of a file, also of one that is unpacked
 Bomb = Callable[[Path], "tuple[list[str], str]"]  # the command, and what its line says
 
 
